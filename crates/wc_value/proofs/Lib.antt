@@ -1,0 +1,16 @@
+pub mod Entries
+pub mod Utf8
+pub mod Spelled
+pub mod Puts
+pub mod Depths
+pub mod Lengths
+pub mod Trees
+pub mod Keys
+pub mod Respelled
+pub mod Requested
+pub mod Readings
+pub mod Places
+pub mod Chains
+pub mod Spelt
+pub mod Readback
+pub mod Variants

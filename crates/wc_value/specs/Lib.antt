@@ -1,0 +1,9 @@
+pub mod formers
+pub mod Ascending
+pub mod Entries
+pub mod Spelling
+pub mod Spells
+pub mod Kinds
+pub mod Requests
+pub mod Refusals
+pub mod Reading

@@ -1,0 +1,11 @@
+-- Why a list of rows is no table.
+use Rattle.std.specs.Prelude.{List}
+use Rattle.wc_value.specs.declared.process.Request.{Request}
+use Rattle.wc_value.specs.declared.process.JobResult.{JobResult}
+use Rattle.wc_value.specs.declared.table.TableError.{TableError}
+use Rattle.wc_value.specs.declared.table.TableError.TheVariants.{OutOfMemory, Twice}
+use Rattle.wc_value.specs.Requests.{RepeatsFirst}
+
+abbrev pub IsRefused : List (Request × JobResult) → TableError → Type 0
+IsRefused rows OutOfMemory = Unit {0}
+IsRefused rows (Twice i) = RepeatsFirst rows i

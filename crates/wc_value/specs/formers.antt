@@ -1,0 +1,3 @@
+pub mod list
+pub mod keyed
+pub mod boxed

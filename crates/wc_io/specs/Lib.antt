@@ -1,0 +1,4 @@
+pub mod Counts
+pub mod Schedule
+pub mod Forms
+pub mod Memory

@@ -1,0 +1,33 @@
+//! A clock that can wait.
+ghost use Rattle.std.specs.Prelude.{◌≡◌, ℕ};
+ghost use Rattle.wc_io.specs.Counts.{RisesByOne};
+
+/// A clock that can wait. It has no error.
+pub trait Pacer {
+    /// The last moment told, 0 before the first.
+    ghost last: { Self → ℕ };
+
+    /// How many moments were told.
+    ghost told: { Self → ℕ };
+
+    /// How many rests were taken.
+    ghost rests: { Self → ℕ };
+
+    /// A moment that was told. Of this relation nothing else is known.
+    ghost said: { Self → ℕ → Type 0 };
+
+    /// The moment now, in milliseconds.
+    fn now(&mut self) -> u64
+        ensures last { last self.new ≡ result }
+        ensures told { RisesByOne (told self.old) (told self.new) }
+        ensures rests { rests self.new ≡ rests self.old }
+        ensures said { said self.new result }
+        ensures keeps { (moment : ℕ) → said self.old moment → said self.new moment };
+
+    /// Waits for so many milliseconds.
+    fn rest(&mut self, ms: u64)
+        ensures last { last self.new ≡ last self.old }
+        ensures told { told self.new ≡ told self.old }
+        ensures rests { RisesByOne (rests self.old) (rests self.new) }
+        ensures keeps { (moment : ℕ) → said self.old moment → said self.new moment };
+}

@@ -1,0 +1,55 @@
+//! Files by name.
+ghost use Rattle.std.specs.Prelude.{◌≡◌, ℕ, List, Option, IfOk, IfSome};
+ghost use Rattle.wc_io.specs.Counts.{CountsReadFault};
+
+use std::alloc::{AllocError, AllocFailed, Global};
+use thiserror::Error;
+use wc_value::{Bytes, Text};
+
+/// Why a file was not read.
+#[derive(Debug, Drop, Error)]
+pub enum ShelfError {
+    /// The shelf failed.
+    #[error("the file can't be read")]
+    Failed,
+    /// Memory ran out.
+    #[error("out of memory")]
+    OutOfMemory,
+}
+
+impl From<AllocError> for ShelfError {
+    ghost use Rattle.std.specs.Prelude.{◌≡◌};
+    ghost use Rattle.wc_io.specs.declared.shelf.ShelfError.TheVariants.{OutOfMemory};
+
+    ghost from_gives = { λ _ e. e ≡ OutOfMemory };
+
+    fn from(_error: AllocError) -> ShelfError {
+        ShelfError::OutOfMemory
+    }
+}
+
+impl<T: Drop> From<AllocFailed<T>> for ShelfError {
+    ghost use Rattle.std.specs.Prelude.{◌≡◌};
+    ghost use Rattle.wc_io.specs.declared.shelf.ShelfError.TheVariants.{OutOfMemory};
+
+    ghost from_gives = { λ _ e. e ≡ OutOfMemory };
+
+    fn from(_error: AllocFailed<T>) -> ShelfError {
+        ShelfError::OutOfMemory
+    }
+}
+
+/// Files by name, which no call changes.
+pub trait Shelf {
+    /// The content of each name, none where the name isn't there. Untold where the shelf doesn't tell.
+    ghost contents: { Self → Option (List ℕ → Option (List ℕ)) };
+
+    /// How often a read has failed.
+    ghost faults: { Self → ℕ };
+
+    /// The content of a file, or none where the name isn't there.
+    fn read(&mut self, alloc: Global, name: &Text) -> Result<Option<Bytes>, ShelfError>
+        ensures content { IfOk result (λ answer. IfSome (contents self.old) (λ content. answer ≡ content name.now)) }
+        ensures kept { contents self.new ≡ contents self.old }
+        ensures cause { CountsReadFault result (faults self.old) (faults self.new) };
+}

@@ -1,0 +1,5 @@
+mod Outcomes
+mod Times
+mod Draws
+mod Replaying
+pub mod Runs

@@ -1,0 +1,229 @@
+//! A file of the system as a disk. What a real file does is trusted: this disk tells nothing of its bytes.
+ghost use Rattle.std.specs.Prelude.{◌≡◌, false};
+ghost use Rattle.wc_io.specs.Counts.{CountsFault};
+
+use crate::disk::Disk;
+use std::fs::{File, OpenOptions};
+use std::os::unix::fs::FileExt;
+use std::path::Path;
+use std::rt::Files;
+use std::{fs, io};
+use wc_io::Failed;
+use wc_value::Text;
+
+/// A file of the system, opened once and locked from then on. It is made, with its folder, at the first write, unless
+/// that is out of bounds. A missing file has length 0, and a sync of it does nothing. A lock that is refused counts as
+/// a fault. The opening brings the file's name to the disk, and the name of a folder that was made: of several missing
+/// folders, that of the last one alone.
+#[derive(Drop)]
+pub struct FileDisk<R: Drop> {
+    rt: R,
+    path: Text,
+    file: Option<File>,
+    faults: u64,
+}
+
+impl<R: Files<File = File> + Drop> FileDisk<R> {
+    /// The file at this path. No call of the system is made yet.
+    pub fn new(rt: R, path: Text) -> FileDisk<R>
+        ensures untold { ⟦<FileDisk<R> as Disk>⟧.tells result ≡ false }
+        ensures faults { result.faults ≡ 0 }
+    {
+        FileDisk {
+            rt,
+            path,
+            file: None,
+            faults: 0,
+        }
+    }
+}
+
+/// Counts a call of the system that failed.
+fn count_fault<T: Drop>(outcome: io::Result<T>, faults: &mut u64) -> Result<T, Failed>
+    ensures { CountsFault result faults.old faults.new }
+{
+    match outcome {
+        Ok(answer) => Ok(answer),
+        Err(_) => {
+            *faults = faults.saturating_add(1);
+            Err(Failed)
+        }
+    }
+}
+
+/// The fault of a call outside the file's bounds.
+fn out_of_bounds() -> io::Error {
+    io::Error::from(io::ErrorKind::InvalidInput)
+}
+
+/// Locks a file that was just opened, without waiting for a lock that another program holds.
+fn locked(file: File) -> io::Result<File> {
+    file.try_lock()?;
+    Ok(file)
+}
+
+/// The folder that the path lies in.
+fn folder_of(path: &str) -> &str {
+    match Path::new(path).parent() {
+        Some(parent) if !parent.as_str().is_empty() => parent.as_str(),
+        _ => ".",
+    }
+}
+
+/// Brings the names in a folder to the disk.
+fn sync_names<R: Files<File = File>>(rt: &R, folder: &str) -> io::Result<()> {
+    fs::open(rt, folder)?.sync_all()
+}
+
+/// Makes a folder where it isn't there, and brings its name to the disk, or takes it away again.
+fn make_folder<R: Files<File = File>>(rt: &R, folder: &str) -> io::Result<()> {
+    if fs::exists(rt, folder)? {
+        return Ok(());
+    }
+    fs::create_dir_all(rt, folder)?;
+    let synced = sync_names(rt, folder_of(folder));
+    if synced.is_err() {
+        let _ = fs::remove_dir(rt, folder);
+    }
+    synced
+}
+
+/// The file, whose name is on the disk from then on, or none where it isn't there.
+fn open_existing<R: Files<File = File>>(rt: &R, path: &str) -> io::Result<Option<File>> {
+    match OpenOptions::new().read(true).write(true).open(rt, path) {
+        Ok(file) => {
+            let file = locked(file)?;
+            sync_names(rt, folder_of(path))?;
+            Ok(Some(file))
+        }
+        Err(error) if error.kind() == io::ErrorKind::NotFound => Ok(None),
+        Err(error) => Err(error),
+    }
+}
+
+/// Makes the file, and its folder, for a first write at this offset, and brings the file's name to the disk.
+fn make<R: Files<File = File>>(rt: &R, path: &str, at: u64) -> io::Result<File> {
+    if at > 0 {
+        return Err(out_of_bounds());
+    }
+    make_folder(rt, folder_of(path))?;
+    let file = OpenOptions::new()
+        .read(true)
+        .write(true)
+        .create(true)
+        .open(rt, path)?;
+    let file = locked(file)?;
+    sync_names(rt, folder_of(path))?;
+    Ok(file)
+}
+
+/// Opens the file, where it is there and isn't open yet.
+fn open_once<R: Files<File = File>>(
+    rt: &R,
+    path: &Text,
+    file: &mut Option<File>,
+) -> io::Result<()> {
+    if file.is_none() {
+        *file = open_existing(rt, path.as_str())?;
+    }
+    Ok(())
+}
+
+fn length(file: &Option<File>) -> io::Result<u64> {
+    match file {
+        None => Ok(0),
+        Some(file) => Ok(file.metadata()?.len()),
+    }
+}
+
+fn read_at(file: &Option<File>, at: u64, into: &mut [u8]) -> io::Result<()> {
+    match file {
+        None if at == 0 && into.is_empty() => Ok(()),
+        None => Err(out_of_bounds()),
+        Some(file) => file.read_exact_at(into, at),
+    }
+}
+
+fn write_inside(file: &File, at: u64, bytes: &[u8]) -> io::Result<()> {
+    if at > file.metadata()?.len() {
+        return Err(out_of_bounds());
+    }
+    file.write_all_at(bytes, at)
+}
+
+fn cut_to(file: &Option<File>, len: u64) -> io::Result<()> {
+    if len > length(file)? {
+        return Err(out_of_bounds());
+    }
+    match file {
+        None => Ok(()),
+        Some(file) => file.set_len(len),
+    }
+}
+
+fn sync_all(file: &Option<File>) -> io::Result<()> {
+    match file {
+        None => Ok(()),
+        Some(file) => file.sync_data(),
+    }
+}
+
+impl<R: Files<File = File> + Drop> Disk for FileDisk<R> {
+    ghost use Rattle.std.specs.Prelude.{false, []};
+    ghost use Rattle.std.proofs.lemmas.Bool.{false≢true};
+
+    ghost tells = { λ _. false };
+
+    ghost seen = { λ _. [] };
+
+    ghost may_leave = { λ _ _. ⊥ };
+
+    ghost moment = { λ _. 0 };
+
+    ghost left_since = { λ _ _ _. ⊥ };
+
+    ghost faults = { λ d. d.faults };
+
+    ghost reads_as = { λ d told. absurd (false≢true told) };
+
+    ghost counts_now = { λ d t image le left. left };
+
+    ghost only_now = { λ d image left. left };
+
+    fn len(&mut self) -> Result<u64, Failed> {
+        let outcome = open_once(&self.rt, &self.path, &mut self.file);
+        count_fault(outcome, &mut self.faults)?;
+        count_fault(length(&self.file), &mut self.faults)
+    }
+
+    fn read(&mut self, at: u64, into: &mut [u8]) -> Result<(), Failed> {
+        let outcome = open_once(&self.rt, &self.path, &mut self.file);
+        count_fault(outcome, &mut self.faults)?;
+        count_fault(read_at(&self.file, at, into), &mut self.faults)
+    }
+
+    fn write_at(&mut self, at: u64, bytes: &[u8]) -> Result<(), Failed> {
+        let outcome = open_once(&self.rt, &self.path, &mut self.file);
+        count_fault(outcome, &mut self.faults)?;
+        if self.file.is_none() {
+            let made = make(&self.rt, self.path.as_str(), at);
+            self.file = Some(count_fault(made, &mut self.faults)?);
+        }
+        match &self.file {
+            None => Ok(()),
+            Some(file) => count_fault(write_inside(file, at, bytes), &mut self.faults),
+        }
+    }
+
+    fn cut(&mut self, len: u64) -> Result<(), Failed> {
+        let outcome = open_once(&self.rt, &self.path, &mut self.file);
+        count_fault(outcome, &mut self.faults)?;
+        count_fault(cut_to(&self.file, len), &mut self.faults)
+    }
+
+    fn sync(&mut self) -> Result<(), Failed> {
+        let outcome = open_once(&self.rt, &self.path, &mut self.file);
+        count_fault(outcome, &mut self.faults)?;
+        count_fault(sync_all(&self.file), &mut self.faults)
+    }
+}

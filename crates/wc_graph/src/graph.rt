@@ -1,0 +1,135 @@
+ghost use Rattle.std.specs.Prelude.{◌≡◌, ℕ, [], ◌∷◌, ◌++◌, ◌+◌, ◌<◌, ◌≤◌, ◌↔◌, ◌⊎◌, length, IfOk, OnOk, OnErr, IsOk, IsErrOf};
+ghost use Rattle.wc_graph.specs.Rules.{IsLinkCorrect};
+ghost use Rattle.wc_graph.specs.Refusals.{IsAllowed, Refuses, RefusesExactly};
+
+use crate::error::GraphError;
+use crate::link::Link;
+use crate::node::NodeKind;
+use crate::rules;
+use std::alloc::{AllocError, Global};
+use std::marker::Model;
+use wc_value::Roomy;
+
+/// The most nodes that a graph may have.
+pub const MOST_NODES: usize = 8_000_000;
+
+/// The nodes, of which the first has the number 1.
+pub type Nodes = Roomy<NodeKind>;
+
+/// The links, in the order in which they were added.
+pub type Links = Roomy<Link>;
+
+/// A provenance graph. It can only grow, and always meets the rules of links.
+#[derive(Drop)]
+pub struct Graph {
+    nodes: Nodes,
+    links: Links,
+}
+
+impl Model for Graph {
+    ghost use Rattle.std.specs.Prelude.{◌≤◌, length};
+    ghost use Rattle.wc_graph.specs.Rules.{IsLinkCorrect};
+    ghost use Rattle.wc_graph.specs.Provenance.{Provenance};
+
+    ghost Value = { Provenance };
+
+    ghost use Rattle.wc_value.specs.contracts.value.Value as value;
+    ghost use Rattle.std.specs.Coded.{codes};
+
+    ghost coded = { Prim.hlevel (codes, value.the_row.coded) };
+
+    ghost view = { λ a. record { nodes = a.nodes.0; links = a.links.0; node_room = a.nodes.1; link_room = a.links.1 } };
+
+    ghost invariant = { λ a. IsLinkCorrect a.nodes.0 a.links.0 × (length a.nodes.0 ≤ 8000000) };
+}
+
+impl Graph {
+    /// A graph with no nodes, which takes no memory.
+    pub fn new(alloc: Global) -> Graph
+        ensures nodes { result.nodes ≡ [] }
+        ensures links { result.links ≡ [] }
+    {
+        Graph {
+            nodes: Nodes::new(alloc),
+            links: Links::new(alloc),
+        }
+    }
+
+    /// The nodes.
+    pub fn nodes(&self) -> &Nodes
+        ensures value { result.now ≡ (self.now.nodes, self.now.node_room) }
+        ensures bound { length self.now.nodes ≤ MOST_NODES }
+    {
+        &self.nodes
+    }
+
+    /// The links.
+    pub fn links(&self) -> &Links
+        ensures value { result.now ≡ (self.now.links, self.now.link_room) }
+        ensures correct { IsLinkCorrect self.now.nodes self.now.links }
+    {
+        &self.links
+    }
+
+    /// Makes room for so many further nodes and links.
+    pub fn reserve(&mut self, nodes: u32, links: u32) -> Result<(), AllocError>
+        ensures nodes { self.new.nodes ≡ self.old.nodes }
+        ensures links { self.new.links ≡ self.old.links }
+        ensures room { OnOk result ((nodes ≤ self.new.node_room) × (links ≤ self.new.link_room)) }
+        ensures kept { (self.old.node_room ≤ self.new.node_room) × (self.old.link_room ≤ self.new.link_room) }
+    {
+        self.nodes.reserve(nodes as usize)?;
+        self.links.reserve(links as usize)
+    }
+
+    /// Puts a node at the end, and gives its number.
+    pub fn add_node(&mut self, kind: NodeKind) -> Result<u32, GraphError>
+        ensures added { OnOk result (self.new.nodes ≡ self.old.nodes ++ kind ∷ []) }
+        ensures number { IfOk result (λ id. id ≡ length self.new.nodes) }
+        ensures others { (self.new.links ≡ self.old.links) × (self.new.link_room ≡ self.old.link_room) }
+        ensures correct { IsLinkCorrect self.new.nodes self.new.links }
+
+        ensures full { IsErrOf result GraphError.Full ↔ (length self.old.nodes ≡ MOST_NODES) }
+        ensures only { OnErr result (IsErrOf result GraphError.Full ⊎ IsErrOf result GraphError.OutOfMemory) }
+        ensures err { OnErr result (self.new ≡ self.old) }
+
+        // A node takes at most one place of the room, and with room left it takes no memory.
+        ensures room { self.old.node_room ≤ self.new.node_room + 1 }
+        ensures takes { 0 < self.old.node_room → ¬ IsErrOf result GraphError.OutOfMemory }
+    {
+        let count = self.nodes.len();
+        if count >= MOST_NODES {
+            return Err(GraphError::Full);
+        }
+        self.nodes.push(kind)?;
+        Ok(count as u32 + 1)
+    }
+
+    /// Whether `add_link` takes the link, as far as the rules go.
+    fn check_link(&self, link: &Link) -> Result<(), GraphError>
+        ensures ok { OnOk result (IsAllowed self.now.nodes self.now.links link.now) }
+        ensures refusals { RefusesExactly result (Refuses self.now.nodes self.now.links link.now) }
+        ensures memory { ¬ IsErrOf result GraphError.OutOfMemory }
+    {
+        rules::allow(self.nodes.as_slice(), self.links.as_slice(), link)
+    }
+
+    /// Puts a link at the end.
+    pub fn add_link(&mut self, link: Link) -> Result<(), GraphError>
+        ensures added { OnOk result (self.new.links ≡ self.old.links ++ link ∷ []) }
+        ensures others { (self.new.nodes ≡ self.old.nodes) × (self.new.node_room ≡ self.old.node_room) }
+        ensures correct { IsLinkCorrect self.new.nodes self.new.links }
+
+        // Each refusal comes exactly where its rule is the first that is broken.
+        ensures refusals { RefusesExactly result (Refuses self.old.nodes self.old.links link) }
+        ensures err { OnErr result (self.new ≡ self.old) }
+
+        // A link takes at most one place of the room, and with room left it takes no memory.
+        ensures room { self.old.link_room ≤ self.new.link_room + 1 }
+        ensures takes { 0 < self.old.link_room → ¬ IsErrOf result GraphError.OutOfMemory }
+    {
+        self.check_link(&link)?;
+        self.links.push(link)?;
+        Ok(())
+    }
+}

@@ -1,0 +1,11 @@
+pub mod Walking
+pub mod Flooding
+pub mod Restoring
+pub mod Reaching
+pub mod Nearing
+pub mod Exactly
+pub mod Linked
+pub mod Settling
+pub mod Counting
+pub mod Ready
+pub mod Placing

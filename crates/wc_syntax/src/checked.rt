@@ -1,0 +1,48 @@
+ghost use Rattle.std.specs.Prelude.{◌≡◌};
+ghost use Rattle.wc_syntax.specs.Bare.{bare_library};
+ghost use Rattle.wc_syntax.specs.Checked.{IsChecked};
+
+use crate::definition::Library;
+use std::marker::Model;
+
+/// A library that meets the rules of a checked library. Contracts see it as its bare form.
+#[derive(Drop)]
+pub struct Checked {
+    library: Library,
+}
+
+impl Model for Checked {
+    ghost use Rattle.std.specs.Prelude.{List};
+    ghost use Rattle.wc_syntax.specs.declared.definition.Definition.{Definition};
+    ghost use Rattle.wc_syntax.specs.Bare.{bare_library};
+    ghost use Rattle.wc_syntax.specs.Checked.{IsChecked};
+
+    ghost Value = { List Definition };
+
+    ghost use Rattle.std.specs.Coded.{coded_list};
+    ghost use Rattle.wc_syntax.specs.contracts.definition.Definition as row;
+
+    ghost coded = { coded_list row.the_row.coded };
+
+    ghost view = { λ c. bare_library c.library };
+
+    ghost invariant = { λ c. IsChecked c.library };
+}
+
+impl Checked {
+    /// A library that is known to be checked.
+    pub fn of(library: Library) -> Checked
+        requires { IsChecked library }
+        ensures { result ≡ bare_library library }
+    {
+        Checked { library }
+    }
+
+    /// The library, with its offsets.
+    pub fn library(&self) -> &Library
+        ensures same { bare_library result.now ≡ self.now }
+        ensures checked { IsChecked result.now }
+    {
+        &self.library
+    }
+}

@@ -1,0 +1,9 @@
+pub mod Contents
+pub mod Cutting
+pub mod Joins
+pub mod Longest
+pub mod Numbers
+pub mod Pieces
+pub mod Places
+pub mod Signs
+pub mod Utf8

@@ -1,0 +1,4 @@
+pub mod Cuts
+pub mod Runs
+pub mod Spellings
+pub mod Tokens

@@ -1,0 +1,5 @@
+pub mod Checks
+pub mod Exact
+pub mod Forms
+pub mod Laws
+pub mod Turns

@@ -1,0 +1,5 @@
+pub mod Allowed
+pub mod Numbered
+pub mod Numbers
+pub mod Least
+pub mod Bare

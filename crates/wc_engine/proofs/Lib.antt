@@ -1,0 +1,3 @@
+pub mod Goods
+pub mod Bares
+pub mod Once

@@ -1,0 +1,12 @@
+use Rattle.std.proofs.Common.{◌≡◌, ◌∙◌, ap, sym, None}
+use Rattle.wc_meaning.specs.Inputs.{least_after}
+use Rattle.wc_meaning.proofs.Least.{least_after_append}
+use Rattle.wc_engine.specs.Given.{unread, ill_given}
+use Rattle.wc_engine.proofs.given.find_bad_given.Goals as goal
+
+pub returns : goal.returns
+returns c =
+    let ports = c.args.ports.now in
+    let given = c.args.given.now in
+    c.least_ill_given.ensures ∙ ap (λ b. least_after b (ill_given ports given)) c.in_ok-unread.ensures
+    ∙ sym (least_after_append None (unread ports given) (ill_given ports given))

@@ -1,0 +1,45 @@
+ghost use Rattle.std.specs.Prelude.{◌≡◌};
+ghost use Rattle.wc_engine.specs.Owed.{code_of};
+
+use wc_value::Text;
+
+/// Why a command was refused.
+#[derive(Debug, Drop)]
+pub enum Cause {
+    /// The words are no command.
+    Words,
+    /// The file isn't there, isn't of the first form, or doesn't define the name.
+    FirstForm,
+    /// The least port that is given badly.
+    BadInput(Text),
+}
+
+/// How a call of the program ended.
+#[derive(Debug, Drop)]
+pub enum Status {
+    /// The work was done, and its text was written whole.
+    Ok,
+    /// The command was refused.
+    Refused(Cause),
+    /// Memory ran out.
+    OutOfMemory,
+    /// A file can't be read.
+    ReadFault,
+    /// The text can't be written.
+    WriteFault,
+}
+
+impl Status {
+    /// The exit status of the program.
+    pub fn code(&self) -> u8
+        ensures { result ≡ code_of self.now }
+    {
+        match self {
+            Status::Ok => 0,
+            Status::Refused(_) => 1,
+            Status::OutOfMemory => 2,
+            Status::ReadFault => 7,
+            Status::WriteFault => 8,
+        }
+    }
+}

@@ -1,0 +1,30 @@
+//! The program: its words, files and standard output are handed to `serve`, whose status is the program's.
+#![tactic(auto)]
+
+use std::process::ExitCode;
+use std::{env, io};
+use wc_engine::{Status, serve};
+use wc_io::{FileShelf, StdoutSink};
+use wc_value::{List, Text, Words};
+
+/// The words of the command line, without the program's name.
+fn words_of(rt: &HostRuntime) -> io::Result<Words> {
+    let mut words: Words = List::new(rt.alloc());
+    for word in env::args(rt)?.skip(1) {
+        words.push(Text::of_string(word)?)?;
+    }
+    Ok(words)
+}
+
+fn main(rt: HostRuntime) -> ExitCode {
+    let words = match words_of(&rt) {
+        Ok(words) => words,
+        // Words that aren't text are no command, as no words at all.
+        Err(error) if error.kind() == io::ErrorKind::InvalidData => List::new(rt.alloc()),
+        Err(_) => return ExitCode::from(Status::OutOfMemory.code()),
+    };
+    let mut shelf = FileShelf::new(rt);
+    let mut sink = StdoutSink::new(rt);
+    let status = serve(rt.alloc(), &words, &mut shelf, &mut sink);
+    ExitCode::from(status.code())
+}

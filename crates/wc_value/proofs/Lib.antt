@@ -4,11 +4,15 @@ pub mod Spelled
 pub mod Puts
 pub mod Depths
 pub mod Lengths
+pub mod Told
+pub mod Searches
 pub mod Trees
 pub mod Keys
 pub mod Respelled
 pub mod Requested
 pub mod Readings
+pub mod Stays
+pub mod Settles
 pub mod Places
 pub mod Chains
 pub mod Spelt

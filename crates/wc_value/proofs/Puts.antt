@@ -1,5 +1,5 @@
 -- A name's value set among entries in order.
-use Rattle.std.proofs.Common.{◌≡◌, ℕ, zero, suc, List, [], ◌∷◌, Bool, true, false, if◌then◌else◌, refl, sym, ap, subst, ◌∙◌}
+use Rattle.std.proofs.Common.{◌≡◌, ℕ, suc, List, [], ◌∷◌, Bool, true, false, if◌then◌else◌, refl, sym, ap, subst, ◌∙◌}
 use Rattle.std.proofs.lemmas.Cmp.{nat_list_cmp_total}
 use Rattle.std.proofs.lemmas.Slice.Eq.{bytes_eq-Decides}
 use Rattle.std.proofs.lemmas.Map.Text.{is_eq-slice_cmp}
@@ -43,10 +43,10 @@ put_inserts name v [] h = refl
 put_inserts name v (e ∷ es) h = inserts_at name v e es (place name es) (before e.0 name) (put_inserts name v es) h
 
 -- ---- in order
-same_name : (a b : List ℕ) → bytes_eq a b ≡ true → a ≡ b
+pub same_name : (a b : List ℕ) → bytes_eq a b ≡ true → a ≡ b
 same_name a b h = (bytes_eq-Decides a b).0 h
 
-is_less : (o : Ordering) → is_lt o ≡ true → o ≡ Less
+pub is_less : (o : Ordering) → is_lt o ≡ true → o ≡ Less
 is_less Less h = refl
 is_less Equal h = absurd (cc)
 is_less Greater h = absurd (cc)
@@ -57,7 +57,7 @@ other_way Less p q = absurd (cc)
 other_way Equal p q = absurd (cc)
 other_way Greater p q = refl
 
-comes_after : (a b : List ℕ) → before a b ≡ false → bytes_eq a b ≡ false → slice_cmp nat_cmp b a ≡ Less
+pub comes_after : (a b : List ℕ) → before a b ≡ false → bytes_eq a b ≡ false → slice_cmp nat_cmp b a ≡ Less
 comes_after a b p q = nat_list_cmp_total.antisymm b a ∙ other_way (slice_cmp nat_cmp a b) p (is_eq-slice_cmp a b ∙ q)
 
 all_put : {T : Type 0} (P : List ℕ → Type 0) (name : List ℕ) (v : T) (es : List (List ℕ × T)) → AllByRecursion P (keys_of es) → P name
@@ -70,7 +70,7 @@ all_put {T} P name v (e ∷ es) a p = all_at (before e.0 name) (bytes_eq e.0 nam
     all_at false true rest = (p, a.1)
     all_at false false rest = (p, a)
 
-all_after : {T : Type 0} (a b : List ℕ) (es : List (List ℕ × T)) → slice_cmp nat_cmp a b ≡ Less
+pub all_after : {T : Type 0} (a b : List ℕ) (es : List (List ℕ × T)) → slice_cmp nat_cmp a b ≡ Less
     → AllByRecursion (λ k. slice_cmp nat_cmp b k ≡ Less) (keys_of es) → AllByRecursion (λ k. slice_cmp nat_cmp a k ≡ Less) (keys_of es)
 all_after a b [] h p = tt
 all_after a b (e ∷ es) h p = (nat_list_cmp_total.trans a b e.0 h p.0, all_after a b es h p.1)

@@ -1,6 +1,6 @@
 -- Reading gives a value exactly where its spelling stands.
-use Rattle.std.proofs.Common.{◌≡◌, ℕ, zero, suc, ◌+◌, ◌^◌, ◌<◌, ◌≤◌, max, ℤ, Bool, true, false, cond, ltb, eqb, lit<, List, [], ◌∷◌, ◌++◌, length, map, take, drop, append-nil, drop_of_length-le, Result, Ok, Err, refl, sym, ap, subst, ◌∙◌, arith}
-use Rattle.std.specs.Prelude.{FitsSigned, IfOk, if◌then◌else◌}
+use Rattle.std.proofs.Common.{◌≡◌, ℕ, zero, suc, ◌+◌, ◌<◌, ◌≤◌, max, Bool, true, false, cond, ltb, eqb, lit<, List, [], ◌∷◌, ◌++◌, length, map, take, append-nil, drop_of_length-le, Result, Ok, Err, refl, sym, ap, subst, ◌∙◌, arith}
+use Rattle.std.specs.Prelude.{IfOk, if◌then◌else◌}
 use Rattle.std.specs.Int.{w32, w64, to_be_bytes, cast_unsigned}
 use Rattle.std.proofs.lemmas.Bool.{ltb-false, le-ltb, ne_eqb}
 use Rattle.std.proofs.lemmas.List.{take_at, drop_at, length-append}
@@ -11,12 +11,12 @@ use Rattle.wc_value.specs.declared.value.Value.TheVariants as value
 use Rattle.wc_value.specs.declared.refusal.ValueError.{ValueError}
 use Rattle.wc_value.specs.declared.refusal.ValueError.TheVariants.{BadTag, Trailing}
 use Rattle.wc_value.specs.Spelling.{text, depth, deepest}
-use Rattle.wc_value.specs.Spells.{Spells, int, bool, text_of, list, dict, folder, IsText}
+use Rattle.wc_value.specs.Spells.{Spells, int, bool, text_of, list, dict, folder}
 use Rattle.wc_value.specs.Reading.{◌>>=◌, counted, content_at, text_at, entry_at, i64_at, int_at, byte_at, truth, bool_at, text_value_at, list_at, as_list, dict_at, as_dict, folder_at, as_folder, behind, too_deep, value_at, ended, whole, Answers}
 use Rattle.wc_value.proofs.Depths.{depth_int, depth_bool, depth_text, depth_list, depth_dict, depth_folder, depth_of, depth_at_least}
 use Rattle.wc_value.proofs.Places.{IsBytes, Covers, covers_join, covers_first, covers_second, bind_ok, guard_ok, ok_is, byte_again, byte_take, i64_again, i64_take, content_again, content_take, text_again, text_take}
-use Rattle.wc_value.proofs.Chains.{ReadsAgain, ReadsAllowed, counted_again, Counted, counted_take}
-use Rattle.wc_value.proofs.Spelt.{IsItem, IsEntry, IsField, IsContent, IsFile, entry_again, entry_take, all_chain, chain_all, pairs_chain, chain_pairs, files_chain, chain_files}
+use Rattle.wc_value.proofs.Chains.{ReadsAgain, ReadsAllowed, counted_again, counted_take}
+use Rattle.wc_value.proofs.Spelt.{IsItem, IsField, IsContent, IsFile, entry_again, entry_take, all_chain, chain_all, pairs_chain, chain_pairs, files_chain, chain_files}
 
 -- a value of at most so many levels, with its spelling
 abbrev pub IsSpelledWithin : ℕ → Value → List ℕ → Type 0

@@ -1,9 +1,7 @@
 -- Readings at numbers that are not written as successors.
-use Rattle.std.proofs.Common.{◌≡◌, ℕ, zero, suc, ◌+◌, ◌-◌, ◌<◌, List, [], ◌∷◌, ◌++◌, Result, Ok, Err, refl, sym, ap, ◌∙◌, arith, subst}
-use Rattle.wc_value.specs.declared.value.Value.{Value}
+use Rattle.std.proofs.Common.{◌≡◌, ℕ, suc, ◌+◌, ◌-◌, ◌<◌, List, [], ◌∷◌, ◌++◌, Result, ap, arith}
 use Rattle.wc_value.specs.declared.refusal.ValueError.{ValueError}
-use Rattle.wc_value.specs.declared.refusal.ValueError.TheVariants.{Truncated}
-use Rattle.wc_value.specs.Reading.{◌>>=◌, Fails, Answers, byte_at, behind, value_at, several}
+use Rattle.wc_value.specs.Reading.{◌>>=◌, byte_at, behind, value_at, several}
 
 pub value_at_below : (levels : ℕ) (bytes : List ℕ) (at : ℕ) → 0 < levels
     → value_at levels bytes at ≡ (byte_at bytes at >>= behind (value_at (levels - 1) bytes) bytes at)

@@ -1,21 +1,17 @@
 -- What is spelled is read, and what is read is spelled.
-use Rattle.std.proofs.Common.{◌≡◌, ℕ, zero, suc, ◌+◌, ◌-◌, ◌^◌, ◌<◌, ◌≤◌, max, ℤ, Bool, true, false, cond, List, [], ◌∷◌, ◌++◌, length, map, take, drop, Result, Ok, Err, refl, sym, ap, subst, ◌∙◌, append_assoc, append-nil, arith}
-use Rattle.std.specs.Prelude.{FitsSigned, nat_eq, if◌then◌else◌}
-use Rattle.std.specs.Int.{w32, w64, to_be_bytes, cast_unsigned}
+use Rattle.std.proofs.Common.{◌≡◌, ℕ, ◌+◌, ◌^◌, ◌<◌, ◌≤◌, Bool, true, cond, List, [], ◌∷◌, ◌++◌, length, map, Result, Ok, Err, refl, sym, ap, subst, ◌∙◌, append_assoc, append-nil, arith}
 use Rattle.std.proofs.Math.Seq.{take-append_seam}
 use Rattle.wc_value.specs.Ascending.{Ascends, goes_last}
 use Rattle.wc_value.specs.declared.value.Value.{Value}
-use Rattle.wc_value.specs.declared.value.Value.TheVariants as value
 use Rattle.wc_value.specs.declared.refusal.ValueError.{ValueError}
-use Rattle.wc_value.specs.declared.refusal.ValueError.TheVariants.{Unsorted, BadTag, TooDeep}
+use Rattle.wc_value.specs.declared.refusal.ValueError.TheVariants.{Unsorted}
 use Rattle.wc_value.specs.Spelling.{text, depth, deepest}
-use Rattle.wc_value.specs.Spells.{Spells, int, bool, text_of, list, dict, folder, SpellsAll, no_value, value_then, SpellsPairs, no_pair, pair_then, SpellsFiles, no_file, file_then, IsText}
-use Rattle.wc_value.specs.Reading.{◌>>=◌, several, counted, content_at, text_at, name_at, entry_at, i64_at, int_at, byte_at, truth, bool_at, text_value_at, list_at, as_list, dict_at, as_dict, folder_at, as_folder, behind, too_deep, value_at}
+use Rattle.wc_value.specs.Spells.{Spells, SpellsAll, no_value, value_then, SpellsPairs, no_pair, pair_then, SpellsFiles, no_file, file_then, IsText}
+use Rattle.wc_value.specs.Reading.{◌>>=◌, text_at, name_at, entry_at}
 use Rattle.wc_value.proofs.Entries.{ascends_take, ascends_push, last_goes}
-use Rattle.wc_value.proofs.Depths.{depth_list, depth_dict, depth_of, depth_at_least}
-use Rattle.wc_value.proofs.Readings.{value_at_below}
-use Rattle.wc_value.proofs.Places.{IsBytes, Covers, covers_join, covers_first, covers_second, bind_ok, pass_ok, ok_is, byte_again, byte_take, i64_again, i64_take, content_again, content_take, text_again, text_take}
-use Rattle.wc_value.proofs.Chains.{Chain, last, next_then, ReadsAgain, ReadsAllowed, counted_again, Counted, counted_take}
+use Rattle.wc_value.proofs.Depths.{depth_of}
+use Rattle.wc_value.proofs.Places.{IsBytes, Covers, covers_join, covers_first, covers_second, bind_ok, pass_ok, ok_is, text_again, text_take}
+use Rattle.wc_value.proofs.Chains.{Chain, last, next_then, ReadsAgain, ReadsAllowed}
 
 -- ---- what stands in a container
 -- a value of at most so many levels

@@ -42,3 +42,8 @@ place name (e ∷ es) = if before e.0 name then suc (place name es) else 0
 abbrev pub is_named : {T : Type 0} → List ℕ → Option (List ℕ × T) → Bool
 is_named name None = false
 is_named name (Some e) = bytes_eq e.0 name
+
+-- the value of the entry, if there is one and it has the name
+abbrev pub value_named : {T : Type 0} → List ℕ → Option (List ℕ × T) → Option T
+value_named name None = None
+value_named name (Some e) = if bytes_eq e.0 name then Some e.1 else None

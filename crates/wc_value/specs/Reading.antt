@@ -1,5 +1,5 @@
 -- Reading canonical bytes from the left: what stands at a place and the place after it, or the first refusal.
-use Rattle.std.specs.Prelude.{ℕ, zero, suc, ◌+◌, ◌-◌, Bool, true, false, nat_lt, nat_eq, ◌&&◌, ◌≡◌, if◌then◌else◌, List, [], ◌∷◌, ◌++◌, length, take, drop, slice_index, Result, Ok, Err, ℤ}
+use Rattle.std.specs.Prelude.{ℕ, zero, suc, ◌+◌, ◌-◌, true, false, nat_lt, nat_eq, ◌&&◌, ◌≡◌, if◌then◌else◌, List, [], ◌∷◌, ◌++◌, length, take, drop, slice_index, Result, Ok, Err, ℤ}
 use Rattle.std.specs.Str.{is_utf8}
 use Rattle.std.specs.Int.{w32, w64, from_be_bytes, cast_signed}
 use Rattle.wc_value.specs.Ascending.{goes_last}

@@ -1,6 +1,6 @@
 ghost use Rattle.std.specs.Prelude.{◌≡◌, [], ◌∷◌, ◌++◌, ◌<◌, ◌≤◌, ◌^◌, length, slice_get, true, OnOk, OnErr};
 ghost use Rattle.std.specs.Option.{option_copied};
-ghost use Rattle.wc_value.specs.Ascending.{Ascends, goes_last, lookup, put, place, is_named};
+ghost use Rattle.wc_value.specs.Ascending.{Ascends, goes_last, lookup, put, place, is_named, value_named};
 
 use crate::duplicate::Duplicate;
 use crate::list::MOST;
@@ -96,17 +96,23 @@ impl<T: Drop> Keyed<T> {
     }
 }
 
-/// How many entries stand before the name.
+/// How many entries stand before the name, by halving the entries in which it may belong.
 fn place_of<T>(entries: &[(Text, T)], name: &[u8]) -> usize
+    requires { Ascends entries.now }
     ensures place { result ≡ place name.now entries.now }
     ensures within { result ≤ length entries.now }
 {
-    for (at, (key, _)) in entries.iter().enumerate() {
-        if !key.bytes().cmp(&name).is_lt() {
-            return at;
+    let mut low = 0;
+    let mut high = entries.len();
+    while low < high {
+        let middle = low + (high - low) / 2;
+        if entries[middle].0.bytes().cmp(&name).is_lt() {
+            low = middle + 1;
+        } else {
+            high = middle;
         }
     }
-    entries.len()
+    low
 }
 
 /// Whether the entry at a place, if there is one, has the name.
@@ -116,6 +122,22 @@ fn has_name<T>(entries: &[(Text, T)], at: usize, name: &[u8]) -> bool
     match entries.get(at) {
         None => false,
         Some((key, _)) => key.bytes() == name,
+    }
+}
+
+/// The value of the entry at a place, if there is one and it has the name.
+fn value_named<'a, T>(entries: &'a [(Text, T)], at: usize, name: &[u8]) -> Option<&'a T>
+    ensures { option_copied result ≡ value_named name.now (slice_get entries.now at) }
+{
+    match entries.get(at) {
+        None => None,
+        Some((key, value)) => {
+            if key.bytes() == name {
+                Some(value)
+            } else {
+                None
+            }
+        }
     }
 }
 
@@ -153,11 +175,7 @@ impl<T> Keyed<T> {
     pub fn find(&self, name: &[u8]) -> Option<&T>
         ensures { option_copied result ≡ lookup name.now self.now }
     {
-        for (key, value) in self.items.iter() {
-            if key.bytes() == name {
-                return Some(value);
-            }
-        }
-        None
+        let entries = self.items.as_slice();
+        value_named(entries, place_of(entries, name), name)
     }
 }

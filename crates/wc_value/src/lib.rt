@@ -30,7 +30,7 @@ pub use equality::{
     same_tree, same_value, same_values, same_words,
 };
 pub use keyed::Keyed;
-pub use laws::{no_spelling_begins_another, one_request, one_spelling};
+pub use laws::{no_spelling_begins_another, one_request, one_spelling, refusals_come_first};
 pub use limits::{is_within, is_within_depth};
 pub use list::{Bytes, List};
 pub use process::{Branches, JobResult, ProcessState, Reason, Request, Tree};

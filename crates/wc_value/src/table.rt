@@ -1,14 +1,16 @@
-ghost use Rattle.std.specs.Prelude.{◌≡◌, ◌↔◌, IsTrue, IfOk, IfErr, MatchOption};
+ghost use Rattle.std.specs.Prelude.{◌≡◌, IfOk, IfErr, MatchOption};
 ghost use Rattle.std.specs.List.{Contains};
 ghost use Rattle.wc_value.specs.declared.table.TableError.TheVariants.{OutOfMemory};
 ghost use Rattle.wc_value.specs.Requests.{requests, IsDistinct};
 ghost use Rattle.wc_value.specs.Refusals.{IsRefused};
 
 use crate::duplicate::Duplicate;
+use crate::encoding::encode_request;
 use crate::equality::same_request;
 use crate::list::List;
 use crate::process::{JobResult, Request};
 use std::alloc::{AllocError, AllocFailed, Global};
+use std::collections::BTreeSet;
 use std::marker::Model;
 use thiserror::Error;
 
@@ -62,27 +64,17 @@ impl<T: Drop> From<AllocFailed<T>> for TableError {
     }
 }
 
-/// Whether a request is that of one of the rows.
-fn is_among(request: &Request, rows: &[(Request, JobResult)]) -> bool
-    ensures { IsTrue result ↔ Contains (requests rows.now) request.now }
-{
-    for (earlier, _result) in rows {
-        if same_request(earlier, request) {
-            return true;
-        }
-    }
-    false
-}
-
 impl Table {
-    /// The table of these rows.
+    /// The table of these rows. It compares canonical bytes in a set of them, which is freed at the end.
     pub fn new(alloc: Global, rows: Rows) -> Result<Table, TableError>
         ensures ok { IfOk result (λ table. (table ≡ rows) × IsDistinct (requests rows)) }
         ensures err { IfErr result (λ e. IsRefused rows e) }
     {
         let items = rows.as_slice();
+        let mut earlier = BTreeSet::new(alloc);
         for at in 0..items.len() {
-            if is_among(&items[at].0, &items[..at]) {
+            let spelled = encode_request(alloc, &items[at].0)?.into_vec();
+            if !earlier.insert(spelled)? {
                 return Err(TableError::Twice(at));
             }
         }

@@ -173,6 +173,18 @@ fn fields_ascend(rt: HostRuntime) -> Result<(), Fail> {
     assert!(rt; fields.get(1).is_none());
     assert!(rt; fields.emptied().as_slice().is_empty());
     assert!(rt; same_fields(&copied(&fields)?, &fields));
+    let mut both = keyed(alloc, "k", Value::Int(1))?;
+    both.set(text(alloc, "a")?, Value::Int(2))?;
+    both.set(text(alloc, "k")?, Value::Int(3))?;
+    assert_eq!(rt; both.len(), 2);
+    assert!(rt;
+        both.get(0)
+            .is_some_and(|entry| entry.0.bytes() == b"a".as_slice())
+    );
+    assert!(rt;
+        both.find(b"k")
+            .is_some_and(|value| same_value(value, &Value::Int(3)))
+    );
     Ok(())
 }
 

@@ -1,4 +1,4 @@
-use Rattle.std.proofs.Common.{subst, Ok}
+use Rattle.std.proofs.Common.{subst}
 use Rattle.wc_value.specs.Reading.{Answers}
 use Rattle.wc_value.proofs.Readback.{all_read, found_by}
 use Rattle.wc_value.proofs.decoding.decode.Goals as goal

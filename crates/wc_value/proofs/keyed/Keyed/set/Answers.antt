@@ -1,5 +1,5 @@
 use Rattle.std.proofs.Common.{◌≡◌, ap, subst, sym, ◌∙◌, rules, true, false}
-use Rattle.std.specs.Prelude.{slice_get, slice_set, insert}
+use Rattle.std.specs.Prelude.{slice_get}
 use Rattle.wc_value.specs.Ascending.{Ascends, put, place, is_named}
 use Rattle.wc_value.proofs.Puts.{replaced, inserted, ascends_put}
 use Rattle.wc_value.proofs.keyed.Keyed.set.Goals as goal

@@ -1,4 +1,4 @@
-mod Outcomes
+pub mod Outcomes
 mod Times
 mod Draws
 mod Replaying

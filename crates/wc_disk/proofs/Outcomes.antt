@@ -136,10 +136,10 @@ pub sync_within : (v : Volume) → IsImage v v.seen → IsWithin (IsImage v) (Is
 sync_within v reads image is = subst (IsImage v) (sym (only_settled v.seen image is)) reads
 
 -- ---- a call that may have been left out
-torn_same : (at n end : ℕ) (image : List ℕ) → Torn at n end image image
+pub torn_same : (at n end : ℕ) (image : List ℕ) → Torn at n end image image
 torn_same at n end image = record { before = refl; after = refl; no_shorter = omega arith; no_longer = omega arith }
 
-cut_same : (len : ℕ) (image : List ℕ) → CutShort len image image
+pub cut_same : (len : ℕ) (image : List ℕ) → CutShort len image image
 cut_same len image = record { no_shorter = omega arith; front = sym (take_all (length image) image (omega arith)) }
 
 pub write_follows : (v w : Volume) (at : ℕ) (bytes : List ℕ) → IsImage v v.seen → at ≤ length v.seen → (w ≡ v) ⊎ (w ≡ after_call (Write at bytes) v)

@@ -5,19 +5,20 @@ use Rattle.wc_disk.specs.Steps.{Elapses}
 use Rattle.wc_disk.specs.Images.{LeavesOnly}
 
 module _ {D : Type 0} (g : disk.Ghosts D) where
-  -- one call, of which P holds at its begin and at its end
-  pub one_call : (old new : D) (P : List ℕ → Type 0) → ((image : List ℕ) → g.left_since old (g.moment old) image → P image)
-      → Elapses (g.moment old) (g.moment new) (g.left_since old) (g.left_since new) (g.may_leave new)
-      → ((image : List ℕ) → g.may_leave new image → P image) → LeavesOnly g old new P
-  one_call old new P here time then = record {
-    later = time.later;
-    each = λ image left. ⊎_elim (here image) (then image) (time.nothing_else (g.moment old) image (omega arith) left);
-    before = λ t image le left. ⊎_elim (λ past. inl past) (λ now. inr (then image now)) (time.nothing_else t image le left);
-  }
-
   -- no call at all
   pub no_call : (old : D) (P : List ℕ → Type 0) → ((image : List ℕ) → g.left_since old (g.moment old) image → P image) → LeavesOnly g old old P
   no_call old P here = record { later = omega arith; each = here; before = λ t image le left. inl left }
+
+  -- one call more, after which a crash leaves what has P
+  pub goes_on : (old mid new : D) (P : List ℕ → Type 0) → LeavesOnly g old mid P
+      → Elapses (g.moment mid) (g.moment new) (g.left_since mid) (g.left_since new) (g.may_leave new)
+      → ((image : List ℕ) → g.may_leave new image → P image) → LeavesOnly g old new P
+  goes_on old mid new P so_far time then = record {
+    later = omega (arith, so_far.later, time.later);
+    each = λ image left. ⊎_elim (so_far.each image) (then image) (time.nothing_else (g.moment old) image so_far.later left);
+    before = λ t image le left.
+        ⊎_elim (so_far.before t image le) (λ now. inr (then image now)) (time.nothing_else t image (omega (arith, le, so_far.later)) left);
+  }
 
   -- one run after another
   pub both_runs : (old mid new : D) (P Q R : List ℕ → Type 0) → LeavesOnly g old mid P → LeavesOnly g mid new Q

@@ -90,3 +90,16 @@ fn takes_what_breaks_none(rt: HostRuntime) -> Result<(), Fail> {
     assert_eq!(rt; graph.links().len(), 11);
     Ok(())
 }
+
+#[test]
+fn fills_up(rt: HostRuntime) -> Result<(), Fail> {
+    let mut graph = Graph::new(rt.alloc());
+    graph.reserve(8_000_000, 0)?;
+    for _node in 0..8_000_000 {
+        graph.add_node(NodeKind::Workflow)?;
+    }
+    let refused = graph.add_node(NodeKind::Workflow);
+    assert_eq!(rt; refused, Err(GraphError::Full));
+    assert_eq!(rt; graph.nodes().len(), 8_000_000);
+    Ok(())
+}

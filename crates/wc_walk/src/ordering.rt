@@ -1,6 +1,6 @@
-ghost use Rattle.std.specs.Prelude.{◌≡◌, ◌≢◌, ℕ, ◌+◌, ◌<◌, ◌≤◌, ◌^◌, ◌↔◌, ◌⊎◌, [], length, slice_index, slice_index_or, All, Any, MatchBool, MatchOption, IfOk, IfErr, OnOk, IsTrue};
+ghost use Rattle.std.specs.Prelude.{◌≡◌, ◌≢◌, ℕ, ◌+◌, ◌<◌, ◌≤◌, ◌^◌, ◌↔◌, ◌⊎◌, [], length, slice_index, slice_index_or, All, Any, MatchBool, MatchOption, IfOk, IfErr, IfSome, IsSome, OnOk, IsTrue, false};
 ghost use Rattle.std.specs.Ordering.{nat_cmp};
-ghost use Rattle.std.specs.BTreeSet.{contains};
+ghost use Rattle.std.specs.BTreeSet.{contains, IsLowerBound, Updates};
 ghost use Rattle.wc_graph.specs.Walks.{IsAcyclic};
 ghost use Rattle.wc_walk.specs.Near.{near_of, EndsAreWithin};
 ghost use Rattle.wc_walk.specs.declared.near.Way.TheVariants.{Forward};
@@ -73,6 +73,16 @@ fn release(
     Ok(())
 }
 
+/// Takes the lowest node that is ready out of the set, if one is.
+fn take_lowest(ready: &mut BTreeSet<u32>) -> Option<u32>
+    ensures some { IsSome result ↔ (0 < length ready.old.keys) }
+    ensures member { IfSome result (λ node. IsTrue (contains nat_cmp ready.old node)) }
+    ensures lowest { IfSome result (IsLowerBound nat_cmp ready.old) }
+    ensures taken { IfSome result (λ node. Updates nat_cmp ready.old ready.new node false) }
+{
+    ready.pop_first()
+}
+
 /// Whether some count is not 0.
 fn some_waits(waiting: &[usize]) -> bool
     ensures { MatchBool result (Any (λ count. count ≢ 0) waiting.now) ((node : ℕ) → slice_index waiting.now node ≡ 0) }
@@ -98,7 +108,7 @@ fn place(alloc: Global, graph: &Graph, forward: &[Ids]) -> Result<Option<Ids>, A
     let mut waiting = entering(alloc, nodes.len(), links.as_slice())?;
     let mut ready = first_ready(alloc, &waiting)?;
     let mut placed = Ids::new(alloc);
-    while let Some(node) = ready.pop_first() {
+    while let Some(node) = take_lowest(&mut ready) {
         placed.push(node)?;
         release(forward[node as usize].as_slice(), &mut waiting, &mut ready)?;
     }

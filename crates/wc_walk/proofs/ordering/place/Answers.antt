@@ -67,9 +67,9 @@ loop-node-preserved c =
     let length_is : length new ≡ length l.waiting.items = released.size ∙ ap length same in
     let back = slice_back l.waiting.len new l.waiting.items l.waiting.ok.0 length_is in
     subst (λ (w : List ℕ). Placing g.nodes g.links c.push.new.self w (In c.release.new.ready)) (sym back)
-    (placing_more g.nodes g.links c.links-links.ensures.correct l.placed c.push.new.self l.waiting.items new targets (In l.ready) (In c.pop_first.new.self) (In c.release.new.ready) v
-    l.invariant c.in-Some.ensures.member (lowest_of l.ready v c.in-Some.ensures.least) c.in_ok-push.ensures.ok is
-    (in_removed l.ready c.pop_first.new.self v c.in-Some.ensures.updates) length_is
+    (placing_more g.nodes g.links c.links-links.ensures.correct l.placed c.push.new.self l.waiting.items new targets (In l.ready) (In c.take_lowest.new.ready) (In c.release.new.ready) v
+    l.invariant c.in-Some.ensures.member (lowest_of l.ready v c.in-Some.ensures.lowest) c.in_ok-push.ensures.ok is
+    (in_removed l.ready c.take_lowest.new.ready v c.in-Some.ensures.taken) length_is
     (λ node. released.counts node ∙ ap (λ w. get_or w node 0) same) released.ready
     (λ q pos. times_step g.links v q targets is pos))
 
@@ -80,13 +80,13 @@ returns-then-some_waits c = λ acyclic.
     let a = c.if-some_waits.ensures in
     let at : get_or l.waiting.items a.0 0 ≡ a.1 = ap (λ w. get_or w a.0 0) (sym c.deref-2.ensures.value) ∙ get_or_default c.deref-2.result.now a.0 0 a.1 a.2 ∙ a.3 in
     stuck g.nodes g.links c.links-links.ensures.correct acyclic l.placed l.waiting.items (In l.ready) l.invariant
-    (in_none l.ready c.pop_first.result c.in_default.is c.pop_first.ensures.variant) a.0 (λ z. a.4 (sym at ∙ z))
+    (in_none l.ready c.take_lowest.result c.in_default.is c.take_lowest.ensures.some) a.0 (λ z. a.4 (sym at ∙ z))
 
 pub returns : goal.returns
 returns c =
     let g = c.args.graph.now in
     let l = c.loop-node in
     let order = order_of g.nodes g.links l.placed l.waiting.items (In l.ready) l.invariant
-    (in_none l.ready c.pop_first.result c.in_default.is c.pop_first.ensures.variant)
+    (in_none l.ready c.take_lowest.result c.in_default.is c.take_lowest.ensures.some)
     (λ q. ap (λ w. get_or w q 0) (sym c.deref-2.ensures.value) ∙ c.if-some_waits.ensures q) in
     (order, order_acyclic g.nodes g.links c.links-links.ensures.correct l.placed order)

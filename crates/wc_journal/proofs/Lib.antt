@@ -1,0 +1,10 @@
+mod Fronts
+mod Holding
+mod Appending
+mod Puts
+mod Loading
+pub mod Writing
+mod Making
+mod Adding
+mod Respelled
+mod Rows

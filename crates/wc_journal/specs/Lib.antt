@@ -1,0 +1,7 @@
+pub mod Reading
+pub mod Frame
+pub mod Refusals
+pub mod Batches
+pub mod Framing
+pub mod Journals
+pub mod Spelled

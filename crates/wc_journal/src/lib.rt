@@ -1,0 +1,17 @@
+//! Gated batches: what was acknowledged stays, whatever crash cuts a write.
+#![tactic(auto)]
+
+mod batch;
+mod calls;
+mod error;
+mod image;
+mod journal;
+mod laws;
+mod steps;
+#[cfg(test)]
+mod tests;
+
+pub use batch::Batch;
+pub use error::{Found, JournalError};
+pub use journal::{Batches, Journal, Loaded};
+pub use laws::an_image_holds_what_it_spells;

@@ -13,10 +13,10 @@ use Rattle.wc_lexer.specs.Cuts.{comment_after, AreTokens}
 use Rattle.wc_lexer.proofs.Places.{skip}
 use Rattle.wc_lexer.proofs.Longest.{Stands, token_stands}
 
-abbrev Toks : Type 0
+abbrev pub Toks : Type 0
 Toks = List (Token × ℕ)
 
-joined_nil : (r : Result Toks LexError) → joined [] r ≡ r
+pub joined_nil : (r : Result Toks LexError) → joined [] r ≡ r
 joined_nil (Ok xs) = refl
 joined_nil (Err e) = refl
 

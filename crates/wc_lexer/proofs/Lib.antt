@@ -7,3 +7,4 @@ pub mod Pieces
 pub mod Places
 pub mod Signs
 pub mod Utf8
+pub mod Whole

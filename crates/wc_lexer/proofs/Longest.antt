@@ -21,36 +21,36 @@ use Rattle.wc_lexer.proofs.Signs.{word_letters, is_sign, symbol_sign, symbol_som
 use Rattle.wc_lexer.proofs.Pieces.{Pieces, closing_splits, pieces_of, content_same}
 
 -- ---- what a spelling begins with
-abbrev First : List ℕ → Type 0
+abbrev pub First : List ℕ → Type 0
 First bs = (is_letters bs ≡ true) ⊎ ((is_numeral bs ≡ true) ⊎ (((text : List ℕ) × IsQuoted text bs) ⊎ ((s : ASymbol) × (bs ≡ symbol_text s))))
 
-first_is : (t : Token) (bs : List ℕ) → Spells t bs → First bs
+pub first_is : (t : Token) (bs : List ℕ) → Spells t bs → First bs
 first_is (Name text) bs h = inl h.0
 first_is (Number n) bs h = inr (inl h.0)
 first_is (Quoted text) bs h = inr (inr (inl (text, h)))
 first_is (Word w) bs h = inl (ap is_letters h ∙ word_letters w)
 first_is (Symbol s) bs h = inr (inr (inr (s, h)))
 
-letter_no_digit : (b : ℕ) → begins_name b ≡ true → is_ascii_digit b ≡ true → ⊥
+pub letter_no_digit : (b : ℕ) → begins_name b ≡ true → is_ascii_digit b ≡ true → ⊥
 letter_no_digit b h k = grind (arith, nat_tests)
 
-quote_first : (text : List ℕ) (b : ℕ) (bs : List ℕ) → IsQuoted text (b ∷ bs) → b ≡ 34
+pub quote_first : (text : List ℕ) (b : ℕ) (bs : List ℕ) → IsQuoted text (b ∷ bs) → b ≡ 34
 quote_first text b bs h = let e : b ∷ bs ≡ 34 ∷ (written h.0 ++ 34 ∷ []) = h.1.1.1 in cc
 
-sign_first : (s : ASymbol) (b : ℕ) (bs : List ℕ) → b ∷ bs ≡ symbol_text s → (begins_name b ≡ false) × ((is_ascii_digit b ≡ false) × ((b == 34) ≡ false))
+pub sign_first : (s : ASymbol) (b : ℕ) (bs : List ℕ) → b ∷ bs ≡ symbol_text s → (begins_name b ≡ false) × ((is_ascii_digit b ≡ false) × ((b == 34) ≡ false))
 sign_first s b bs h =
     let e : is_sign (b ∷ bs) ≡ true = ap is_sign h ∙ symbol_sign s in
     let k = and_parts (not (begins_name b) && not (is_ascii_digit b)) (not (b == 34)) e in
     let l = and_parts (not (begins_name b)) (not (is_ascii_digit b)) k.0 in
     (not-true _ l.0, (not-true _ l.1, not-true _ k.1))
 
-letters_first : (b : ℕ) (bs : List ℕ) → is_letters (b ∷ bs) ≡ true → begins_name b ≡ true
+pub letters_first : (b : ℕ) (bs : List ℕ) → is_letters (b ∷ bs) ≡ true → begins_name b ≡ true
 letters_first b bs h = (and_parts (begins_name b) (list_all is_in_name bs) h).0
 
-numeral_first : (b : ℕ) (bs : List ℕ) → is_numeral (b ∷ bs) ≡ true → is_ascii_digit b ≡ true
+pub numeral_first : (b : ℕ) (bs : List ℕ) → is_numeral (b ∷ bs) ≡ true → is_ascii_digit b ≡ true
 numeral_first b bs h = (and_parts (is_ascii_digit b) (list_all is_ascii_digit bs) h).0
 
-no_first : First [] → ⊥
+pub no_first : First [] → ⊥
 no_first (inl h) = absurd (cc)
 no_first (inr (inl h)) = absurd (cc)
 no_first (inr (inr (inl h))) = let e : [] ≡ 34 ∷ (written h.1.0 ++ 34 ∷ []) = h.1.1.1.1 in absurd (cc)
@@ -115,14 +115,14 @@ run_longest p whole longer after e h =
     let k : length longer ≤ prefix_len p whole = subst (λ z. length longer ≤ prefix_len p z) (sym e) (pass_prefix p longer after h) in
     omega (arith, k, length-take-le (prefix_len p whole) whole (prefix_len-le-length p whole))
 
-letters_all : (bs : List ℕ) → is_letters bs ≡ true → list_all is_in_name bs ≡ true
+pub letters_all : (bs : List ℕ) → is_letters bs ≡ true → list_all is_in_name bs ≡ true
 letters_all [] h = refl
 letters_all (b ∷ bs) h =
     let k = and_parts (begins_name b) (list_all is_in_name bs) h in
     and_from (is_in_name b) (list_all is_in_name bs) (or_left (begins_name b) (is_ascii_digit b) k.0) k.1
 
 -- the first byte stands in the run that it begins
-run_first : (p : ℕ → Bool) (b : ℕ) (bs : List ℕ) → p b ≡ true → take_while p (b ∷ bs) ≡ b ∷ take_while p bs
+pub run_first : (p : ℕ → Bool) (b : ℕ) (bs : List ℕ) → p b ≡ true → take_while p (b ∷ bs) ≡ b ∷ take_while p bs
 run_first p b bs h =
     let q : suc (prefix_len p bs) ≡ 1 + prefix_len p bs = omega arith in
     ap (λ (t : Bool). take (cond t (1 + prefix_len p bs) 0) (b ∷ bs)) h ∙ ap (λ (m : ℕ). take m (b ∷ bs)) (sym q)
@@ -161,7 +161,7 @@ in_name b h = or_left (begins_name b) (is_ascii_digit b) h
 letters_run : (b : ℕ) (bs : List ℕ) → begins_name b ≡ true → is_letters (take_while is_in_name (b ∷ bs)) ≡ true
 letters_run b bs h = ap is_letters (run_first is_in_name b bs (in_name b h)) ∙ and_from (begins_name b) (list_all is_in_name (take_while is_in_name bs)) h (run_passes is_in_name bs)
 
-named_spells : (letters : List ℕ) (o : Option AWord) → word_of letters ≡ o → is_letters letters ≡ true → Spells (named_as letters o) letters
+pub named_spells : (letters : List ℕ) (o : Option AWord) → word_of letters ≡ o → is_letters letters ≡ true → Spells (named_as letters o) letters
 named_spells letters None e h = (h, e, refl)
 named_spells letters (Some w) e h = word_spelled letters w e
 
@@ -282,12 +282,12 @@ quoted_stands at b bs t end h e = subst (λ (z : ℕ). Stands at (z ∷ bs) t en
 
 -- ---- signs
 -- a sign that the bytes begin with stands in front of a rest
-sign_splits : (bytes text : List ℕ) → starts_with nat_eq bytes text ≡ true → bytes ≡ text ++ drop (length text) bytes
+pub sign_splits : (bytes text : List ℕ) → starts_with nat_eq bytes text ≡ true → bytes ≡ text ++ drop (length text) bytes
 sign_splits bytes text h =
     let e : text ≡ take (length text) bytes = (bytes_eq-Decides text (take (length text) bytes)).0 h in
     sym (take-append-drop (length text) bytes) ∙ ap (λ z. z ++ drop (length text) bytes) (sym e)
 
-sign_begins : (text after : List ℕ) → starts_with nat_eq (text ++ after) text ≡ true
+pub sign_begins : (text after : List ℕ) → starts_with nat_eq (text ++ after) text ≡ true
 sign_begins text after = (bytes_eq-Decides text (take (length text) (text ++ after))).1 (sym (take_at text after (length text) refl))
 
 sign_of : (at b : ℕ) (bs : List ℕ) (t : Token) (end : ℕ) (o : Option ASymbol) → begins_name b ≡ false → is_ascii_digit b ≡ false → (b == 34) ≡ false → symbol_of (b ∷ bs) ≡ o → signed at o ≡ Ok (t, end) → Stands at (b ∷ bs) t end

@@ -1,5 +1,5 @@
 -- What words and signs are spelled with.
-use Rattle.std.proofs.Common.{◌≡◌, ℕ, ◌<◌, ◌≤◌, ◌⊎◌, inl, inr, ⊎_elim, List, [], ◌∷◌, ◌++◌, length, Bool, true, false, Option, Some, refl, sym, ◌∙◌, subst, arith}
+use Rattle.std.proofs.Common.{◌≡◌, ℕ, ◌<◌, ◌≤◌, ◌⊎◌, inl, inr, ⊎_elim, List, [], ◌∷◌, ◌++◌, length, Bool, true, false, Option, Some, None, refl, sym, ◌∙◌, subst, arith}
 use Rattle.std.specs.Prelude.{◌==◌, ◌&&◌, not, nat_eq, nat_le, cond, find}
 use Rattle.std.proofs.lemmas.Bool.{and_parts, leb-true, leb-false, false≢true}
 use Rattle.std.specs.Char.{is_ascii_digit}
@@ -11,7 +11,7 @@ use Rattle.wc_lexer.specs.declared.token.Symbol.TheVariants as symbol
 use Rattle.std.specs.Str.{bytes_eq}
 use Rattle.std.proofs.lemmas.Slice.Eq.{bytes_eq-Decides}
 use Rattle.wc_lexer.specs.Spellings.{word_text, symbol_text, words, word_of, symbols, symbol_of}
-use Rattle.wc_lexer.specs.Tokens.{begins_name}
+use Rattle.wc_lexer.specs.Tokens.{begins_name, is_separator}
 use Rattle.wc_lexer.specs.Cuts.{is_letters}
 
 pub word_letters : (w : Word) → is_letters (word_text w) ≡ true
@@ -203,3 +203,131 @@ sign_stands bytes s h = find_passes (λ s. starts_with nat_eq bytes (symbol_text
 pub word_spelled : (letters : List ℕ) (w : Word) → word_of letters ≡ Some w → letters ≡ word_text w
 unfolding word_of
 word_spelled letters w h = sym ((bytes_eq-Decides (word_text w) letters).0 (find_passes (λ w. bytes_eq (word_text w) letters) words w h))
+
+-- each is found by its spelling
+pub word_found : (w : Word) → word_of (word_text w) ≡ Some w
+unfolding word_of
+word_found word.Calcfunction = refl
+word_found word.Calcjob = refl
+word_found word.Workchain = refl
+word_found word.Program = refl
+word_found word.Arg = refl
+word_found word.File = refl
+word_found word.Fetch = refl
+word_found word.Parse = refl
+word_found word.Int = refl
+word_found word.Bool = refl
+word_found word.Text = refl
+word_found word.List = refl
+word_found word.Dict = refl
+word_found word.Folder = refl
+word_found word.ExitCode = refl
+word_found word.Invalidates = refl
+word_found word.Let = refl
+word_found word.Out = refl
+word_found word.Exit = refl
+word_found word.If = refl
+word_found word.Step = refl
+word_found word.Elif = refl
+word_found word.Else = refl
+word_found word.While = refl
+word_found word.Return = refl
+word_found word.Ctx = refl
+word_found word.Call = refl
+word_found word.To = refl
+word_found word.Append = refl
+word_found word.Or = refl
+word_found word.And = refl
+word_found word.Not = refl
+word_found word.True = refl
+word_found word.False = refl
+word_found word.Inputs = refl
+word_found word.Trim = refl
+word_found word.Len = refl
+word_found word.Get = refl
+word_found word.Has = refl
+word_found word.Line = refl
+word_found word.Contains = refl
+word_found word.Min = refl
+word_found word.Max = refl
+word_found word.Given = refl
+word_found word.Count = refl
+word_found word.Outputs = refl
+word_found word.Status = refl
+word_found word.Ok = refl
+
+pub symbol_found : (s : Symbol) → symbol_of (symbol_text s) ≡ Some s
+unfolding symbol_of
+symbol_found symbol.OpenBrace = refl
+symbol_found symbol.CloseBrace = refl
+symbol_found symbol.Open = refl
+symbol_found symbol.Close = refl
+symbol_found symbol.OpenSquare = refl
+symbol_found symbol.CloseSquare = refl
+symbol_found symbol.Comma = refl
+symbol_found symbol.Semi = refl
+symbol_found symbol.Colon = refl
+symbol_found symbol.Dot = refl
+symbol_found symbol.Question = refl
+symbol_found symbol.Is = refl
+symbol_found symbol.Equal = refl
+symbol_found symbol.Differs = refl
+symbol_found symbol.Less = refl
+symbol_found symbol.AtMost = refl
+symbol_found symbol.Greater = refl
+symbol_found symbol.AtLeast = refl
+symbol_found symbol.Plus = refl
+symbol_found symbol.Minus = refl
+symbol_found symbol.Star = refl
+symbol_found symbol.Slash = refl
+symbol_found symbol.Percent = refl
+symbol_found symbol.Arrow = refl
+
+none_passes : {X : Type 0} (p : X → Bool) (x y : X) (o : Option X) → (b : Bool) → p x ≡ b → cond b (Some x) o ≡ None → (p x ≡ false) × (o ≡ None)
+none_passes p x y o true e h = absurd (cc)
+none_passes p x y o false e h = (e, h)
+
+none_of : {X : Type 0} (p : X → Bool) (xs : List X) → find p xs ≡ None → AllByRecursion (λ x. p x ≡ false) xs
+none_of p [] h = tt
+none_of p (x ∷ xs) h = let k = none_passes p x x (find p xs) (p x) refl h in (k.0, none_of p xs k.1)
+
+among_symbols : (P : Symbol → Type 0) → AllByRecursion P symbols → (s : Symbol) → P s
+among_symbols P a symbol.Equal = a.0
+among_symbols P a symbol.Differs = a.1.0
+among_symbols P a symbol.AtMost = a.1.1.0
+among_symbols P a symbol.AtLeast = a.1.1.1.0
+among_symbols P a symbol.Arrow = a.1.1.1.1.0
+among_symbols P a symbol.OpenBrace = a.1.1.1.1.1.0
+among_symbols P a symbol.CloseBrace = a.1.1.1.1.1.1.0
+among_symbols P a symbol.Open = a.1.1.1.1.1.1.1.0
+among_symbols P a symbol.Close = a.1.1.1.1.1.1.1.1.0
+among_symbols P a symbol.OpenSquare = a.1.1.1.1.1.1.1.1.1.0
+among_symbols P a symbol.CloseSquare = a.1.1.1.1.1.1.1.1.1.1.0
+among_symbols P a symbol.Comma = a.1.1.1.1.1.1.1.1.1.1.1.0
+among_symbols P a symbol.Semi = a.1.1.1.1.1.1.1.1.1.1.1.1.0
+among_symbols P a symbol.Colon = a.1.1.1.1.1.1.1.1.1.1.1.1.1.0
+among_symbols P a symbol.Dot = a.1.1.1.1.1.1.1.1.1.1.1.1.1.1.0
+among_symbols P a symbol.Question = a.1.1.1.1.1.1.1.1.1.1.1.1.1.1.1.0
+among_symbols P a symbol.Is = a.1.1.1.1.1.1.1.1.1.1.1.1.1.1.1.1.0
+among_symbols P a symbol.Less = a.1.1.1.1.1.1.1.1.1.1.1.1.1.1.1.1.1.0
+among_symbols P a symbol.Greater = a.1.1.1.1.1.1.1.1.1.1.1.1.1.1.1.1.1.1.0
+among_symbols P a symbol.Plus = a.1.1.1.1.1.1.1.1.1.1.1.1.1.1.1.1.1.1.1.0
+among_symbols P a symbol.Minus = a.1.1.1.1.1.1.1.1.1.1.1.1.1.1.1.1.1.1.1.1.0
+among_symbols P a symbol.Star = a.1.1.1.1.1.1.1.1.1.1.1.1.1.1.1.1.1.1.1.1.1.0
+among_symbols P a symbol.Slash = a.1.1.1.1.1.1.1.1.1.1.1.1.1.1.1.1.1.1.1.1.1.1.0
+among_symbols P a symbol.Percent = a.1.1.1.1.1.1.1.1.1.1.1.1.1.1.1.1.1.1.1.1.1.1.1.0
+
+-- bytes that begin with a sign are found to
+pub sign_is_found : (bytes : List ℕ) (s : Symbol) → starts_with nat_eq bytes (symbol_text s) ≡ true → symbol_of bytes ≡ None → ⊥
+unfolding symbol_of
+sign_is_found bytes s h k =
+    let e = among_symbols (λ s. starts_with nat_eq bytes (symbol_text s) ≡ false) (none_of (λ s. starts_with nat_eq bytes (symbol_text s)) symbols k) s in
+    absurd (false≢true (sym e ∙ h))
+
+-- neither a separator nor the sign of a comment stands first
+abbrev pub is_mark : List ℕ → Bool
+is_mark [] = false
+is_mark (b ∷ bs) = not (is_separator b) && not (b == 35)
+
+pub symbol_mark : (s : Symbol) → is_mark (symbol_text s) ≡ true
+symbol_mark = among_symbols (λ s. is_mark (symbol_text s) ≡ true) (refl, (refl, (refl, (refl, (refl, (refl, (refl, (refl, (refl, (refl, (refl, (refl, (refl, (refl, (refl, (refl, (refl, (refl, (refl, (refl, (refl, (refl, (refl, (refl, tt))))))))))))))))))))))))

@@ -1,9 +1,10 @@
 //! From bytes to tokens, from left to right.
 
-ghost use Rattle.std.specs.Prelude.{◌≡◌, ◌∷◌, ◌++◌, [], ◌+◌, ◌-◌, ◌<◌, ◌≤◌, ◌^◌, false, true, length, drop, take, slice_index, Some, None, Ok, IfOk, IfSome, EachIndex, codes};
+ghost use Rattle.std.specs.Prelude.{◌≡◌, ℕ, List, ◌∷◌, ◌++◌, [], ◌+◌, ◌-◌, ◌<◌, ◌≤◌, ◌^◌, false, true, length, drop, take, slice_index, Some, None, Ok, IfOk, IfSome, EachIndex, codes};
 ghost use Rattle.std.specs.List.{take_while};
 ghost use Rattle.std.specs.Char.{is_ascii_digit};
 ghost use Rattle.std.specs.Str.{IsUtf8};
+ghost use Rattle.wc_lexer.specs.declared.token.Token.{Token};
 ghost use Rattle.wc_lexer.specs.Cuts.{AreTokens};
 ghost use Rattle.wc_lexer.specs.Tokens.{Gives, number_of, is_in_name, begins_name, named, closing, unescaped, name_at, number_at, quoted_at, sign_at, token_at, piece_at, kept_at, tokens_of};
 
@@ -234,6 +235,8 @@ pub fn tokens(alloc: Global, text: &Text) -> Result<TokenList, LexError>
     // Each token is spelled at its offset, separators and comments alone stand between tokens, and no longer token
     // begins at an offset.
     ensures cuts { IfOk result (λ list. AreTokens 0 text.now list) }
+    // A list of which that holds is the answer, unless memory runs out.
+    ensures only { (list : List (Token × ℕ)) → AreTokens 0 text.now list → Gives result (Ok list) }
 {
     cut(alloc, text)
 }

@@ -1,0 +1,3 @@
+pub mod Bared
+pub mod Escapes
+pub mod Printed

@@ -1,6 +1,6 @@
 //! Names, literals and expressions.
 
-use wc_value::{Boxed, Text};
+use wc_value::{Boxed, List, Text};
 
 /// A name: a letter or `_`, then letters, digits and `_`.
 #[derive(Drop)]
@@ -29,12 +29,91 @@ pub struct Number {
     pub at: u32,
 }
 
+/// An operator before one operand.
+#[derive(Clone, Copy, Debug, PartialEq, Eq)]
+pub enum UnaryOp {
+    /// `-`
+    Negate,
+    /// `not`
+    Not,
+}
+
 /// An operator between two operands.
 #[derive(Clone, Copy, Debug, PartialEq, Eq)]
 pub enum BinaryOp {
+    /// `or`
+    Or,
+    /// `and`
+    And,
+    /// `==`
+    Equal,
+    /// `!=`
+    Differs,
+    /// `<`
+    Less,
+    /// `<=`
+    AtMost,
+    /// `>`
+    Greater,
+    /// `>=`
+    AtLeast,
     /// `+`
     Add,
+    /// `-`
+    Subtract,
+    /// `*`
+    Multiply,
+    /// `/`
+    Divide,
+    /// `%`
+    Remainder,
 }
+
+/// A word that takes one argument.
+#[derive(Clone, Copy, Debug, PartialEq, Eq)]
+pub enum OneOf {
+    /// `text(e)`
+    Text,
+    /// `int(e)`
+    Int,
+    /// `trim(e)`
+    Trim,
+    /// `len(e)`
+    Len,
+}
+
+/// A word that takes two arguments.
+#[derive(Clone, Copy, Debug, PartialEq, Eq)]
+pub enum TwoOf {
+    /// `get(e, e)`
+    Get,
+    /// `has(e, e)`
+    Has,
+    /// `file(e, e)`
+    File,
+    /// `line(e, e)`
+    Line,
+    /// `contains(e, e)`
+    Contains,
+    /// `min(e, e)`
+    Min,
+    /// `max(e, e)`
+    Max,
+}
+
+/// What is asked of a child in the context of a work chain.
+#[derive(Drop)]
+pub enum ChildPart {
+    /// `.outputs.NAME`: one of its outputs.
+    Outputs(Name),
+    /// `.status`: its exit status.
+    Status,
+    /// `.ok`: whether it finished with 0.
+    Ok,
+}
+
+/// Expressions in the order of the file.
+pub type Exprs = List<Expr>;
 
 /// An expression.
 #[cycle(expr)]
@@ -46,14 +125,38 @@ pub struct Expr {
     pub form: Form,
 }
 
-/// What an expression is made of.
+/// What an expression is made of. The offset of a form is that of the word `inputs` or `ctx`.
 #[cycle(expr)]
 #[derive(Drop)]
 pub enum Form {
     /// A whole number.
     Number(Number),
-    /// The name of an input port.
+    /// A text in quotes.
+    Quoted(Quoted),
+    /// `true` or `false`.
+    Truth(bool),
+    /// The name of an input port or of a `let`, in a function or a job.
     Bare(Name),
+    /// `inputs.NAME`: an input of a work chain.
+    Input(u32, Name),
+    /// `ctx.NAME`: a value in the context of a work chain.
+    Plain(u32, Name),
+    /// `ctx.NAME` or `ctx.NAME[e]`, and what is asked of that child.
+    Child(u32, Name, Option<Boxed<Expr>>, ChildPart),
+    /// An operator before one operand.
+    Unary(UnaryOp, Boxed<Expr>),
     /// An operator between two operands.
     Binary(BinaryOp, Boxed<Expr>, Boxed<Expr>),
+    /// A word with one argument.
+    One(OneOf, Boxed<Expr>),
+    /// A word with two arguments.
+    Two(TwoOf, Boxed<Expr>, Boxed<Expr>),
+    /// `given(NAME)` in a function or a job.
+    GivenBare(Name),
+    /// `given(inputs.NAME)` in a work chain.
+    GivenInput(u32, Name),
+    /// `count(ctx.NAME)`: how many children a key of the context holds.
+    Count(u32, Name),
+    /// A list of expressions in square brackets.
+    List(Exprs),
 }

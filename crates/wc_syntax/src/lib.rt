@@ -8,9 +8,18 @@
 mod checked;
 mod definition;
 mod expression;
+mod outline;
+mod printing;
 
 pub use checked::Checked;
 pub use definition::{
-    Definition, ExitCode, ExitCodes, Function, Head, Library, Port, PortList, Rule, RuleList,
+    Chain, Definition, Exit, ExitCode, ExitCodes, Fetch, Fetches, Function, Head, Job, JobFile,
+    JobFiles, JobLine, JobLines, Library, Port, PortList, Rule, RuleList,
 };
-pub use expression::{BinaryOp, Expr, Form, Name, Number, Quoted};
+pub use expression::{
+    BinaryOp, ChildPart, Expr, Exprs, Form, Name, Number, OneOf, Quoted, TwoOf, UnaryOp,
+};
+pub use outline::{
+    Arm, Arms, Block, CallArg, CallArgs, CallStmt, Instr, Instrs, Step, Stmt, Stmts,
+};
+pub use printing::{offsets_are_not_printed, print, print_definition};

@@ -1,0 +1,9 @@
+use Rattle.std.proofs.Common.{◌≡◌, ◌-◌, [], ◌∷◌}
+use Rattle.wc_grammar.specs.Kinds.{S_COMMA}
+use Rattle.wc_grammar.specs.Rules.{turns, next_at}
+use Rattle.wc_reader.specs.Reading.{port_at}
+use Rattle.wc_reader.proofs.ports.more_ports.Given as goal
+
+abbrev pub invariant-loop-turn : goal.invariant-loop-turn
+invariant-loop-turn l =
+    turns (l.bound - l._turn) (S_COMMA ∷ []) (next_at S_COMMA port_at) l.found l.rest ≡ turns l.bound (S_COMMA ∷ []) (next_at S_COMMA port_at) l.fn.first l.tokens

@@ -1,0 +1,68 @@
+-- One level of what an expression mentions, and of the pieces of an outline.
+use Rattle.std.proofs.Common.{◌≡◌, ℕ, List, [], ◌∷◌, ◌++◌, refl, sym, ap, ◌∙◌, map, append-nil, append_assoc}
+use Rattle.std.specs.Prelude.{flat_map, Option, Some, None}
+use Rattle.wc_syntax.specs.declared.expression.Expr.{Expr, fold-roll-Expr}
+use Rattle.wc_syntax.specs.declared.expression.Form.{fold-Form, fold-roll-Form}
+use Rattle.wc_syntax.specs.declared.expression.Form.TheVariants as form
+use Rattle.wc_syntax.specs.declared.expression.Form.TheOpen.{Form-F}
+use Rattle.wc_syntax.specs.declared.expression.Number.{Number}
+use Rattle.wc_syntax.specs.declared.outline.Arm.{Arm}
+use Rattle.wc_syntax.specs.declared.outline.Block.{Block, fold-roll-Block}
+use Rattle.wc_syntax.specs.declared.outline.Instr.{Instr, fold-roll-Instr}
+use Rattle.wc_syntax.specs.declared.outline.Instr.TheVariants as instr
+use Rattle.wc_syntax.specs.declared.outline.Instr.TheOpen.{Instr-F}
+use Rattle.wc_syntax.specs.Mentions.{Mention, mentions, form_mentions, its_mentions, Piece, Begins, Tests, Returns, pieces, instr_pieces, arm_pieces, block_pieces}
+use Rattle.wc_check.specs.Flat.{seen_piece, seen_pieces, pieces_of_instr, pieces_of_arm}
+use Rattle.wc_check.specs.declared.pieces.Piece.{Piece as Put}
+
+joined_map : {A B : Type 0} (f : A → List B) (xs : List A) → flat_map (λ ys. ys) (map f xs) ≡ flat_map f xs
+joined_map f [] = refl
+joined_map f (x ∷ xs) = ap (λ ys. f x ++ ys) (joined_map f xs)
+
+pub mentions_list : (e : Expr) (es : List Expr) → e.form ≡ form.List es → mentions e ≡ flat_map mentions es
+mentions_list e es h =
+    fold-roll-Expr (List Mention) (List Mention) form_mentions its_mentions (record { at = e.at; form = e.form })
+    ∙ ap (fold-Form (List Mention) (List Mention) form_mentions its_mentions) (h ∙ sym (form.rolls-List es))
+    ∙ fold-roll-Form (List Mention) (List Mention) form_mentions its_mentions (Form-F.List es)
+    ∙ joined_map mentions es
+
+pub pieces_block : (b : Block) → pieces b ≡ flat_map pieces_of_instr b.instrs
+pieces_block b = fold-roll-Block (List Piece) (List Piece) (List Piece) instr_pieces arm_pieces block_pieces (record { instrs = b.instrs }) ∙ joined_map pieces_of_instr b.instrs
+
+pub pieces_none : (i : Instr) (at : ℕ) (arms : List Arm) → i ≡ instr.If at arms None → pieces_of_instr i ≡ Begins at ∷ flat_map pieces_of_arm arms
+pieces_none i at arms h =
+    ap pieces_of_instr (h ∙ sym (instr.rolls-If at arms None))
+    ∙ fold-roll-Instr (List Piece) (List Piece) (List Piece) instr_pieces arm_pieces block_pieces (Instr-F.If at arms None)
+    ∙ ap (λ ps. Begins at ∷ ps) (append-nil (flat_map (λ ps. ps) (map pieces_of_arm arms)) ∙ joined_map pieces_of_arm arms)
+
+pub pieces_some : (i : Instr) (at : ℕ) (arms : List Arm) (b : Block) → i ≡ instr.If at arms (Some b) → pieces_of_instr i ≡ Begins at ∷ (flat_map pieces_of_arm arms ++ pieces b)
+pieces_some i at arms b h =
+    ap pieces_of_instr (h ∙ sym (instr.rolls-If at arms (Some b)))
+    ∙ fold-roll-Instr (List Piece) (List Piece) (List Piece) instr_pieces arm_pieces block_pieces (Instr-F.If at arms (Some b))
+    ∙ ap (λ ps. Begins at ∷ (ps ++ pieces b)) (joined_map pieces_of_arm arms)
+
+pub pieces_while : (i : Instr) (at : ℕ) (e : Expr) (b : Block) → i ≡ instr.While at e b → pieces_of_instr i ≡ Begins at ∷ Tests e ∷ pieces b
+pieces_while i at e b h =
+    ap pieces_of_instr (h ∙ sym (instr.rolls-While at e b))
+    ∙ fold-roll-Instr (List Piece) (List Piece) (List Piece) instr_pieces arm_pieces block_pieces (Instr-F.While at e b)
+
+pub pieces_return : (i : Instr) (at : ℕ) → i ≡ instr.Return at None → pieces_of_instr i ≡ Begins at ∷ []
+pieces_return i at h =
+    ap pieces_of_instr (h ∙ sym (instr.rolls-Return at None))
+    ∙ fold-roll-Instr (List Piece) (List Piece) (List Piece) instr_pieces arm_pieces block_pieces (Instr-F.Return at None)
+
+pub pieces_status : (i : Instr) (at : ℕ) (n : Number) → i ≡ instr.Return at (Some n) → pieces_of_instr i ≡ Begins at ∷ Returns n ∷ []
+pieces_status i at n h =
+    ap pieces_of_instr (h ∙ sym (instr.rolls-Return at (Some n)))
+    ∙ fold-roll-Instr (List Piece) (List Piece) (List Piece) instr_pieces arm_pieces block_pieces (Instr-F.Return at (Some n))
+
+-- ---- pieces, put at the end one after the other
+pub began : (before now : List Put) (p : Put) → now ≡ before ++ p ∷ [] → seen_pieces now ≡ seen_pieces before ++ seen_piece p ∷ []
+began before now p h = ap seen_pieces h ∙ last before
+  where
+    last : (ps : List Put) → seen_pieces (ps ++ p ∷ []) ≡ seen_pieces ps ++ seen_piece p ∷ []
+    last [] = refl
+    last (q ∷ ps) = ap (λ qs. seen_piece q ∷ qs) (last ps)
+
+pub two : (s₀ s₁ s₂ a b all : List Piece) → s₁ ≡ s₀ ++ a → s₂ ≡ s₁ ++ b → all ≡ a ++ b → s₂ ≡ s₀ ++ all
+two s₀ s₁ s₂ a b all p q h = q ∙ ap (λ s. s ++ b) p ∙ append_assoc s₀ a b ∙ ap (λ s. s₀ ++ s) (sym h)

@@ -1,0 +1,10 @@
+pub mod Leasts
+pub mod Named
+pub mod Repeated
+pub mod Flats
+pub mod Scoped
+pub mod Ruled
+pub mod Signing
+pub mod Refused
+pub mod Kept
+pub mod Single

@@ -1,0 +1,16 @@
+-- The refusal that the least finding is.
+use Rattle.std.proofs.Common.{◌≡◌, List, [], refl, sym, ◌∙◌, subst}
+use Rattle.std.specs.Prelude.{Option, Some, None}
+use Rattle.wc_syntax.specs.declared.definition.Definition.{Definition}
+use Rattle.wc_syntax.specs.Findings.{Finding}
+use Rattle.wc_syntax.specs.Checked.{findings}
+use Rattle.wc_check.specs.declared.error.CheckError.{CheckError}
+use Rattle.wc_check.specs.Least.{least_after}
+use Rattle.wc_check.specs.Refusals.{SaysBest, IsFirstFinding}
+use Rattle.wc_check.proofs.Leasts.{none_first, some_first}
+
+pub first_said : (library : List Definition) (best : Option Finding) (e : Option CheckError) → best ≡ least_after None (findings library) → SaysBest e best → IsFirstFinding library e
+first_said library None None h s = none_first (findings library) (sym h)
+first_said library None (Some e) h s = absurd s
+first_said library (Some f) None h s = absurd s
+first_said library (Some f) (Some e) h s = record { finding = f; says = s; first = some_first (findings library) f (sym h) }

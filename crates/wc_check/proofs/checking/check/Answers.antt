@@ -1,0 +1,10 @@
+use Rattle.std.proofs.Common.{subst}
+use Rattle.wc_check.specs.Refusals.{IsFirstFinding}
+use Rattle.wc_check.proofs.Kept.{kept}
+use Rattle.wc_check.proofs.checking.check.Goals as goal
+
+pub of-requires : goal.of-requires
+of-requires c = record { writable = c.requires; rules = (kept c.args.library).1 (subst (IsFirstFinding c.args.library) c.in-None.is c.in_ok-first_finding.ensures) }
+
+pub returns-in-None-clause-ok : goal.returns-in-None-clause-ok
+returns-in-None-clause-ok c = (kept c.args.library).1 (subst (IsFirstFinding c.args.library) c.in-None.is c.in_ok-first_finding.ensures)

@@ -1,0 +1,5 @@
+pub mod Least
+pub mod Flat
+pub mod Scopes
+pub mod Signed
+pub mod Refusals

@@ -1,0 +1,145 @@
+ghost use Rattle.std.specs.Prelude.{◌≡◌, None, OnOk};
+ghost use Rattle.wc_check.specs.Least.{lesser, number_of, stands_before};
+ghost use Rattle.wc_check.specs.Refusals.{finding_seen, Says, SaysBest};
+
+use crate::error::CheckError;
+use std::alloc::{AllocError, Global};
+use std::marker::Model;
+use wc_value::Text;
+
+/// A rule of a checked library, by what a refusal says of it.
+#[derive(Clone, Copy, Debug)]
+pub enum Fault {
+    /// A name stands twice.
+    Twice,
+    /// A name stands for nothing.
+    Unknown,
+    /// A call lacks a port.
+    PortMissing,
+    /// A call gives a port that isn't there.
+    PortUnknown,
+    /// An output of a work chain isn't data.
+    NotData,
+    /// A status may not be declared, or isn't.
+    BadStatus,
+    /// There are too many items.
+    TooMany,
+    /// A name isn't one that may be.
+    BadName,
+}
+
+impl Fault {
+    /// Its number in the order of refusals at one place.
+    fn number(self) -> u8
+        ensures { result ≡ number_of self }
+    {
+        match self {
+            Fault::Twice => 1,
+            Fault::Unknown => 2,
+            Fault::PortMissing => 3,
+            Fault::PortUnknown => 4,
+            Fault::NotData => 5,
+            Fault::BadStatus => 6,
+            Fault::TooMany => 7,
+            Fault::BadName => 8,
+        }
+    }
+}
+
+/// A rule that is broken at a place of the file, with the name that stands there or none.
+#[derive(Debug, Drop)]
+pub struct Finding {
+    pub fault: Fault,
+    pub name: Text,
+    pub at: u32,
+}
+
+impl Finding {
+    fn refusal(self) -> CheckError
+        ensures { Says result (finding_seen self) }
+    {
+        let Finding { fault, name, at } = self;
+        match fault {
+            Fault::Twice => CheckError::Twice(name, at),
+            Fault::Unknown => CheckError::Unknown(name, at),
+            Fault::PortMissing => CheckError::PortMissing(name, at),
+            Fault::PortUnknown => CheckError::PortUnknown(name, at),
+            Fault::NotData => CheckError::NotData(at),
+            Fault::BadStatus => CheckError::BadStatus(at),
+            Fault::TooMany => CheckError::TooMany(at),
+            Fault::BadName => CheckError::BadName(name, at),
+        }
+    }
+}
+
+/// The first of the findings so far: that of the least place, then of the lowest number, then of the least name.
+#[derive(Debug, Drop)]
+pub struct Best {
+    found: Option<Finding>,
+}
+
+impl Model for Best {
+    ghost use Rattle.std.specs.Prelude.{Option};
+    ghost use Rattle.std.specs.Option.{option_map};
+    ghost use Rattle.wc_syntax.specs.Findings.{Finding};
+    ghost use Rattle.wc_check.specs.Least.{number_of};
+
+    ghost Value = { Option Finding };
+
+    ghost view = { λ b. option_map (λ f. record { number = number_of f.fault; name = f.name; at = f.at }) b.found };
+}
+
+impl Best {
+    /// No finding.
+    pub fn none() -> Best
+        ensures { result ≡ None }
+    {
+        Best { found: None }
+    }
+
+    /// Whether the first so far stands before a place.
+    pub fn is_before(&self, at: u32) -> bool
+        ensures { result ≡ stands_before self.now at }
+    {
+        match &self.found {
+            None => false,
+            Some(found) => found.at < at,
+        }
+    }
+
+    /// Takes the finding, where it comes before the first so far.
+    pub fn offer(
+        &mut self,
+        alloc: Global,
+        fault: Fault,
+        name: &str,
+        at: u32,
+    ) -> Result<(), AllocError>
+        ensures { OnOk result (self.new ≡ lesser self.old (record { number = number_of fault; name = name.now; at = at })) }
+    {
+        let comes_before = match &self.found {
+            None => true,
+            Some(found) => at
+                .cmp(&found.at)
+                .then(fault.number().cmp(&found.fault.number()))
+                .then(name.as_bytes().cmp(&found.name.bytes()))
+                .is_lt(),
+        };
+        if comes_before {
+            let name = Text::of_str(alloc, name)?;
+            self.found = Some(Finding { fault, name, at });
+        }
+        Ok(())
+    }
+
+    /// The refusal that the first finding is, if there is one.
+    pub fn refusal(self) -> Option<CheckError>
+        ensures { SaysBest result self }
+    {
+        let Best { found } = self;
+        match found {
+            None => None,
+            Some(finding) => Some(finding.refusal()),
+        }
+    }
+}

@@ -1,0 +1,25 @@
+//! The rules of a checked library: a library is taken where it meets them, and refused at the first place where it doesn't.
+#![tactic(auto)]
+
+mod best;
+mod called;
+mod calls;
+mod checking;
+mod error;
+mod files;
+mod gather;
+mod heads;
+mod laws;
+mod lengths;
+mod mentions;
+mod names;
+mod parts;
+mod pieces;
+mod repeats;
+mod rules;
+mod scopes;
+mod statuses;
+
+pub use checking::{check, first_finding};
+pub use error::CheckError;
+pub use laws::{first_refusal_is_one, rules_are_kept_where_nothing_is_found};

@@ -1,0 +1,17 @@
+-- A context as the list of its keys with what they hold.
+use Rattle.std.specs.Prelude.{ℕ, List, [], ◌∷◌, Option, Some, None, if◌then◌else◌}
+use Rattle.std.specs.Str.{bytes_eq}
+use Rattle.wc_state.specs.declared.context.CtxRef.{CtxRef}
+
+abbrev pub Pairs : Type 0
+Pairs = List (List ℕ × CtxRef)
+
+-- what a key holds
+abbrev pub found_at : Pairs → List ℕ → Option CtxRef
+found_at [] key = None
+found_at (p ∷ ps) key = if bytes_eq key p.0 then Some p.1 else found_at ps key
+
+-- a key that is there keeps its place, and a new key goes last
+abbrev pub with_set : Pairs → List ℕ → CtxRef → Pairs
+with_set [] key held = (key, held) ∷ []
+with_set (p ∷ ps) key held = if bytes_eq key p.0 then (p.0, held) ∷ ps else p ∷ with_set ps key held

@@ -1,0 +1,52 @@
+//! What an expression is evaluated in.
+
+use wc_value::{Keyed, List, ProcessState, Text, Value};
+
+/// A value and the data node that holds it.
+#[derive(Drop)]
+pub struct NodeValue {
+    /// The number of the node; 0 where there is none, as in a dry run.
+    pub node: u32,
+    /// The value.
+    pub value: Value,
+}
+
+/// Values with their nodes by label, strictly ascending by the bytes of the labels.
+pub type Named = Keyed<NodeValue>;
+
+/// A process that was called.
+#[derive(Drop)]
+pub struct Child {
+    /// The number of its node; 0 in a dry run.
+    pub node: u32,
+    /// The state that it ended in.
+    pub state: ProcessState,
+    /// Its outputs.
+    pub outputs: Named,
+}
+
+/// Called processes, in order of submission.
+pub type Children = List<Child>;
+
+/// What a key of the context holds.
+#[derive(Drop)]
+pub enum Item {
+    /// A value that a step set.
+    Plain(Value),
+    /// One called process.
+    One(Child),
+    /// Several called processes.
+    Many(Children),
+}
+
+/// What the keys of the context hold, in the order in which the keys were first set.
+pub type Items = List<(Text, Item)>;
+
+/// What an expression is evaluated in. In a function only `inputs` is filled.
+#[derive(Drop)]
+pub struct Env {
+    /// The input values by port.
+    pub inputs: Named,
+    /// The context by key.
+    pub ctx: Items,
+}

@@ -1,0 +1,17 @@
+//! What the state of a process is made of.
+#![tactic(auto)]
+
+mod context;
+mod copies;
+mod environment;
+mod record;
+
+pub use context::{Context, CtxRef};
+pub use environment::{Child, Children, Env, Item, Items, Named, NodeValue};
+pub use record::{
+    Await, Awaits, Checkpoint, Frame, Frames, Ids, JobPart, Limits, Outs, Part, ProcessKind,
+    ProcessRecord, Records, Task, What,
+};
+
+#[cfg(test)]
+mod tests;

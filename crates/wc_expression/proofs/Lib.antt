@@ -1,0 +1,12 @@
+pub mod Allowed
+pub mod Bare
+pub mod Cuts
+pub mod Decimals
+pub mod Division
+pub mod Equals
+pub mod Numbers
+pub mod Order
+pub mod Parts
+pub mod Pieces
+pub mod White
+pub mod Within

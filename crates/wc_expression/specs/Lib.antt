@@ -1,0 +1,9 @@
+pub mod Outcomes
+pub mod Whole
+pub mod Texts
+pub mod Equality
+pub mod Contents
+pub mod Environment
+pub mod Operators
+pub mod Val
+pub mod Laws

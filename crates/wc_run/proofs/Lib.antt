@@ -1,0 +1,16 @@
+pub mod Induction
+pub mod Acts
+pub mod Frugal
+pub mod More
+pub mod Clauses
+pub mod Steps
+pub mod Late
+pub mod Labels
+pub mod Leaves
+pub mod Keeps
+pub mod Bare
+pub mod Richer
+pub mod Uncut
+pub mod Rows
+pub mod Calls
+pub mod Places

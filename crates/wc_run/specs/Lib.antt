@@ -1,0 +1,6 @@
+pub mod Tables
+pub mod Statements
+pub mod Run
+pub mod Meaning
+pub mod Laws
+pub mod Places

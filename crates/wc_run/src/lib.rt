@@ -1,0 +1,17 @@
+//! What an outline does, and what a definition means.
+//!
+//! The definitions stand in `specs/`. `run` says what a list of instructions does with an amount of fuel, `meaning` which
+//! tree a definition has for its inputs. They speak of syntax, values, tables of results and lists of kills alone: no process
+//! number, frame, checkpoint, task, retry or cache plays a part in them.
+#![tactic(auto)]
+
+mod context;
+mod laws;
+mod progress;
+
+pub use context::{bind_child, label_of, set_key};
+pub use laws::{
+    first_instruction, fuel, labels_differ, more_rows, no_offsets, one_after_another, passed_stop,
+    rows_of_a_label, without_kills,
+};
+pub use progress::{Answer, Asked, Calls, Flow, Kills, Plan, Planned, Progress, Replayed, Stepped};

@@ -10,7 +10,7 @@ use Rattle.std.specs.declared.cmp.Ordering.TheVariants.{Less, Equal, Greater}
 use Rattle.std.specs.Cmp.Lexicographic.{slice_cmp}
 use Rattle.std.specs.Str.{bytes_eq}
 use Rattle.wc_value.specs.Ascending.{before}
-use Rattle.wc_syntax.specs.Checked.{is_among}
+use Rattle.wc_syntax.specs.Findings.{is_among}
 use Rattle.wc_meaning.specs.Inputs.{lesser, least, least_after, IsLeast}
 
 pub least_after_append : (best : Option (List ℕ)) (xs ys : List (List ℕ)) → least_after best (xs ++ ys) ≡ least_after (least_after best xs) ys

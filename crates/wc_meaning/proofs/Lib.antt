@@ -1,5 +1,9 @@
-pub mod Allowed
-pub mod Numbered
-pub mod Numbers
 pub mod Least
 pub mod Bare
+pub mod Turns
+pub mod Around
+pub mod Rows
+pub mod Requests
+pub mod Alone
+pub mod Steps
+pub mod Ran

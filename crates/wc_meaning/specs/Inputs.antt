@@ -1,11 +1,11 @@
 -- Which inputs of a process are bad, and the least port that has one.
-use Rattle.std.specs.Prelude.{◌≡◌, ℕ, Bool, true, false, not, ◌&&◌, is_none, if◌then◌else◌, List, [], ◌∷◌, ◌++◌, Option, Some, None}
+use Rattle.std.specs.Prelude.{◌≡◌, ℕ, true, false, not, ◌&&◌, is_none, if◌then◌else◌, List, [], ◌∷◌, ◌++◌, Option, Some, None}
+use Rattle.std.specs.List.{AllByRecursion}
 use Rattle.wc_value.specs.Ascending.{before, lookup}
 use Rattle.wc_value.specs.declared.value.Value.{Value}
-use Rattle.std.specs.List.{AllByRecursion}
-use Rattle.wc_syntax.specs.Checked.{is_among}
+use Rattle.wc_syntax.specs.Findings.{is_among}
 use Rattle.wc_syntax.specs.declared.definition.Port.{Port}
-use Rattle.wc_meaning.specs.Calculation.{kind_of_port, fits_port}
+use Rattle.wc_run.specs.Meaning.{is_good}
 
 -- the lesser of the least so far and a name, by their bytes
 abbrev pub lesser : Option (List ℕ) → List ℕ → Option (List ℕ)
@@ -25,14 +25,10 @@ pub record IsLeast (names : List (List ℕ)) (name : List ℕ) : Type 0 where
   pub among : is_among name names ≡ true
   pub first : AllByRecursion (λ n. before n name ≡ false) names
 
--- a port takes an input of its name and kind
-abbrev pub is_good_input : List Port → List ℕ × Value → Bool
-is_good_input ports i = fits_port (kind_of_port i.0 ports) i.1
-
 -- the inputs that no port takes
 abbrev pub wrong_inputs : List Port → List (List ℕ × Value) → List (List ℕ)
 wrong_inputs ports [] = []
-wrong_inputs ports (i ∷ is) = if is_good_input ports i then wrong_inputs ports is else i.0 ∷ wrong_inputs ports is
+wrong_inputs ports (i ∷ is) = if is_good ports i then wrong_inputs ports is else i.0 ∷ wrong_inputs ports is
 
 -- the required ports without an input
 abbrev pub missing_inputs : List Port → List (List ℕ × Value) → List (List ℕ)

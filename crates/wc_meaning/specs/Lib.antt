@@ -1,6 +1,4 @@
-pub mod Outcomes
-pub mod Whole
-pub mod Val
-pub mod Calculation
 pub mod Inputs
-pub mod Meaning
+pub mod Replies
+pub mod Settings
+pub mod Ran

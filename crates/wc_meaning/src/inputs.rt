@@ -1,12 +1,14 @@
 //! Which input of a process is bad.
 
 ghost use Rattle.std.specs.Prelude.{◌≡◌, ℕ, List, [], Some, None};
-ghost use Rattle.wc_meaning.specs.Inputs.{lesser, least, IsLeast, least_after, is_good_input, wrong_inputs, missing_inputs, bad_input};
-ghost use Rattle.wc_syntax.specs.Bare.{bare_function};
+ghost use Rattle.std.specs.List.{list_all};
 ghost use Rattle.std.specs.Option.{option_copied};
+ghost use Rattle.wc_run.specs.Meaning.{is_good};
+ghost use Rattle.wc_meaning.specs.Inputs.{lesser, least, IsLeast, least_after, wrong_inputs, missing_inputs, bad_input};
 
-use crate::calculation::{is_of_kind, port_kind};
-use wc_syntax::{Function, Port};
+use wc_calculation::port_kind;
+use wc_expression::is_of_kind;
+use wc_syntax::Port;
 use wc_value::{Fields, Text, Value};
 
 /// The lesser of the least name so far and a name, by their bytes.
@@ -27,12 +29,24 @@ pub fn lesser_name<'a>(best: Option<&'a Text>, name: &'a Text) -> Option<&'a Tex
 
 /// Whether an input is of a port's kind.
 fn is_good(ports: &[Port], name: &Text, value: &Value) -> bool
-    ensures { result ≡ is_good_input ports.now (name.now, value.now) }
+    ensures { result ≡ is_good ports.now (name.now, value.now) }
 {
     match port_kind(ports, name.bytes()) {
         Some(kind) => is_of_kind(value, kind),
         None => false,
     }
+}
+
+/// Whether each input is of a port's kind.
+pub fn are_good(ports: &[Port], inputs: &Fields) -> bool
+    ensures { result ≡ list_all (is_good ports.now) inputs.now }
+{
+    for (name, value) in inputs.as_slice() {
+        if !is_good(ports, name, value) {
+            return false;
+        }
+    }
+    true
 }
 
 /// The least name among the inputs that no port takes.
@@ -61,20 +75,13 @@ fn least_missing<'a>(best: Option<&'a Text>, ports: &'a [Port], inputs: &Fields)
     best
 }
 
-/// The least of these ports, by the bytes of its name, that has a bad input.
-fn least_bad<'a>(ports: &'a [Port], inputs: &'a Fields) -> Option<&'a Text>
+/// The least port, by the bytes of its name, that has a bad input: a name that isn't a port, a value that isn't of its port's
+/// kind, or a required port without an input. None where all inputs are good.
+pub fn find_bad_input<'a>(ports: &'a [Port], inputs: &'a Fields) -> Option<&'a Text>
     ensures { option_copied result ≡ bad_input ports.entry.now inputs.entry.now }
 {
     let wrong = least_wrong(ports, inputs.as_slice());
     least_missing(wrong, ports, inputs)
-}
-
-/// The least port of a function, by the bytes of its name, that has a bad input: a name that isn't a port, a value
-/// that isn't of its port's kind, or a required port without an input. None where all inputs are good.
-pub fn find_bad_input<'a>(function: &'a Function, inputs: &'a Fields) -> Option<&'a Text>
-    ensures { option_copied result ≡ bad_input (bare_function function.entry.now).head.inputs inputs.entry.now }
-{
-    least_bad(function.head.inputs.as_slice(), inputs)
 }
 
 /// The least of some names is one of them before which none of them stands, and there is one wherever there are names.

@@ -1,22 +1,22 @@
-//! What expressions and calculations mean.
+//! What definitions do: the meaning of a definition as a program.
 //!
-//! The definitions that the calls here are held to stand in `specs/` and speak of bare syntax, values and names
-//! alone: `val`, the value of an expression; `outcome`, the state and outputs of a calculation; `meaning`, the
-//! tree of a process.
+//! `dry` gives the tree that a definition has for its inputs under a table of results. `replay` gives the same at a depth and
+//! with kills, and which results were taken. Both are held to `meaning`, of wc_run.
 #![tactic(auto)]
 
-mod calculation;
-mod dry_run;
-mod environment;
-mod expression;
+mod calculations;
+mod functions;
 mod inputs;
-mod outcome;
-mod whole;
+mod kills;
+mod replies;
+mod run;
+mod statements;
+mod trees;
 
-pub use calculation::{Parsed, calculate, find_function, is_of_kind, port_kind, rules};
-pub use dry_run::{DryError, dry};
-pub use environment::{Child, Children, Env, Item, Items, Named, NodeValue};
-pub use expression::eval;
+pub use calculations::rules;
+pub use functions::{find_definition, head};
 pub use inputs::{find_bad_input, least_name, lesser_name};
-pub use outcome::Outcome;
-pub use whole::read_number;
+pub use replies::{DryError, dry, replay};
+pub use run::mean;
+pub use wc_expression::eval;
+pub use wc_state::{Child, Env, Item};

@@ -1,0 +1,97 @@
+use Rattle.std.proofs.Common.{◌≡◌, ◌+◌, ◌-◌, ◌*◌, ◌<◌, true, List, Some, sym, ap, ◌∙◌, arith}
+use Rattle.wc_syntax.specs.Findings.{definition_named}
+use Rattle.wc_syntax.specs.declared.definition.Definition.TheVariants as definition
+use Rattle.wc_syntax.specs.declared.outline.Block.{size-Block}
+use Rattle.wc_expression.specs.declared.outcome.Outcome.TheVariants.{Gives}
+use Rattle.wc_expression.specs.Val.{holds}
+use Rattle.wc_run.specs.declared.progress.Answer.TheVariants.{Gave}
+use Rattle.wc_run.specs.declared.progress.Replayed.{Replayed}
+use Rattle.wc_run.specs.declared.progress.Stepped.{Stepped}
+use Rattle.wc_run.specs.Tables.{plain, kills_of}
+use Rattle.wc_run.specs.Run.{after, run_block}
+use Rattle.wc_run.specs.Meaning.{meaning}
+use Rattle.wc_run.proofs.Places.{made}
+use Rattle.wc_meaning.specs.Settings.{around_in, widest}
+use Rattle.wc_meaning.proofs.Around.{step_at, called, means_killed, means_function, means_job}
+use Rattle.wc_meaning.proofs.Turns.{turn_goes, turns_end, outline_within, outline_falls}
+use Rattle.wc_meaning.proofs.run.+run.Goals as goal
+
+pub call-returns : goal.call-returns
+call-returns t c =
+    let s = c.args.setting.now in
+    let p = c.args.planned.now in
+    made c.mean.result _ _ c.mean.ensures
+    (ap (λ (ks : List _). meaning (s.levels - 1) s.library.now (plain s.table.now) (kills_of ks) c.args.fuel p.callee p.inputs) c.in_ok-kills.ensures
+    ∙ sym (called s c.args.label.now c.args.fuel p.callee p.inputs (omega arith)))
+
+pub mean-returns-in-Some-eq0 : goal.mean-returns-in-Some-eq0
+mean-returns-in-Some-eq0 t c =
+    let a = c.args in
+    let h : c.find_kill-stop.result ≡ Some 0 = cc in
+    ap (λ (r : Replayed). Gave r a.fuel) c.in_ok-killed_first.ensures
+    ∙ means_killed a.levels a.library.now a.table.now a.kills.now a.fuel a.name.now a.inputs.now c.find_kill-stop.result c.find_kill-stop.ensures h
+
+pub mean-mean_chain-requires : goal.mean-mean_chain-requires
+mean-mean_chain-requires t c =
+    let a = c.args in
+    let chain = c.in-Some-Chain.chain in
+    let p : definition_named a.name.now a.library.now ≡ Some (definition.Chain chain) = sym c.in-Some-Chain.ensures ∙ ap Some c.in-Some-Chain.field-0-is in
+    let fall : a.levels * widest a.library.now + (2 * size-Block chain.outline + 6) < (a.levels + 1) * widest a.library.now
+    = outline_falls a.levels (size-Block chain.outline) (widest a.library.now) (outline_within a.name.now a.library.now chain p) in
+    (omega (arith, fall, c.decreases), tt)
+
+pub mean-returns-in-None-stop : goal.mean-returns-in-None-stop
+mean-returns-in-None-stop t c =
+    let a = c.args in
+    made c.mean_function.result _ _ c.mean_function.ensures
+    (means_function a.levels a.library.now a.table.now a.kills.now a.fuel a.name.now a.inputs.now c.in-Some-Function.function
+    (sym c.in-None-stop.is ∙ c.find_kill-stop.ensures) (sym (ap Some c.in-Some-Function.field-0-is) ∙ c.in-Some-Function.ensures))
+
+pub mean-returns-in-None-stop-2 : goal.mean-returns-in-None-stop-2
+mean-returns-in-None-stop-2 t c =
+    let a = c.args in
+    made c.mean_job.result _ _ c.mean_job.ensures
+    (means_job a.levels a.library.now a.table.now a.kills.now a.fuel a.name.now a.inputs.now c.in-Some-Job.job
+    (sym c.in-None-stop-2.is ∙ c.find_kill-stop.ensures) (sym (ap Some c.in-Some-Job.field-0-is) ∙ c.in-Some-Job.ensures))
+
+pub run_loop-returns-in-Ends : goal.run_loop-returns-in-Ends
+run_loop-returns-in-Ends t c =
+    let p : holds c.args.condition.now c.loop-turn.now.env ≡ Gives true = cc c.in_ok-eval_condition.ensures in
+    turn_goes c.args.fuel c.loop-turn._turn c.args.condition.now (run_block c.args.body.now) (around_in c.args.setting.now) c.loop-turn.left c.loop-turn.now _ _
+    c.loop-turn-test.true p c.if-left-eq0.false (sym c.in_ok-fuel.ensures ∙ c.in-Ends.is) c.loop-turn.invariant
+
+pub run_loop-returns-in-NoFuel : goal.run_loop-returns-in-NoFuel
+run_loop-returns-in-NoFuel t c =
+    let p : holds c.args.condition.now c.loop-turn.now.env ≡ Gives true = cc c.in_ok-eval_condition.ensures in
+    turn_goes c.args.fuel c.loop-turn._turn c.args.condition.now (run_block c.args.body.now) (around_in c.args.setting.now) c.loop-turn.left c.loop-turn.now _ _
+    c.loop-turn-test.true p c.if-left-eq0.false (sym c.in_ok-fuel.ensures ∙ c.in-NoFuel.is) c.loop-turn.invariant
+
+pub run_loop-returns-in-Lacks : goal.run_loop-returns-in-Lacks
+run_loop-returns-in-Lacks t c =
+    let p : holds c.args.condition.now c.loop-turn.now.env ≡ Gives true = cc c.in_ok-eval_condition.ensures in
+    turn_goes c.args.fuel c.loop-turn._turn c.args.condition.now (run_block c.args.body.now) (around_in c.args.setting.now) c.loop-turn.left c.loop-turn.now _ _
+    c.loop-turn-test.true p c.if-left-eq0.false (sym c.in_ok-fuel.ensures ∙ c.in-Lacks.is) c.loop-turn.invariant
+
+pub run_loop-returns-in-Off : goal.run_loop-returns-in-Off
+run_loop-returns-in-Off t c =
+    let p : holds c.args.condition.now c.loop-turn.now.env ≡ Gives true = cc c.in_ok-eval_condition.ensures in
+    turn_goes c.args.fuel c.loop-turn._turn c.args.condition.now (run_block c.args.body.now) (around_in c.args.setting.now) c.loop-turn.left c.loop-turn.now _ _
+    c.loop-turn-test.true p c.if-left-eq0.false (sym c.in_ok-fuel.ensures ∙ c.in-Off.is) c.loop-turn.invariant
+
+pub run_loop-loop-turn-preserved : goal.run_loop-loop-turn-preserved
+run_loop-loop-turn-preserved t c =
+    let p : holds c.args.condition.now c.loop-turn.now.env ≡ Gives true = cc c.in_ok-eval_condition.ensures in
+    turn_goes c.args.fuel c.loop-turn._turn c.args.condition.now (run_block c.args.body.now) (around_in c.args.setting.now) c.loop-turn.left c.loop-turn.now _ _
+    c.loop-turn-test.true p c.if-left-eq0.false (sym c.in_ok-fuel.ensures ∙ c.in-Goes.is) c.loop-turn.invariant
+
+pub run_loop-returns-in-Faults-2 : goal.run_loop-returns-in-Faults-2
+run_loop-returns-in-Faults-2 t c =
+    turns_end c.args.fuel c.loop-turn._turn c.args.condition.now (run_block c.args.body.now) (around_in c.args.setting.now) c.loop-turn.left c.loop-turn.now _ _
+    (omega arith) (sym c.in_ok-eval_condition-2.ensures ∙ c.in-Faults-2.is) c.loop-turn.invariant
+
+pub run_step-returns-in-Makes : goal.run_step-returns-in-Makes
+run_step-returns-in-Makes t c =
+    let a = c.args in
+    made c.make_calls.result _ _ c.make_calls.ensures
+    (sym (step_at a.setting.now a.stmts.now a.fuel a.progress
+    ∙ ap (λ (x : Stepped). after x (around_in a.setting.now) a.fuel a.progress) (sym c.in_ok-state.ensures ∙ c.in-Makes.is)))

@@ -1,0 +1,9 @@
+//! Values as JSON.
+#![tactic(auto)]
+
+mod writing;
+
+pub use writing::to_json;
+
+#[cfg(test)]
+mod tests;

@@ -5,7 +5,7 @@ use Rattle.wc_value.specs.declared.value.Value.{Value}
 use Rattle.wc_syntax.specs.declared.definition.Port.{Port}
 use Rattle.wc_syntax.specs.Bare.{bare_port}
 use Rattle.wc_meaning.specs.Inputs.{least}
-use Rattle.wc_meaning.proofs.Bare.{kind_bare}
+use Rattle.wc_calculation.proofs.Bare.{kind_bare}
 use Rattle.wc_engine.specs.Given.{value_of_kind, given_value, unread, times_given, is_ill, ill_given, bad_given, with_field, fields_of}
 
 given_bare : (ps : List Port) (g : List ℕ × List ℕ) → given_value (map bare_port ps) g ≡ given_value ps g

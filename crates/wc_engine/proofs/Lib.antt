@@ -1,3 +1,4 @@
-pub mod Goods
 pub mod Bares
+pub mod Means
 pub mod Once
+pub mod Valid

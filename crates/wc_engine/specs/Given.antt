@@ -7,9 +7,10 @@ use Rattle.wc_value.specs.declared.value.Kind.TheVariants as kind
 use Rattle.wc_value.specs.declared.value.Value.{Value}
 use Rattle.wc_value.specs.declared.value.Value.TheVariants as value
 use Rattle.wc_syntax.specs.declared.definition.Port.{Port}
-use Rattle.wc_meaning.specs.Calculation.{kind_of_port}
+use Rattle.wc_expression.specs.Val.{is_allowed}
+use Rattle.wc_expression.specs.Whole.{number_of}
+use Rattle.wc_calculation.specs.Rules.{kind_of_port}
 use Rattle.wc_meaning.specs.Inputs.{least}
-use Rattle.wc_meaning.specs.Whole.{number_of}
 
 abbrev pub bool_in_words : List ℕ → Option Bool
 bool_in_words text = if bytes_eq text (codes "true") then Some true else if bytes_eq text (codes "false") then Some false else None
@@ -23,9 +24,14 @@ value_in_words kind.List text = None
 value_in_words kind.Dict text = None
 value_in_words kind.Folder text = None
 
+-- a value that is within the limits
+abbrev pub allowed : Option Value → Option Value
+allowed None = None
+allowed (Some v) = if is_allowed v then Some v else None
+
 abbrev pub value_of_kind : Option Kind → List ℕ → Option Value
 value_of_kind None text = None
-value_of_kind (Some k) text = value_in_words k text
+value_of_kind (Some k) text = allowed (value_in_words k text)
 
 -- the value that a word gives to the port that it names
 abbrev pub given_value : List Port → List ℕ × List ℕ → Option Value

@@ -1,54 +1,63 @@
 -- The texts that the program writes.
-use Rattle.std.specs.Prelude.{ℕ, List, [], ◌∷◌, ◌++◌, flat_map, codes}
-use Rattle.std.specs.Fmt.{decimal, signed_decimal}
-use Rattle.wc_value.specs.declared.process.ProcessState.{ProcessState}
-use Rattle.wc_value.specs.declared.process.ProcessState.TheVariants as state
-use Rattle.wc_value.specs.declared.process.Reason.{Reason}
-use Rattle.wc_value.specs.declared.process.Reason.TheVariants as reason
-use Rattle.wc_value.specs.declared.process.Tree.{Tree, out-Tree}
-use Rattle.wc_value.specs.declared.value.Value.{Value, out-Value}
-use Rattle.wc_value.specs.declared.value.Value.TheOpen.{Value-F}
+use Rattle.std.specs.Prelude.{ℕ, List, [], ◌∷◌, ◌++◌, length, codes}
+use Rattle.std.specs.Fmt.{decimal}
+use Rattle.wc_lexer.specs.declared.error.LexError.{LexError}
+use Rattle.wc_lexer.specs.declared.error.LexError.TheVariants as lex
+use Rattle.wc_syntax.specs.declared.definition.Definition.{Definition}
+use Rattle.wc_parser.specs.declared.error.ParseError.{ParseError}
+use Rattle.wc_parser.specs.declared.error.ParseError.TheVariants as parse
+use Rattle.wc_check.specs.declared.error.CheckError.{CheckError}
+use Rattle.wc_check.specs.declared.error.CheckError.TheVariants as check
 use Rattle.wc_engine.specs.declared.status.Cause.{Cause}
 use Rattle.wc_engine.specs.declared.status.Cause.TheVariants as cause
 
-abbrev pub reason_text : Reason → List ℕ
-reason_text reason.Overflow = codes "overflow"
-reason_text reason.DivideByZero = codes "division by zero"
-reason_text reason.MissingKey = codes "missing key"
-reason_text reason.WrongKind = codes "wrong kind"
-reason_text reason.NoOutput = codes "no such output"
-reason_text reason.BadText = codes "bad text"
-reason_text reason.TooLong = codes "too long"
-reason_text reason.Depth = codes "depth"
-reason_text reason.BadInput = codes "bad input"
+-- a text, and a place behind it
+abbrev pub at_place : List ℕ → ℕ → List ℕ
+at_place text at = text ++ codes " at " ++ decimal at
 
-abbrev pub state_text : ProcessState → List ℕ
-state_text state.Created = codes "created"
-state_text state.Running = codes "running"
-state_text state.Waiting = codes "waiting"
-state_text (state.Finished n) = codes "finished " ++ decimal n
-state_text (state.Excepted r) = codes "excepted " ++ reason_text r
-state_text state.Killed = codes "killed"
+-- a text, a name, and a place
+abbrev pub at_name : List ℕ → List ℕ → ℕ → List ℕ
+at_name text name at = at_place (text ++ codes " " ++ name) at
 
--- the line of an output that is a whole number: its label, its kind and its decimal form; any other value has no line yet
-abbrev pub seen_line : List ℕ → Value-F Value → List ℕ
-seen_line label (Value-F.Int n) = label ++ codes " int " ++ signed_decimal n ++ 10 ∷ []
-seen_line label _ = []
+abbrev pub lex_text : LexError → List ℕ
+lex_text lex.OutOfMemory = codes "out of memory"
+lex_text (lex.BadChar at) = at_place (codes "bad character") at
+lex_text (lex.OpenText at) = at_place (codes "open text") at
+lex_text (lex.WideNumber at) = at_place (codes "wide number") at
 
-abbrev pub output_line : List ℕ × Value → List ℕ
-output_line o = seen_line o.0 (out-Value o.1)
+abbrev pub parse_text : ParseError → List ℕ
+parse_text parse.OutOfMemory = codes "out of memory"
+parse_text parse.TooLong = codes "too long"
+parse_text (parse.Lex e) = lex_text e
+parse_text (parse.TooDeep at) = at_place (codes "too deep") at
+parse_text (parse.Unexpected at) = at_place (codes "unexpected") at
+parse_text parse.EndOfText = codes "end of text"
 
-abbrev pub output_lines : List (List ℕ × Value) → List ℕ
-output_lines outputs = flat_map output_line outputs
-
--- a tree that calls nothing: its state, and then its outputs, each on a line
-abbrev pub tree_text : Tree → List ℕ
-tree_text t = state_text (out-Tree t).state ++ 10 ∷ output_lines (out-Tree t).outputs
+abbrev pub check_text : CheckError → List ℕ
+check_text (check.Twice name at) = at_name (codes "twice") name at
+check_text (check.Unknown name at) = at_name (codes "unknown") name at
+check_text (check.PortMissing name at) = at_name (codes "port missing") name at
+check_text (check.PortUnknown name at) = at_name (codes "port unknown") name at
+check_text (check.NotData at) = at_place (codes "not data") at
+check_text (check.BadStatus at) = at_place (codes "bad status") at
+check_text (check.TooMany at) = at_place (codes "too many") at
+check_text (check.BadName name at) = at_name (codes "bad name") name at
+check_text check.OutOfMemory = codes "out of memory"
 
 abbrev pub cause_text : Cause → List ℕ
 cause_text cause.Words = codes "words"
-cause_text cause.FirstForm = codes "first form"
+cause_text (cause.NoFile file) = codes "no file " ++ file
+cause_text (cause.NotUtf8 file) = codes "not utf-8 " ++ file
+cause_text (cause.Parse e) = parse_text e
+cause_text (cause.Check e) = check_text e
+cause_text (cause.Name name) = codes "unknown name " ++ name
 cause_text (cause.BadInput port) = codes "bad input " ++ port
+cause_text (cause.NoAnswer program) = codes "no answer " ++ program
+cause_text cause.Fuel = codes "fuel"
 
 abbrev pub refusal_text : Cause → List ℕ
 refusal_text c = codes "refused: " ++ cause_text c ++ 10 ∷ []
+
+-- how many definitions a library has
+abbrev pub definitions_text : List Definition → List ℕ
+definitions_text library = codes "definitions " ++ decimal (length library) ++ 10 ∷ []

@@ -3,13 +3,22 @@
 ghost use Rattle.std.specs.Prelude.{◌≡◌, [], IfOk};
 ghost use Rattle.std.specs.Option.{option_copied};
 ghost use Rattle.wc_meaning.specs.Inputs.{least_after};
-ghost use Rattle.wc_engine.specs.Given.{bool_in_words, value_in_words, given_value, times_given, unread, ill_given, bad_given, fields_of};
+ghost use Rattle.wc_expression.specs.Val.{is_allowed};
+ghost use Rattle.wc_engine.specs.Given.{bool_in_words, value_in_words, allowed, given_value, times_given, unread, ill_given, bad_given, fields_of};
 
-use crate::command::Given;
 use std::alloc::{AllocError, Global};
-use wc_meaning::{lesser_name, port_kind, read_number};
+use wc_calculation::port_kind;
+use wc_cli::Given;
+use wc_expression::read_number;
+use wc_meaning::lesser_name;
 use wc_syntax::Port;
-use wc_value::{Duplicate, Fields, Kind, Text, Value};
+use wc_value::{Duplicate, Fields, Kind, Text, Value, is_within};
+
+/// The most canonical bytes of a value in words.
+const MOST_BYTES: usize = 4_194_304;
+
+/// The most levels of a value in words.
+const MOST_LEVELS: u32 = 32;
 
 /// The truth value that a text writes, if it writes one.
 fn bool_of(text: &str) -> Option<bool>
@@ -40,12 +49,35 @@ fn value_of(kind: Kind, text: &Text) -> Result<Option<Value>, AllocError>
     }
 }
 
-/// The value that a word gives to its port, if there is such a port and the word writes a value of its kind.
+/// Whether a value is within the limits.
+fn is_allowed(value: &Value) -> bool
+    ensures { result ≡ is_allowed value.now }
+{
+    is_within(value, MOST_BYTES, MOST_LEVELS)
+}
+
+/// The value, if it is within the limits.
+fn allowed(value: Option<Value>) -> Option<Value>
+    ensures { result ≡ allowed value }
+{
+    match value {
+        Some(value) => {
+            if is_allowed(&value) {
+                Some(value)
+            } else {
+                None
+            }
+        }
+        None => None,
+    }
+}
+
+/// The value that a word gives to its port, if there is such a port and the word writes a value of its kind within the limits.
 fn value_given(ports: &[Port], given: &Given) -> Result<Option<Value>, AllocError>
     ensures { IfOk result (λ v. v ≡ given_value ports.now given.now) }
 {
     match port_kind(ports, given.0.bytes()) {
-        Some(kind) => value_of(kind, &given.1),
+        Some(kind) => Ok(allowed(value_of(kind, &given.1)?)),
         None => Ok(None),
     }
 }

@@ -41,8 +41,9 @@ fn finish<W: Sink>(sink: &mut W, reply: Reply) -> Status
 /// Does what the words say, with the files of the shelf, and writes one text to the sink.
 ///
 /// What comes first of these is the status, where neither memory runs out nor a file or the sink fails: the words are
-/// no command; the file isn't there, isn't of the first form, or doesn't define the name; a port is given badly, of
-/// which the least is named; else the definition's tree is written.
+/// no command; the file isn't there, isn't UTF-8, stands for no library, or its library breaks a rule; and for `dry`: the
+/// library doesn't define the name; a port is given badly, of which the least is named; no result is known of a job, or
+/// the fuel doesn't suffice. Else the text of the command is written.
 pub fn serve<R: Shelf, W: Sink>(alloc: Global, words: &Words, shelf: &mut R, sink: &mut W) -> Status
     // The tree that is owed was written whole.
     ensures ok { result ≡ Status.Ok → (r : AReply) × IsOwed (R.contents shelf.old) words.now r × (r.cause ≡ None) × Writes r.text (W.taken sink.old) (W.taken sink.new) }

@@ -1,6 +1,8 @@
 ghost use Rattle.std.specs.Prelude.{◌≡◌};
 ghost use Rattle.wc_engine.specs.Owed.{code_of};
 
+use wc_check::CheckError;
+use wc_parser::ParseError;
 use wc_value::Text;
 
 /// Why a command was refused.
@@ -8,10 +10,22 @@ use wc_value::Text;
 pub enum Cause {
     /// The words are no command.
     Words,
-    /// The file isn't there, isn't of the first form, or doesn't define the name.
-    FirstForm,
+    /// There is no file of this name.
+    NoFile(Text),
+    /// The file of this name isn't UTF-8.
+    NotUtf8(Text),
+    /// The file's text stands for no library.
+    Parse(ParseError),
+    /// The file's library breaks a rule of checked libraries.
+    Check(CheckError),
+    /// The library has no definition of this name.
+    Name(Text),
     /// The least port that is given badly.
     BadInput(Text),
+    /// No result is known of the first job that was asked for one; this is its program.
+    NoAnswer(Text),
+    /// The fuel doesn't suffice.
+    Fuel,
 }
 
 /// How a call of the program ended.

@@ -1,80 +1,78 @@
-//! The texts that the program writes.
+//! The lines that the program writes of itself.
 
-ghost use Rattle.std.specs.Prelude.{◌≡◌, ◌++◌, IfOk, OnOk, string_bytes};
-ghost use Rattle.wc_value.specs.declared.process.Tree.{out-Tree};
-ghost use Rattle.wc_engine.specs.Texts.{reason_text, state_text, output_line, output_lines, tree_text, cause_text, refusal_text};
+ghost use Rattle.std.specs.Prelude.{◌≡◌, ◌∷◌, ◌++◌, [], IfOk, codes, string_bytes};
+ghost use Rattle.std.specs.Fmt.{decimal};
+ghost use Rattle.wc_engine.specs.Texts.{at_place, at_name, lex_text, parse_text, check_text, cause_text, refusal_text};
 
 use crate::status::Cause;
 use std::alloc::{AllocError, Global};
-use wc_value::{Fields, ProcessState, Reason, Text, Tree, Value};
+use wc_check::CheckError;
+use wc_lexer::LexError;
+use wc_parser::ParseError;
+use wc_value::Text;
 
-/// What a reason is called.
-fn reason_name(reason: Reason) -> &'static str
-    ensures { result.now ≡ reason_text reason }
+/// A text, and a place behind it.
+fn placed(alloc: Global, text: &str, at: u32) -> Result<String, AllocError>
+    ensures { IfOk result (λ line. string_bytes line ≡ at_place text.now at) }
 {
-    match reason {
-        Reason::Overflow => "overflow",
-        Reason::DivideByZero => "division by zero",
-        Reason::MissingKey => "missing key",
-        Reason::WrongKind => "wrong kind",
-        Reason::NoOutput => "no such output",
-        Reason::BadText => "bad text",
-        Reason::TooLong => "too long",
-        Reason::Depth => "depth",
-        Reason::BadInput => "bad input",
+    let place = format!(in alloc; "{at}")?;
+    let mut line = String::from_str(alloc, text)?;
+    line.push_str(" at ")?;
+    line.push_str(place.as_str())?;
+    Ok(line)
+}
+
+/// A text, a name, and a place behind them.
+fn named(alloc: Global, text: &str, name: &Text, at: u32) -> Result<String, AllocError>
+    ensures { IfOk result (λ line. string_bytes line ≡ at_name text.now name.now at) }
+{
+    let mut line = String::from_str(alloc, text)?;
+    line.push_str(" ")?;
+    line.push_str(name.as_str())?;
+    placed(alloc, line.as_str(), at)
+}
+
+/// What a refusal of the tokens is called.
+fn lex_name(alloc: Global, error: LexError) -> Result<String, AllocError>
+    ensures { IfOk result (λ line. string_bytes line ≡ lex_text error) }
+{
+    match error {
+        LexError::OutOfMemory => String::from_str(alloc, "out of memory"),
+        LexError::BadChar(at) => placed(alloc, "bad character", at),
+        LexError::OpenText(at) => placed(alloc, "open text", at),
+        LexError::WideNumber(at) => placed(alloc, "wide number", at),
     }
 }
 
-/// What a state is called.
-fn state_name(alloc: Global, state: ProcessState) -> Result<String, AllocError>
-    ensures { IfOk result (λ text. string_bytes text ≡ state_text state) }
+/// What a refusal of the parser is called.
+fn parse_name(alloc: Global, error: ParseError) -> Result<String, AllocError>
+    ensures { IfOk result (λ line. string_bytes line ≡ parse_text error) }
 {
-    match state {
-        ProcessState::Created => String::from_str(alloc, "created"),
-        ProcessState::Running => String::from_str(alloc, "running"),
-        ProcessState::Waiting => String::from_str(alloc, "waiting"),
-        ProcessState::Finished(status) => format!(in alloc; "finished {status}"),
-        ProcessState::Excepted(reason) => format!(in alloc; "excepted {}", reason_name(reason)),
-        ProcessState::Killed => String::from_str(alloc, "killed"),
+    match error {
+        ParseError::OutOfMemory => String::from_str(alloc, "out of memory"),
+        ParseError::TooLong => String::from_str(alloc, "too long"),
+        ParseError::Lex(error) => lex_name(alloc, error),
+        ParseError::TooDeep(at) => placed(alloc, "too deep", at),
+        ParseError::Unexpected(at) => placed(alloc, "unexpected", at),
+        ParseError::EndOfText => String::from_str(alloc, "end of text"),
     }
 }
 
-/// Writes the line of an output that is a whole number.
-fn put_output(
-    alloc: Global,
-    out: &mut String,
-    label: &Text,
-    value: &Value,
-) -> Result<(), AllocError>
-    ensures { OnOk result (string_bytes out.new ≡ string_bytes out.old ++ output_line (label.now, value.now)) }
+/// What a refusal of the checker is called.
+fn check_name(alloc: Global, error: &CheckError) -> Result<String, AllocError>
+    ensures { IfOk result (λ line. string_bytes line ≡ check_text error.now) }
 {
-    match value {
-        Value::Int(n) => {
-            let line = format!(in alloc; "{} int {n}\n", label.as_str())?;
-            out.push_str(line.as_str())
-        }
-        _ => Ok(()),
+    match error {
+        CheckError::Twice(name, at) => named(alloc, "twice", name, *at),
+        CheckError::Unknown(name, at) => named(alloc, "unknown", name, *at),
+        CheckError::PortMissing(name, at) => named(alloc, "port missing", name, *at),
+        CheckError::PortUnknown(name, at) => named(alloc, "port unknown", name, *at),
+        CheckError::NotData(at) => placed(alloc, "not data", *at),
+        CheckError::BadStatus(at) => placed(alloc, "bad status", *at),
+        CheckError::TooMany(at) => placed(alloc, "too many", *at),
+        CheckError::BadName(name, at) => named(alloc, "bad name", name, *at),
+        CheckError::OutOfMemory => String::from_str(alloc, "out of memory"),
     }
-}
-
-/// Writes the lines of the outputs.
-fn put_outputs(alloc: Global, out: &mut String, outputs: &Fields) -> Result<(), AllocError>
-    ensures { OnOk result (string_bytes out.new ≡ string_bytes out.old ++ output_lines outputs.now) }
-{
-    for (label, value) in outputs.as_slice() {
-        put_output(alloc, out, label, value)?;
-    }
-    Ok(())
-}
-
-/// The text of a tree that calls nothing: its state, and a line for each output, by the bytes of their labels.
-pub fn tree_lines(alloc: Global, tree: &Tree) -> Result<Text, AllocError>
-    ensures { IfOk result (λ text. text ≡ tree_text tree.now) }
-{
-    let mut out = state_name(alloc, tree.state)?;
-    out.push_str("\n")?;
-    put_outputs(alloc, &mut out, &tree.outputs)?;
-    Text::of_string(out)
 }
 
 /// What a cause is called.
@@ -83,8 +81,14 @@ fn cause_name(alloc: Global, cause: &Cause) -> Result<String, AllocError>
 {
     match cause {
         Cause::Words => String::from_str(alloc, "words"),
-        Cause::FirstForm => String::from_str(alloc, "first form"),
+        Cause::NoFile(file) => format!(in alloc; "no file {}", file.as_str()),
+        Cause::NotUtf8(file) => format!(in alloc; "not utf-8 {}", file.as_str()),
+        Cause::Parse(error) => parse_name(alloc, *error),
+        Cause::Check(error) => check_name(alloc, error),
+        Cause::Name(name) => format!(in alloc; "unknown name {}", name.as_str()),
         Cause::BadInput(port) => format!(in alloc; "bad input {}", port.as_str()),
+        Cause::NoAnswer(program) => format!(in alloc; "no answer {}", program.as_str()),
+        Cause::Fuel => String::from_str(alloc, "fuel"),
     }
 }
 
@@ -94,4 +98,11 @@ pub fn refusal_line(alloc: Global, cause: &Cause) -> Result<Text, AllocError>
 {
     let name = cause_name(alloc, cause)?;
     Text::of_string(format!(in alloc; "refused: {}\n", name.as_str())?)
+}
+
+/// The line that says how many definitions a library has.
+pub fn definitions_line(alloc: Global, count: usize) -> Result<Text, AllocError>
+    ensures { IfOk result (λ text. text ≡ codes "definitions " ++ decimal count ++ 10 ∷ []) }
+{
+    Text::of_string(format!(in alloc; "definitions {count}\n")?)
 }

@@ -42,20 +42,30 @@ const CASES: [(&str, &str, u8, &str); 35] = [
     ("dry add.wcf add x=2", ADD, 1, "refused: bad input y\n"),
     ("dry add.wcf add y=+3 z=1", ADD, 1, "refused: bad input x\n"),
     ("dry add.wcf add y= x=1", ADD, 1, "refused: bad input y\n"),
-    ("dry add.wcf sub x=2 y=3", ADD, 1, "refused: first form\n"),
-    ("dry no.wcf add x=2 y=3", ADD, 1, "refused: first form\n"),
+    (
+        "dry add.wcf sub x=2 y=3",
+        ADD,
+        1,
+        "refused: unknown name sub\n",
+    ),
+    (
+        "dry no.wcf add x=2 y=3",
+        ADD,
+        1,
+        "refused: no file no.wcf\n",
+    ),
     (
         "dry add.wcf add x=2 y=3",
         "calcjob",
         1,
-        "refused: first form\n",
+        "refused: end of text\n",
     ),
-    ("dry add.wcf add", "", 1, "refused: first form\n"),
+    ("dry add.wcf add", "", 1, "refused: unknown name add\n"),
     ("frobnicate", ADD, 1, "refused: words\n"),
     ("", ADD, 1, "refused: words\n"),
     ("dry add.wcf", ADD, 1, "refused: words\n"),
     ("dry add.wcf add x", ADD, 1, "refused: words\n"),
-    ("dry add.wcf add --fuel 5", ADD, 1, "refused: words\n"),
+    ("dry add.wcf add --fuel 5", ADD, 1, "refused: bad input x\n"),
     ("--help", ADD, 1, "refused: words\n"),
     (
         "dry add.wcf none",
@@ -85,7 +95,7 @@ const CASES: [(&str, &str, u8, &str); 35] = [
         "dry add.wcf add x=1",
         "calcfunction add(x: int) -> (y: int) { out y = z; }",
         1,
-        "refused: first form\n",
+        "refused: unknown z at 47\n",
     ),
     (
         "dry add.wcf add x=-9223372036854775808 y=0",
@@ -132,7 +142,7 @@ const CASES: [(&str, &str, u8, &str); 35] = [
         "refused: bad input x\n",
     ),
     ("dry no.wcf add -x=2", ADD, 1, "refused: words\n"),
-    ("dry add.wcf sub z=1", ADD, 1, "refused: first form\n"),
+    ("dry add.wcf sub z=1", ADD, 1, "refused: unknown name sub\n"),
 ];
 
 #[test]
@@ -191,7 +201,7 @@ fn a_sink_that_takes_one_byte_in_a_call(rt: HostRuntime) -> Result<(), Fail> {
 fn statuses_have_their_codes(rt: HostRuntime) -> Result<(), Fail> {
     assert_eq!(rt; Status::Ok.code(), 0);
     assert_eq!(rt; Status::Refused(Cause::Words).code(), 1);
-    assert_eq!(rt; Status::Refused(Cause::FirstForm).code(), 1);
+    assert_eq!(rt; Status::Refused(Cause::Fuel).code(), 1);
     let port = Text::of_str(rt.alloc(), "x")?;
     assert_eq!(rt; Status::Refused(Cause::BadInput(port)).code(), 1);
     assert_eq!(rt; Status::OutOfMemory.code(), 2);

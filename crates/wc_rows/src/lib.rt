@@ -3,9 +3,15 @@
 #![tactic(auto)]
 
 #[cfg(test)]
+mod chains;
+#[cfg(test)]
+mod check;
+#[cfg(test)]
 mod dry;
 #[cfg(test)]
-mod evaluation;
+mod files;
+#[cfg(test)]
+mod functions;
 #[cfg(test)]
 mod session;
 #[cfg(test)]

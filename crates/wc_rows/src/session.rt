@@ -28,17 +28,27 @@ pub fn words(alloc: Global, line: &str) -> Result<Words, AllocError> {
 }
 
 /// A shelf with one file, of which these calls fail.
+pub fn shelf_of(
+    alloc: Global,
+    name: &str,
+    content: &[u8],
+    failing: &[u64],
+) -> Result<MemoryShelf, AllocError> {
+    let mut bytes: Bytes = List::new(alloc);
+    bytes.extend(content)?;
+    let mut files = Files::new(alloc);
+    files.set(Text::of_str(alloc, name)?, bytes)?;
+    Ok(MemoryShelf::new(files, numbers(alloc, failing)?))
+}
+
+/// A shelf with one text.
 pub fn shelf(
     alloc: Global,
     name: &str,
     content: &str,
     failing: &[u64],
 ) -> Result<MemoryShelf, AllocError> {
-    let mut bytes: Bytes = List::new(alloc);
-    bytes.extend(content.as_bytes())?;
-    let mut files = Files::new(alloc);
-    files.set(Text::of_str(alloc, name)?, bytes)?;
-    Ok(MemoryShelf::new(files, numbers(alloc, failing)?))
+    shelf_of(alloc, name, content.as_bytes(), failing)
 }
 
 /// A sink that takes one byte in a call.
@@ -69,13 +79,18 @@ pub struct Ended {
     pub text: Vec<u8>,
 }
 
-/// Calls the program with the words of a line, on a shelf with one file.
-pub fn call(alloc: Global, line: &str, content: &str) -> Result<Ended, Fail> {
-    let mut shelf = shelf(alloc, "add.wcf", content, &[])?;
+/// Calls the program with the words of a line, on a shelf with one file of these bytes.
+pub fn call_bytes(alloc: Global, line: &str, content: &[u8]) -> Result<Ended, Fail> {
+    let mut shelf = shelf_of(alloc, "add.wcf", content, &[])?;
     let mut sink = MemorySink::new(alloc, numbers(alloc, &[])?);
     let status = serve(alloc, &words(alloc, line)?, &mut shelf, &mut sink);
     Ok(Ended {
         status,
         text: sink.bytes().to_vec(alloc)?,
     })
+}
+
+/// Calls the program with the words of a line, on a shelf with one text.
+pub fn call(alloc: Global, line: &str, content: &str) -> Result<Ended, Fail> {
+    call_bytes(alloc, line, content.as_bytes())
 }

@@ -16,3 +16,6 @@ pub use error::GraphError;
 pub use graph::{Graph, Links, Nodes};
 pub use link::{Link, LinkType};
 pub use node::NodeKind;
+pub use rules::{
+    enters, is_call, leaves, shares_called, shares_created, takes_label, takes_triple,
+};

@@ -7,7 +7,7 @@ use crate::link::{Link, LinkType};
 use crate::node::NodeKind;
 
 /// Whether links of this type leave nodes of this kind.
-fn leaves(link: LinkType, kind: &NodeKind) -> bool
+pub fn leaves(link: LinkType, kind: &NodeKind) -> bool
     ensures { IsTrue result ↔ Leaves link kind.now }
 {
     match link {
@@ -20,7 +20,7 @@ fn leaves(link: LinkType, kind: &NodeKind) -> bool
 }
 
 /// Whether links of this type enter nodes of this kind.
-fn enters(link: LinkType, kind: &NodeKind) -> bool
+pub fn enters(link: LinkType, kind: &NodeKind) -> bool
     ensures { IsTrue result ↔ Enters link kind.now }
 {
     match link {
@@ -36,7 +36,8 @@ fn same_label(a: &Link, b: &Link) -> bool
     a.label.bytes() == b.label.bytes()
 }
 
-fn takes_triple(a: &Link, b: &Link) -> bool
+/// Whether a link, beside an earlier one, breaks the rule on triples of its type.
+pub fn takes_triple(a: &Link, b: &Link) -> bool
     ensures { IsTrue result ↔ TakesTriple b.now.link a.now b.now }
 {
     b.link != LinkType::Create
@@ -46,7 +47,8 @@ fn takes_triple(a: &Link, b: &Link) -> bool
         && same_label(a, b)
 }
 
-fn takes_label(a: &Link, b: &Link) -> bool
+/// Whether a link, beside an earlier one, breaks the rule on labels of its type.
+pub fn takes_label(a: &Link, b: &Link) -> bool
     ensures { IsTrue result ↔ TakesLabel b.now.link a.now b.now }
 {
     let same_end = match b.link {
@@ -57,19 +59,22 @@ fn takes_label(a: &Link, b: &Link) -> bool
     same_end && a.link == b.link && same_label(a, b)
 }
 
-fn shares_created(a: &Link, b: &Link) -> bool
+/// Whether both links create the same data.
+pub fn shares_created(a: &Link, b: &Link) -> bool
     ensures { IsTrue result ↔ SharesCreated a.now b.now }
 {
     a.link == LinkType::Create && b.link == LinkType::Create && a.target == b.target
 }
 
-fn is_call(link: LinkType) -> bool
+/// Whether links of this type are calls.
+pub fn is_call(link: LinkType) -> bool
     ensures { IsTrue result ↔ IsCall link }
 {
     matches!(link, LinkType::CallCalc | LinkType::CallWork)
 }
 
-fn shares_called(a: &Link, b: &Link) -> bool
+/// Whether both links call the same process.
+pub fn shares_called(a: &Link, b: &Link) -> bool
     ensures { IsTrue result ↔ SharesCalled a.now b.now }
 {
     is_call(a.link) && is_call(b.link) && a.target == b.target

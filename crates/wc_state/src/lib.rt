@@ -10,7 +10,7 @@ pub use context::{Context, CtxRef};
 pub use environment::{Child, Children, Env, Item, Items, Named, NodeValue};
 pub use record::{
     Await, Awaits, Checkpoint, Frame, Frames, Ids, JobPart, Limits, Outs, Part, ProcessKind,
-    ProcessRecord, Records, Task, What,
+    ProcessRecord, Task, What,
 };
 
 #[cfg(test)]

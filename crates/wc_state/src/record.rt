@@ -128,7 +128,7 @@ pub struct ProcessRecord {
     pub kind: ProcessKind,
     /// The name of the definition.
     pub definition: Text,
-    /// The number of the library that has the definition, counted from 0.
+    /// The number of the library that has the definition, counted from 1.
     pub library: u32,
     /// 1 for a submitted process, and one more than its caller's for a called one.
     pub depth: u32,
@@ -153,9 +153,6 @@ pub struct ProcessRecord {
     /// Where it stands.
     pub part: Part,
 }
-
-/// Records of processes, in order of their numbers.
-pub type Records = List<ProcessRecord>;
 
 /// How large a store may grow, and how often a running job is asked.
 #[derive(Clone, Copy, Debug, PartialEq, Eq)]

@@ -36,7 +36,8 @@ fn value_of_all(alloc: Global, bytes: &[u8]) -> Result<Value, ValueError>
     Ok(value)
 }
 
-fn bytes_at(n: usize, bytes: &[u8], at: usize) -> Result<(&[u8], usize), ValueError>
+/// So many bytes from a place on, and the place behind them.
+pub fn bytes_at(n: usize, bytes: &[u8], at: usize) -> Result<(&[u8], usize), ValueError>
     requires { at ≤ length bytes.now }
     ensures answer { Gives (λ x. (x.0.now, x.1)) result (bytes_from n bytes.now at) }
     ensures within { IfOk result (λ x. x.1 ≤ length bytes.now) }
@@ -47,7 +48,8 @@ fn bytes_at(n: usize, bytes: &[u8], at: usize) -> Result<(&[u8], usize), ValueEr
     Ok((&bytes[at..at + n], at + n))
 }
 
-fn u32_at(bytes: &[u8], at: usize) -> Result<(u32, usize), ValueError>
+/// The number of four bytes at a place, the highest byte first, and the place behind it.
+pub fn u32_at(bytes: &[u8], at: usize) -> Result<(u32, usize), ValueError>
     requires { at ≤ length bytes.now }
     ensures answer { Answers result (u32_from bytes.now at) }
     ensures within { IfOk result (λ x. (x.1 ≡ at + 4) × (x.1 ≤ length bytes.now)) }
@@ -59,7 +61,8 @@ fn u32_at(bytes: &[u8], at: usize) -> Result<(u32, usize), ValueError>
     ))
 }
 
-fn i64_at(bytes: &[u8], at: usize) -> Result<(i64, usize), ValueError>
+/// The signed number of eight bytes at a place, and the place behind it.
+pub fn i64_at(bytes: &[u8], at: usize) -> Result<(i64, usize), ValueError>
     requires { at ≤ length bytes.now }
     ensures answer { Answers result (i64_from bytes.now at) }
     ensures within { IfOk result (λ x. x.1 ≤ length bytes.now) }
@@ -109,7 +112,8 @@ fn content_at(alloc: Global, bytes: &[u8], at: usize) -> Result<(Bytes, usize), 
     Ok((copied, next))
 }
 
-fn text_at(alloc: Global, bytes: &[u8], at: usize) -> Result<(Text, usize), ValueError>
+/// The text behind its length at a place, and the place behind it.
+pub fn text_at(alloc: Global, bytes: &[u8], at: usize) -> Result<(Text, usize), ValueError>
     requires { at ≤ length bytes.now }
     ensures answer { Answers result (text_from bytes.now at) }
     ensures within { IfOk result (λ x. x.1 ≤ length bytes.now) }
@@ -140,10 +144,10 @@ fn too_deep(tag: u8, at: usize) -> ValueError
     }
 }
 
-/// The value at a place, of at most so many levels.
+/// The value at a place, of at most so many levels, and the place behind it.
 #[cycle(value)]
 #[tactic(auto, using(crate::proofs::Readings::value_at_below))]
-fn value_at(
+pub fn value_at(
     alloc: Global,
     bytes: &[u8],
     at: usize,
@@ -253,8 +257,8 @@ fn dict_at(
     Ok((Value::Dict(fields), place))
 }
 
-/// A name that comes after those in front.
-fn name_at<T>(
+/// A name that comes after those in front, at a place, and the place behind it.
+pub fn name_at<T>(
     alloc: Global,
     front: &Keyed<T>,
     bytes: &[u8],

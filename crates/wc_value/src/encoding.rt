@@ -40,14 +40,16 @@ pub fn encode_request(alloc: Global, request: &Request) -> Result<Bytes, AllocEr
     Ok(out)
 }
 
-fn put_count(out: &mut Bytes, count: usize) -> Result<(), AllocError>
+/// Puts a count or length of four bytes at the end.
+pub fn put_count(out: &mut Bytes, count: usize) -> Result<(), AllocError>
     requires { count < 2 ^ 32 }
     ensures { OnOk result (out.new ≡ out.old ++ to_be_bytes w32 count) }
 {
     out.extend(&(count as u32).to_be_bytes())
 }
 
-fn put_text(out: &mut Bytes, bytes: &[u8]) -> Result<(), AllocError>
+/// Puts a text behind its length at the end.
+pub fn put_text(out: &mut Bytes, bytes: &[u8]) -> Result<(), AllocError>
     requires { length bytes.now < 2 ^ 32 }
     ensures { OnOk result (out.new ≡ out.old ++ text bytes.now) }
 {
@@ -76,9 +78,10 @@ fn put_texts(out: &mut Bytes, texts: &Words) -> Result<(), AllocError>
     Ok(())
 }
 
+/// Puts the canonical bytes of a value at the end.
 #[cycle(encode)]
 #[tactic(auto, using(crate::proofs::Respelled::int_spelled, crate::proofs::Respelled::bool_spelled))]
-fn put_value(out: &mut Bytes, value: &Value) -> Result<(), AllocError>
+pub fn put_value(out: &mut Bytes, value: &Value) -> Result<(), AllocError>
     ensures written { OnOk result (out.new ≡ out.old ++ spelling value.now) }
     ensures spells { OnOk result (Spells value.now (spelling value.now)) }
 {

@@ -22,9 +22,9 @@ mod text;
 mod value;
 
 pub use boxed::Boxed;
-pub use decoding::decode;
+pub use decoding::{bytes_at, decode, i64_at, name_at, text_at, u32_at, value_at};
 pub use duplicate::Duplicate;
-pub use encoding::{encode, encode_request};
+pub use encoding::{encode, encode_request, put_count, put_text, put_value};
 pub use equality::{
     same_bytes, same_fields, same_files, same_request, same_result, same_state, same_text,
     same_tree, same_value, same_values, same_words,

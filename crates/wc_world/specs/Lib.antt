@@ -1,0 +1,11 @@
+pub mod World
+pub mod Records
+pub mod Blocks
+pub mod Applied
+pub mod Fits
+pub mod Accepted
+pub mod Room
+pub mod Trees
+pub mod Snapshot
+pub mod Consistent
+pub mod Laws

@@ -1,0 +1,133 @@
+-- What a world records of a process: its tree, and the environment of its checkpoint.
+use Rattle.std.specs.Prelude.{ℕ, zero, suc, Bool, if◌then◌else◌, List, [], ◌∷◌, Option, Some, None, option_map, option_and_then}
+use Rattle.wc_value.specs.Ascending.{put}
+use Rattle.wc_value.specs.declared.process.Tree.{Tree, roll-Tree}
+use Rattle.wc_value.specs.declared.value.Value.{Value}
+use Rattle.wc_graph.specs.Rules.{node_of}
+use Rattle.wc_graph.specs.declared.node.NodeKind.{NodeKind}
+use Rattle.wc_graph.specs.declared.node.NodeKind.TheVariants as node
+use Rattle.wc_graph.specs.declared.link.Link.{Link}
+use Rattle.wc_state.specs.declared.context.CtxRef.{CtxRef}
+use Rattle.wc_state.specs.declared.context.CtxRef.TheVariants as held
+use Rattle.wc_state.specs.declared.environment.NodeValue.{NodeValue}
+use Rattle.wc_state.specs.declared.environment.Child.{Child}
+use Rattle.wc_state.specs.declared.environment.Item.{Item}
+use Rattle.wc_state.specs.declared.environment.Item.TheVariants as item
+use Rattle.wc_state.specs.declared.environment.Env.{Env}
+use Rattle.wc_state.specs.declared.record.Part.{Part}
+use Rattle.wc_state.specs.declared.record.Part.TheVariants as part
+use Rattle.wc_state.specs.declared.record.ProcessRecord.{ProcessRecord}
+use Rattle.wc_world.specs.World.{World}
+use Rattle.wc_world.specs.Records.{find_record, is_call_from, is_input_of, is_output_of}
+
+-- ---- nodes by label
+
+abbrev pub data_of : NodeKind → Option Value
+data_of (node.Data v) = Some v
+data_of node.Calculation = None
+data_of node.Workflow = None
+
+-- the value of a data node
+abbrev pub value_of : List NodeKind → ℕ → Option Value
+value_of nodes id = option_and_then data_of (node_of nodes id)
+
+abbrev pub NamedValues : Type 0
+NamedValues = List (List ℕ × NodeValue)
+
+-- the entries with one more, where the node is data
+abbrev pub with_value : List ℕ → ℕ → Option Value → NamedValues → NamedValues
+with_value label id None entries = entries
+with_value label id (Some v) entries = put label (record { node = id; value = v }) entries
+
+-- what the links of a process lead from: its inputs, by label
+abbrev pub inputs_after : List NodeKind → ℕ → List Link → NamedValues → NamedValues
+inputs_after nodes pid [] entries = entries
+inputs_after nodes pid (l ∷ ls) entries =
+    inputs_after nodes pid ls (if is_input_of pid l then with_value l.label l.source (value_of nodes l.source) entries else entries)
+
+abbrev pub inputs_of : World → ℕ → NamedValues
+inputs_of w pid = inputs_after w.nodes pid w.links []
+
+-- what the links of a process lead to: its outputs, by label
+abbrev pub outputs_after : List NodeKind → ℕ → List Link → NamedValues → NamedValues
+outputs_after nodes pid [] entries = entries
+outputs_after nodes pid (l ∷ ls) entries =
+    outputs_after nodes pid ls (if is_output_of pid l then with_value l.label l.target (value_of nodes l.target) entries else entries)
+
+abbrev pub outputs_of : World → ℕ → NamedValues
+outputs_of w pid = outputs_after w.nodes pid w.links []
+
+abbrev pub values_alone : NamedValues → List (List ℕ × Value)
+values_alone [] = []
+values_alone (e ∷ es) = (e.0, e.1.value) ∷ values_alone es
+
+-- ---- trees
+
+abbrev pub Branch : Type 0
+Branch = List ℕ × Tree
+
+abbrev pub and_branch : Option Tree → List ℕ → Option (List Branch) → Option (List Branch)
+and_branch None label rest = None
+and_branch (Some t) label None = None
+and_branch (Some t) label (Some rest) = Some ((label, t) ∷ rest)
+
+-- the called processes in order of the links, each under its label with its own tree
+abbrev pub branches : (ℕ → Option Tree) → ℕ → List Link → Option (List Branch)
+branches tree pid [] = Some []
+branches tree pid (l ∷ ls) = if is_call_from pid l then and_branch (tree l.target) l.label (branches tree pid ls) else branches tree pid ls
+
+abbrev pub tree_with : ProcessRecord → List (List ℕ × Value) → List Branch → Tree
+tree_with r outputs calls = roll-Tree (record { definition = r.definition; state = r.state; outputs = outputs; calls = calls })
+
+-- the recorded tree of a process, where calls nest in at most so many levels
+abbrev pub tree_within : ℕ → World → ℕ → Option Tree
+tree_within zero w pid = None
+tree_within (suc levels) w pid =
+    option_and_then (λ r. option_map (tree_with r (values_alone (outputs_of w pid))) (branches (tree_within levels w) pid w.links))
+    (find_record pid w.records)
+
+-- Depths go from 1 to 16, and a call goes one deeper.
+abbrev pub recorded_tree : World → ℕ → Option Tree
+recorded_tree = tree_within 16
+
+-- ---- environments
+
+abbrev pub child_at : World → ℕ → Option Child
+child_at w pid = option_map (λ r. record { node = pid; state = r.state; outputs = outputs_of w pid }) (find_record pid w.records)
+
+abbrev pub and_child : Option Child → Option (List Child) → Option (List Child)
+and_child None rest = None
+and_child (Some c) None = None
+and_child (Some c) (Some rest) = Some (c ∷ rest)
+
+abbrev pub children_at : World → List ℕ → Option (List Child)
+children_at w [] = Some []
+children_at w (pid ∷ pids) = and_child (child_at w pid) (children_at w pids)
+
+abbrev pub item_of : World → CtxRef → Option Item
+item_of w (held.Plain v) = Some (item.Plain v)
+item_of w (held.One pid) = option_map item.One (child_at w pid)
+item_of w (held.Many pids) = option_map item.Many (children_at w pids)
+
+abbrev pub and_item : List ℕ → Option Item → Option (List (List ℕ × Item)) → Option (List (List ℕ × Item))
+and_item key None rest = None
+and_item key (Some i) None = None
+and_item key (Some i) (Some rest) = Some ((key, i) ∷ rest)
+
+-- a context, with each process in the state and with the outputs that it has
+abbrev pub items_of : World → List (List ℕ × CtxRef) → Option (List (List ℕ × Item))
+items_of w [] = Some []
+items_of w (e ∷ es) = and_item e.0 (item_of w e.1) (items_of w es)
+
+-- a process without a checkpoint has an empty context
+abbrev pub context_of : Part → List (List ℕ × CtxRef)
+context_of part.Fresh = []
+context_of (part.Chain c) = c.ctx
+context_of (part.Job j) = []
+context_of part.Over = []
+
+-- the inputs of a process, and the context of its checkpoint
+abbrev pub environment_at : World → ℕ → Option Env
+environment_at w pid =
+    option_and_then (λ r. option_map (λ ctx. record { inputs = inputs_of w pid; ctx = ctx }) (items_of w (context_of r.part)))
+    (find_record pid w.records)

@@ -1,0 +1,15 @@
+//! The world that the journal keeps and every answer is read from, and the changes that it takes.
+//!
+//! Contracts see a world as lists (nodes, links, records, libraries with the names that have caching on), the number of
+//! its batches, and the numbers of further items that take no memory.
+#![tactic(auto)]
+
+mod change;
+mod error;
+mod records;
+mod world;
+
+pub use change::{Change, Changes, Kept, NewProcess, SetProcess};
+pub use error::WorldError;
+pub use records::Records;
+pub use world::{Known, Libraries, World};

@@ -1,0 +1,112 @@
+ghost use Rattle.std.specs.Prelude.{◌≡◌, ◌↔◌, length, IsNone};
+ghost use Rattle.std.specs.Option.{option_copied};
+ghost use Rattle.wc_graph.specs.Rules.{IsLinkCorrect};
+ghost use Rattle.wc_world.specs.World.{empty};
+ghost use Rattle.wc_world.specs.Records.{find_record};
+ghost use Rattle.wc_world.specs.Accepted.{IsReached};
+
+use crate::records::Records;
+use std::alloc::Global;
+use std::marker::Model;
+use wc_graph::Graph;
+use wc_state::ProcessRecord;
+use wc_syntax::Checked;
+use wc_value::{Roomy, Words};
+
+/// A library, with the names of its definitions that have caching on, ascending.
+pub type Known = (Checked, Words);
+
+/// The libraries, of which the first has the number 1.
+pub type Libraries = Roomy<Known>;
+
+/// The record of the process with this number, if there is one.
+fn find_record(records: &[ProcessRecord], pid: u32) -> Option<&ProcessRecord>
+    ensures { option_copied result ≡ find_record pid records.now }
+{
+    for record in records {
+        if record.node == pid {
+            return Some(record);
+        }
+    }
+    None
+}
+
+/// Everything that a store holds. It changes by whole lists of changes alone, each of which it accepts.
+#[derive(Drop)]
+pub struct World {
+    graph: Graph,
+    records: Records,
+    libraries: Libraries,
+    batches: u32,
+}
+
+impl Model for World {
+    ghost use Rattle.wc_world.specs.Room.{Holding};
+    ghost use Rattle.wc_world.specs.Accepted.{IsReached};
+
+    ghost Value = { Holding };
+
+    ghost use Rattle.std.specs.Coded.{codes};
+    ghost use Rattle.wc_value.specs.contracts.value.Value as value;
+    ghost use Rattle.wc_syntax.specs.contracts.definition.Definition as definition;
+
+    ghost coded = { Prim.hlevel (codes, value.the_row.coded, definition.the_row.coded) };
+
+    ghost view = { λ a. record {
+      world = record { nodes = a.graph.nodes; links = a.graph.links; records = a.records.0; libraries = a.libraries.0; batches = a.batches };
+      room = record { nodes = a.graph.node_room; links = a.graph.link_room; records = a.records.1; libraries = a.libraries.1 };
+    } };
+
+    ghost invariant = { λ a. IsReached (record { nodes = a.graph.nodes; links = a.graph.links; records = a.records.0; libraries = a.libraries.0; batches = a.batches }) };
+}
+
+impl World {
+    /// The empty world, which takes no memory.
+    pub fn new(alloc: Global) -> World
+        ensures { result.world ≡ empty }
+    {
+        World {
+            graph: Graph::new(alloc),
+            records: Records::new(alloc),
+            libraries: Libraries::new(alloc),
+            batches: 0,
+        }
+    }
+
+    /// The provenance graph.
+    pub fn graph(&self) -> &Graph
+        ensures nodes { (result.now.nodes ≡ self.now.world.nodes) × (result.now.node_room ≡ self.now.room.nodes) }
+        ensures links { (result.now.links ≡ self.now.world.links) × (result.now.link_room ≡ self.now.room.links) }
+        ensures reached { IsReached self.now.world }
+    {
+        &self.graph
+    }
+
+    /// The records of the processes, in order of their numbers.
+    pub fn records(&self) -> &Records
+        ensures { result.now ≡ (self.now.world.records, self.now.room.records) }
+    {
+        &self.records
+    }
+
+    /// The libraries, of which the first has the number 1.
+    pub fn libraries(&self) -> &Libraries
+        ensures { result.now ≡ (self.now.world.libraries, self.now.room.libraries) }
+    {
+        &self.libraries
+    }
+
+    /// How many batches there were.
+    pub fn batches(&self) -> u32
+        ensures { result ≡ self.now.world.batches }
+    {
+        self.batches
+    }
+
+    /// The record of a process, if there is one with this number.
+    pub fn record_of(&self, pid: u32) -> Option<&ProcessRecord>
+        ensures { option_copied result ≡ find_record pid self.now.world.records }
+    {
+        find_record(self.records.as_slice(), pid)
+    }
+}

@@ -1,5 +1,6 @@
 //! What is known of a journal, and of what it holds.
-ghost use Rattle.std.specs.Prelude.{◌≡◌, ◌⊎◌, ◌≤◌};
+ghost use Rattle.std.specs.Prelude.{◌≡◌, ◌⊎◌, ◌≤◌, ◌-◌, ◌^◌, min};
+ghost use Rattle.wc_journal.specs.Refusals.{size_after};
 
 use wc_value::{Bytes, List};
 
@@ -41,5 +42,18 @@ impl Journal {
         ensures known { (result ≡ 1) ⊎ (result ≡ 2) }
     {
         self.version
+    }
+
+    /// How many bytes the journal would have with a batch of this payload; 2^64 - 1 where that is more.
+    #[tactic(auto, unfolding(crate::specs::Reading::size_of))]
+    pub fn size_with(&self, payload: &[u8]) -> u64
+        ensures { result ≡ min (size_after self.now.end self.now.version payload.now) (2 ^ 64 - 1) }
+    {
+        let prefix = if self.version == 1 { 4 } else { 9 };
+        self.end
+            .saturating_add(1)
+            .saturating_add(prefix)
+            .saturating_add(payload.len() as u64)
+            .saturating_add(1)
     }
 }

@@ -8,3 +8,7 @@ pub mod Signing
 pub mod Refused
 pub mod Kept
 pub mod Single
+pub mod BareLists
+pub mod BareMentions
+pub mod BareParts
+pub mod BareFindings

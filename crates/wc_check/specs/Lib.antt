@@ -3,3 +3,4 @@ pub mod Flat
 pub mod Scopes
 pub mod Signed
 pub mod Refusals
+pub mod Laws

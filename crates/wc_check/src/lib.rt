@@ -22,4 +22,6 @@ mod statuses;
 
 pub use checking::{check, first_finding};
 pub use error::CheckError;
-pub use laws::{first_refusal_is_one, rules_are_kept_where_nothing_is_found};
+pub use laws::{
+    first_refusal_is_one, offsets_break_no_rule, rules_are_kept_where_nothing_is_found,
+};

@@ -7,9 +7,11 @@
 mod change;
 mod error;
 mod records;
+mod snapshots_law;
 mod world;
 
 pub use change::{Change, Changes, Kept, NewProcess, SetProcess};
 pub use error::WorldError;
 pub use records::Records;
+pub use snapshots_law::snapshots_give_the_world;
 pub use world::{Known, Libraries, World};

@@ -1,6 +1,12 @@
-pub mod Reached
 pub mod Snapshot
 pub mod SnapshotForm
 pub mod SnapshotLists
 pub mod SnapshotMade
 pub mod SnapshotSets
+pub mod ReachedLists
+pub mod ReachedGrown
+pub mod ReachedSound
+pub mod ReachedSources
+pub mod ReachedCounted
+pub mod ReachedKept
+pub mod ReachedWorlds

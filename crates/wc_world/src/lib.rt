@@ -6,12 +6,12 @@
 
 mod change;
 mod error;
+mod laws;
 mod records;
-mod snapshots_law;
 mod world;
 
 pub use change::{Change, Changes, Kept, NewProcess, SetProcess};
 pub use error::WorldError;
+pub use laws::{reached_worlds_are_consistent, snapshots_give_the_world};
 pub use records::Records;
-pub use snapshots_law::snapshots_give_the_world;
 pub use world::{Known, Libraries, World};

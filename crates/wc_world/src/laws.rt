@@ -1,0 +1,13 @@
+//! Laws of worlds and changes. Each is the contract of a function that does nothing.
+
+ghost use Rattle.wc_world.specs.Laws.{ReachedIsConsistent, SnapshotsGiveTheWorld};
+
+/// The lists of each world that accepted changes make fit each other.
+pub fn reached_worlds_are_consistent()
+    ensures { ReachedIsConsistent }
+{}
+
+/// The empty world accepts a world's snapshot, and applying it gives that world.
+pub fn snapshots_give_the_world()
+    ensures { SnapshotsGiveTheWorld }
+{}

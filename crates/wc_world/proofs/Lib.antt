@@ -10,3 +10,7 @@ pub mod ReachedSources
 pub mod ReachedCounted
 pub mod ReachedKept
 pub mod ReachedWorlds
+pub mod FoundRecords
+pub mod LabelledValues
+pub mod RecordedEnvironments
+pub mod RecordedTrees

@@ -5,13 +5,20 @@
 #![tactic(auto)]
 
 mod change;
+mod environments;
 mod error;
 mod laws;
+mod outputs;
 mod records;
+#[cfg(test)]
+mod tree_tests;
+mod trees;
 mod world;
 
 pub use change::{Change, Changes, Kept, NewProcess, SetProcess};
+pub use environments::env_of;
 pub use error::WorldError;
 pub use laws::{reached_worlds_are_consistent, snapshots_give_the_world};
 pub use records::Records;
+pub use trees::tree_of;
 pub use world::{Known, Libraries, World};

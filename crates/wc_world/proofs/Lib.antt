@@ -14,3 +14,12 @@ pub mod FoundRecords
 pub mod LabelledValues
 pub mod RecordedEnvironments
 pub mod RecordedTrees
+mod Firsts
+mod Ascents
+mod Allowed
+mod Needs
+mod Applies
+mod LinkCorrect
+mod Few
+mod SampleLibrary
+mod Samples

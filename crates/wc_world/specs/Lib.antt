@@ -9,3 +9,5 @@ pub mod Trees
 pub mod Snapshot
 pub mod Consistent
 pub mod Laws
+pub mod Applying
+pub mod Sample

@@ -4,21 +4,26 @@
 //! its batches, and the numbers of further items that take no memory.
 #![tactic(auto)]
 
+mod applying;
 mod change;
 mod environments;
 mod error;
+mod in_place;
 mod laws;
 mod outputs;
 mod records;
-#[cfg(test)]
-mod tree_tests;
 mod trees;
 mod world;
 
 pub use change::{Change, Changes, Kept, NewProcess, SetProcess};
 pub use environments::env_of;
 pub use error::WorldError;
-pub use laws::{reached_worlds_are_consistent, snapshots_give_the_world};
+pub use laws::{links_stay_correct, reached_worlds_are_consistent, snapshots_give_the_world};
 pub use records::Records;
 pub use trees::tree_of;
 pub use world::{Known, Libraries, World};
+
+#[cfg(test)]
+mod tests;
+#[cfg(test)]
+mod tree_tests;

@@ -34,10 +34,10 @@ fn find_record(records: &[ProcessRecord], pid: u32) -> Option<&ProcessRecord>
 /// Everything that a store holds. It changes by whole lists of changes alone, each of which it accepts.
 #[derive(Drop)]
 pub struct World {
-    graph: Graph,
-    records: Records,
-    libraries: Libraries,
-    batches: u32,
+    pub(crate) graph: Graph,
+    pub(crate) records: Records,
+    pub(crate) libraries: Libraries,
+    pub(crate) batches: u32,
 }
 
 impl Model for World {

@@ -1,0 +1,79 @@
+-- The numbers of a world's records ascend, so the first record with a number is the only one.
+use Rattle.std.proofs.Common.{◌≡◌, ℕ, ◌+◌, ◌<◌, ◌≤◌, true, false, List, [], ◌∷◌, ◌++◌, length, map, ◌==◌, inl, inr, refl, sym, ap, arith, length-append}
+use Rattle.std.specs.Prelude.{if◌then◌else◌}
+use Rattle.std.proofs.lemmas.Bool.{cases_eq, eq-eqb, ne_eqb}
+use Rattle.wc_state.specs.declared.record.ProcessRecord.{ProcessRecord}
+use Rattle.wc_world.specs.declared.change.Change.{Change}
+use Rattle.wc_world.specs.declared.change.Change.TheVariants as change
+use Rattle.wc_graph.specs.declared.node.NodeKind.TheVariants as node
+use Rattle.wc_world.specs.World.{World}
+use Rattle.wc_world.specs.Records.{at_process, process_node}
+use Rattle.wc_world.specs.Applied.{next_number, made, set, keep, after_change, changed, begun}
+use Rattle.wc_world.specs.Accepted.{IsReached, nothing, then_changes}
+use Rattle.wc_world.specs.Applying.{Ascend, at_first}
+
+abbrev choose : ℕ → (ProcessRecord → ProcessRecord) → ProcessRecord → ProcessRecord
+choose pid f r = if r.node == pid then f r else r
+
+-- ---- the first one is the only one
+
+-- numbers at most the lower bound are of no record
+absent : (pid : ℕ) (f : ProcessRecord → ProcessRecord) (low high : ℕ) (rs : List ProcessRecord) → pid ≤ low → Ascend low rs high → at_process pid f rs ≡ rs
+absent pid f low high [] below up = refl
+absent pid f low high (r ∷ rs) below up =
+    let other : (r.node == pid) ≡ false = ne_eqb r.node pid (λ e. omega arith) in
+    rw other (ap (λ qs. r ∷ qs) (absent pid f r.node high rs (omega arith) up.2))
+
+pub first_alone : (pid : ℕ) (f : ProcessRecord → ProcessRecord) (low high : ℕ) (rs : List ProcessRecord) → Ascend low rs high → at_first pid f rs ≡ at_process pid f rs
+first_alone pid f low high [] up = refl
+first_alone pid f low high (r ∷ rs) up =
+    elim (cases_eq r.node pid) [
+      | inl same ↦
+          let is : (r.node == pid) ≡ true = eq-eqb r.node pid same in
+          rw is (ap (λ qs. f r ∷ qs) (sym (absent pid f r.node high rs (omega arith) up.2)))
+      | inr other ↦
+          let is : (r.node == pid) ≡ false = ne_eqb r.node pid other in
+          rw is (ap (λ qs. r ∷ qs) (first_alone pid f r.node high rs up.2))
+    ]
+
+-- ---- changes keep the numbers ascending
+
+ascend_map : (g : ProcessRecord → ProcessRecord) → ((r : ProcessRecord) → (g r).node ≡ r.node) → (low high : ℕ) (rs : List ProcessRecord)
+    → Ascend low rs high → Ascend low (map g rs) high
+ascend_map g same low high [] up = tt
+ascend_map g same low high (r ∷ rs) up = rw (same r) (up.0, up.1, ascend_map g same r.node high rs up.2)
+
+ascend_higher : (low high more : ℕ) (rs : List ProcessRecord) → high ≤ more → Ascend low rs high → Ascend low rs more
+ascend_higher low high more [] le up = tt
+ascend_higher low high more (r ∷ rs) le up = (up.0, omega arith, ascend_higher r.node high more rs le up.2)
+
+ascend_push : (low high more : ℕ) (rs : List ProcessRecord) (r : ProcessRecord) → low ≤ high → high < r.node → r.node ≤ more → Ascend low rs high
+    → Ascend low (rs ++ r ∷ []) more
+ascend_push low high more [] r le lt within up = (omega arith, within, tt)
+ascend_push low high more (q ∷ qs) r le lt within up = (up.0, omega arith, ascend_push q.node high more qs r (omega arith) lt within up.2)
+
+choose_keeps_node : (pid : ℕ) (f : ProcessRecord → ProcessRecord) → ((r : ProcessRecord) → (f r).node ≡ r.node) → (r : ProcessRecord) → (choose pid f r).node ≡ r.node
+choose_keeps_node pid f same r = elim (r.node == pid) as (λ b. (if b then f r else r).node ≡ r.node) [ true ↦ same r | false ↦ refl ]
+
+abbrev pub Ascends : World → Type 0
+Ascends w = Ascend 0 w.records (length w.nodes)
+
+pub change_ascends : (batch : ℕ) (w : World) (c : Change) → Ascends w → Ascends (after_change batch w c)
+change_ascends batch w (change.Library l names) up = up
+change_ascends batch w (change.Data v) up =
+    ascend_higher 0 (length w.nodes) (length (w.nodes ++ node.Data v ∷ [])) w.records (omega (arith, length-append w.nodes (node.Data v ∷ []))) up
+change_ascends batch w (change.Process n) up =
+    let more = length-append w.nodes (process_node n.kind ∷ []) in
+    ascend_push 0 (length w.nodes) (length (w.nodes ++ process_node n.kind ∷ [])) w.records (made (next_number w) n) (omega arith) (omega arith) (omega (arith, more)) up
+change_ascends batch w (change.Link l) up = up
+change_ascends batch w (change.Set s) up = ascend_map (choose s.pid (set batch s)) (choose_keeps_node s.pid (set batch s) (λ r. refl)) 0 (length w.nodes) w.records up
+change_ascends batch w (change.Count n) up = up
+change_ascends batch w (change.Kept k) up = ascend_map (choose k.pid (keep k)) (choose_keeps_node k.pid (keep k) (λ r. refl)) 0 (length w.nodes) w.records up
+
+changed_ascends : (batch : ℕ) (w : World) (cs : List Change) → Ascends w → Ascends (changed batch w cs)
+changed_ascends batch w [] up = up
+changed_ascends batch w (c ∷ cs) up = changed_ascends batch (after_change batch w c) cs (change_ascends batch w c up)
+
+pub reached_ascends : (w : World) → IsReached w → Ascends w
+reached_ascends _ nothing = tt
+reached_ascends _ (then_changes w cs reached accepted) = changed_ascends (w.batches + 1) (begun w) cs (reached_ascends w reached)

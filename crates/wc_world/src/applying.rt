@@ -1,0 +1,214 @@
+//! Changes that a world accepts, applied to it.
+
+ghost use Rattle.std.specs.Prelude.{◌≡◌, [], ◌∷◌, ◌++◌, ◌+◌, ◌-◌, ◌<◌, ◌≤◌, ◌^◌, List, length, OnOk};
+ghost use Rattle.wc_graph.specs.Refusals.{IsAllowed};
+ghost use Rattle.wc_world.specs.declared.change.Change.{Change};
+ghost use Rattle.wc_world.specs.Records.{process_node};
+ghost use Rattle.wc_world.specs.Applied.{made, after_change, applied};
+ghost use Rattle.wc_world.specs.Accepted.{IsAccepted};
+ghost use Rattle.wc_world.specs.Room.{HasRoom, needed};
+ghost use Rattle.wc_world.specs.Applying.{world_of, room_of, CanApply, Ascend, IsAtLeast};
+
+use crate::change::{Change, Changes, NewProcess};
+use crate::records::Records;
+use crate::world::{Known, Libraries, World};
+use std::alloc::{AllocError, Global};
+use wc_graph::{Graph, Link, NodeKind};
+use wc_state::{Part, ProcessKind, ProcessRecord};
+use wc_value::ProcessState;
+
+/// How many items changes add.
+#[derive(Drop)]
+struct Need {
+    nodes: usize,
+    links: usize,
+    records: usize,
+    libraries: usize,
+}
+
+/// Counts what one more change adds.
+fn count_change(need: &mut Need, change: &Change)
+    requires nodes { need.old.nodes < 2 ^ 32 }
+    requires links { need.old.links < 2 ^ 32 }
+    requires records { need.old.records < 2 ^ 32 }
+    requires libraries { need.old.libraries < 2 ^ 32 }
+    ensures nodes { need.new.nodes ≡ need.old.nodes + (needed (change.now ∷ [])).nodes }
+    ensures links { need.new.links ≡ need.old.links + (needed (change.now ∷ [])).links }
+    ensures records { need.new.records ≡ need.old.records + (needed (change.now ∷ [])).records }
+    ensures libraries { need.new.libraries ≡ need.old.libraries + (needed (change.now ∷ [])).libraries }
+{
+    match change {
+        Change::Library(_library, _names) => need.libraries += 1,
+        Change::Data(_value) => need.nodes += 1,
+        Change::Process(_process) => {
+            need.nodes += 1;
+            need.records += 1;
+        }
+        Change::Link(_link) => need.links += 1,
+        Change::Set(_set) => (),
+        Change::Count(_count) => (),
+        Change::Kept(_kept) => (),
+    }
+}
+
+/// Counts what changes add.
+fn count(changes: &[Change]) -> Need
+    requires { length changes.now < 2 ^ 32 }
+    ensures nodes { result.nodes ≡ (needed changes.now).nodes }
+    ensures links { result.links ≡ (needed changes.now).links }
+    ensures records { result.records ≡ (needed changes.now).records }
+    ensures libraries { result.libraries ≡ (needed changes.now).libraries }
+    ensures few { (result.nodes < 2 ^ 32) × (result.links < 2 ^ 32) }
+{
+    let mut need = Need {
+        nodes: 0,
+        links: 0,
+        records: 0,
+        libraries: 0,
+    };
+    for change in changes {
+        count_change(&mut need, change);
+    }
+    need
+}
+
+/// The node of a process of this kind.
+fn node_of_kind(kind: ProcessKind) -> NodeKind
+    ensures { result ≡ process_node kind }
+{
+    match kind {
+        ProcessKind::Function => NodeKind::Calculation,
+        ProcessKind::Job => NodeKind::Calculation,
+        ProcessKind::Chain => NodeKind::Workflow,
+    }
+}
+
+/// The record of a new process with this number.
+fn make(number: u32, process: NewProcess) -> ProcessRecord
+    ensures { result ≡ made number process }
+{
+    ProcessRecord {
+        node: number,
+        kind: process.kind,
+        definition: process.definition,
+        library: process.library,
+        depth: process.depth,
+        label: process.label,
+        caching: process.caching,
+        state: ProcessState::Created,
+        paused: false,
+        cached_from: None,
+        fuel: 0,
+        code: None,
+        started: 0,
+        ended: 0,
+        part: Part::Fresh,
+    }
+}
+
+/// Puts a library at the end, where there is room for it.
+fn put_library(libraries: &mut Libraries, library: Known)
+    requires { 0 < libraries.old.1 }
+    ensures value { libraries.new.0 ≡ libraries.old.0 ++ library ∷ [] }
+    ensures room { libraries.old.1 ≤ libraries.new.1 + 1 }
+{
+    let _pushed = libraries.push(library);
+}
+
+/// Puts a node at the end, where there is a number and room for it.
+fn put_node(graph: &mut Graph, kind: NodeKind)
+    requires number { length graph.old.nodes < 8000000 }
+    requires room { 0 < graph.old.node_room }
+    ensures nodes { graph.new.nodes ≡ graph.old.nodes ++ kind ∷ [] }
+    ensures others { (graph.new.links ≡ graph.old.links) × (graph.new.link_room ≡ graph.old.link_room) }
+    ensures room { graph.old.node_room ≤ graph.new.node_room + 1 }
+{
+    let _number = graph.add_node(kind);
+}
+
+/// Puts a link that breaks no rule at the end, where there is room for it.
+fn put_link(graph: &mut Graph, link: Link)
+    requires allowed { IsAllowed graph.old.nodes graph.old.links link }
+    requires room { 0 < graph.old.link_room }
+    ensures links { graph.new.links ≡ graph.old.links ++ link ∷ [] }
+    ensures others { (graph.new.nodes ≡ graph.old.nodes) × (graph.new.node_room ≡ graph.old.node_room) }
+    ensures room { graph.old.link_room ≤ graph.new.link_room + 1 }
+{
+    let _added = graph.add_link(link);
+}
+
+/// Puts a new process at the end, where there is a number and room for it.
+fn put_process(graph: &mut Graph, records: &mut Records, process: NewProcess)
+    requires number { length graph.old.nodes < 8000000 }
+    requires node_room { 0 < graph.old.node_room }
+    requires room { 0 < records.old.1 }
+    ensures nodes { graph.new.nodes ≡ graph.old.nodes ++ process_node process.kind ∷ [] }
+    ensures links { (graph.new.links ≡ graph.old.links) × (graph.new.link_room ≡ graph.old.link_room) }
+    ensures node_room { graph.old.node_room ≤ graph.new.node_room + 1 }
+    ensures records { records.new ≡ (records.old.0 ++ made (length graph.old.nodes + 1) process ∷ [], records.old.1 - 1) }
+{
+    put_node(graph, node_of_kind(process.kind));
+    let number = graph.nodes().len() as u32;
+    records.push(make(number, process));
+}
+
+/// Applies one change to the parts of a world, in the batch of this number.
+fn apply_change(
+    graph: &mut Graph,
+    records: &mut Records,
+    libraries: &mut Libraries,
+    batches: &mut u32,
+    batch: u32,
+    change: Change,
+)
+    requires fits { CanApply (world_of graph.old records.old libraries.old batches.old) change }
+    requires ascending { Ascend 0 records.old.0 (length graph.old.nodes) }
+    requires room { HasRoom (room_of graph.old records.old libraries.old) (change ∷ []) }
+    ensures world { world_of graph.new records.new libraries.new batches.new ≡ after_change batch (world_of graph.old records.old libraries.old batches.old) change }
+    ensures room { (cs : List Change) → HasRoom (room_of graph.old records.old libraries.old) (change ∷ cs) → HasRoom (room_of graph.new records.new libraries.new) cs }
+{
+    match change {
+        Change::Library(library, names) => put_library(libraries, (library, names)),
+        Change::Data(value) => put_node(graph, NodeKind::Data(value)),
+        Change::Process(process) => put_process(graph, records, process),
+        Change::Link(link) => put_link(graph, link),
+        Change::Set(set) => records.set(batch, set),
+        Change::Count(count) => *batches = count,
+        Change::Kept(kept) => records.keep(kept),
+    }
+}
+
+impl World {
+    /// Makes room for the changes, and changes nothing else.
+    pub fn reserve(&mut self, _alloc: Global, changes: &Changes) -> Result<(), AllocError>
+        ensures same { self.new.world ≡ self.old.world }
+        ensures room { OnOk result (HasRoom self.new.room changes.now) }
+        ensures kept { IsAtLeast self.old.room self.new.room }
+    {
+        let _ = changes.len();
+        let need = count(changes.as_slice());
+        self.graph.reserve(need.nodes as u32, need.links as u32)?;
+        self.records.reserve(need.records)?;
+        self.libraries.reserve(need.libraries)
+    }
+
+    /// Applies changes that the world accepts. It takes no memory.
+    pub fn apply(&mut self, changes: Changes)
+        requires accepted { IsAccepted self.old.world changes }
+        requires room { HasRoom self.old.room changes }
+        ensures world { self.new.world ≡ applied self.old.world changes }
+    {
+        let batch = self.batches + 1;
+        self.batches = batch;
+        for change in changes.into_vec() {
+            apply_change(
+                &mut self.graph,
+                &mut self.records,
+                &mut self.libraries,
+                &mut self.batches,
+                batch,
+                change,
+            );
+        }
+    }
+}

@@ -1,5 +1,5 @@
 -- A context as the list of its keys with what they hold.
-use Rattle.std.specs.Prelude.{ℕ, List, [], ◌∷◌, Option, Some, None, if◌then◌else◌}
+use Rattle.std.specs.Prelude.{◌≡◌, ℕ, List, [], ◌∷◌, ◌++◌, Option, Some, None, if◌then◌else◌}
 use Rattle.std.specs.Str.{bytes_eq}
 use Rattle.wc_state.specs.declared.context.CtxRef.{CtxRef}
 
@@ -15,3 +15,12 @@ found_at (p ∷ ps) key = if bytes_eq key p.0 then Some p.1 else found_at ps key
 abbrev pub with_set : Pairs → List ℕ → CtxRef → Pairs
 with_set [] key held = (key, held) ∷ []
 with_set (p ∷ ps) key held = if bytes_eq key p.0 then (p.0, held) ∷ ps else p ∷ with_set ps key held
+
+-- no pair has the key of one before it, where `front` stands in front of them
+abbrev pub DifferFrom : Pairs → Pairs → Type 0
+DifferFrom front [] = Unit {0}
+DifferFrom front (p ∷ ps) = (found_at front p.0 ≡ None) × DifferFrom (front ++ p ∷ []) ps
+
+-- no key stands twice
+abbrev pub KeysDiffer : Pairs → Type 0
+KeysDiffer ps = DifferFrom [] ps

@@ -7,7 +7,7 @@ ghost use Rattle.std.specs.Hash as fed;
 ghost use Rattle.std.specs.Str.{bytes_eq};
 ghost use Rattle.std.specs.Cmp.Rules.{hashing};
 ghost use Rattle.std.proofs.Common.{rules, ap};
-ghost use Rattle.wc_state.specs.Context.{found_at, with_set};
+ghost use Rattle.wc_state.specs.Context.{found_at, with_set, KeysDiffer};
 
 use crate::record::Ids;
 use indexmap::{Equivalent, IndexMap};
@@ -130,9 +130,11 @@ impl Context {
         }
     }
 
-    /// How many keys there are.
+    /// How many keys there are. No key stands twice.
+    #[tactic(auto, using(crate::proofs::Differing::keys_differ))]
     pub fn len(&self) -> usize
-        ensures { result ≡ length self.now }
+        ensures value { result ≡ length self.now }
+        ensures differ { KeysDiffer self.now }
     {
         self.map.len()
     }

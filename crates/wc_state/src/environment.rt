@@ -19,7 +19,7 @@ pub type Named = Keyed<NodeValue>;
 pub struct Child {
     /// The number of its node; 0 in a dry run.
     pub node: u32,
-    /// The state that it ended in.
+    /// Its state.
     pub state: ProcessState,
     /// Its outputs.
     pub outputs: Named,

@@ -20,6 +20,3 @@ mod Allowed
 mod Needs
 mod Applies
 mod LinkCorrect
-mod Few
-mod SampleLibrary
-mod Samples

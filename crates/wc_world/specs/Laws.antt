@@ -9,7 +9,7 @@ use Rattle.wc_world.specs.Accepted.{IsAccepted, IsRefused, IsReached}
 use Rattle.wc_world.specs.Consistent.{IsConsistent}
 use Rattle.wc_world.specs.Snapshot.{snapshot}
 
--- Changes are accepted or refused, and refused in one way.
+-- No changes are both accepted and refused, and they are refused in one way.
 abbrev pub NotBoth : Type 0
 NotBoth = (w : World) (cs : List Change) (e : WorldError) → IsAccepted w cs → IsRefused w cs e → ⊥
 

@@ -10,4 +10,3 @@ pub mod Snapshot
 pub mod Consistent
 pub mod Laws
 pub mod Applying
-pub mod Sample

@@ -33,7 +33,8 @@ pub struct SetProcess {
     pub paused: bool,
     /// The calculation whose outcome it took, 0 for none.
     pub cached_from: u32,
-    /// Loop turns, one for each bound child, and the fuel of each bound child.
+    /// Loop turns, one for each bound child, and the fuel of each bound child; of a killed chain also those of the children that
+    /// it awaited.
     pub fuel: u64,
     /// The exit code of the job's retrieved result.
     pub code: Option<i64>,

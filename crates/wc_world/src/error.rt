@@ -14,8 +14,8 @@ pub enum WorldError {
     /// No process has this number.
     #[error("no process {0}")]
     NoProcess(u32),
-    /// What is made or set there doesn't fit. The number is that of the process or node, or of a link's target, or 0 for
-    /// a library, a count or a batch too many.
+    /// What is made or set there doesn't fit, or what is left of a process after the last change. The number is that of the
+    /// process or node, or of a link's target, or 0 for a library, a count or a batch too many.
     #[error("bad record {0}")]
     BadRecord(u32),
     /// Memory ran out.

@@ -25,5 +25,3 @@ pub use world::{Known, Libraries, World};
 
 #[cfg(test)]
 mod tests;
-#[cfg(test)]
-mod tree_tests;

@@ -20,3 +20,13 @@ mod Allowed
 mod Needs
 mod Applies
 mod LinkCorrect
+pub mod After
+pub mod Links
+pub mod Lengths
+pub mod Definitions
+pub mod Sights
+pub mod Places
+pub mod Settled
+pub mod OneRule
+pub mod OneAnswer
+pub mod InTurn

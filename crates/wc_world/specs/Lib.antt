@@ -10,3 +10,9 @@ pub mod Snapshot
 pub mod Consistent
 pub mod Laws
 pub mod Applying
+pub mod After
+pub mod Levels
+pub mod Order
+pub mod Sights
+pub mod Evolved
+pub mod Accepting

@@ -1,44 +1,11 @@
 //! Records that change in place.
 
 ghost use Rattle.std.specs.Prelude.{◌≡◌};
-ghost use Rattle.wc_world.specs.Records.{has_ended};
-ghost use Rattle.wc_world.specs.Applied.{source_of, is_created, is_killed, set, keep};
+ghost use Rattle.wc_world.specs.Applied.{source_of, set, keep};
 
 use crate::change::{Kept, SetProcess};
+use crate::records_after::{has_ended, started_in};
 use wc_state::ProcessRecord;
-use wc_value::ProcessState;
-
-/// Whether a process has had no turn.
-fn is_created(state: ProcessState) -> bool
-    ensures { result ≡ is_created state }
-{
-    match state {
-        ProcessState::Created => true,
-        _ => false,
-    }
-}
-
-/// Whether a process was killed.
-fn is_killed(state: ProcessState) -> bool
-    ensures { result ≡ is_killed state }
-{
-    match state {
-        ProcessState::Killed => true,
-        _ => false,
-    }
-}
-
-/// Whether a process has ended.
-fn has_ended(state: ProcessState) -> bool
-    ensures { result ≡ has_ended state }
-{
-    match state {
-        ProcessState::Finished(_) => true,
-        ProcessState::Excepted(_) => true,
-        ProcessState::Killed => true,
-        _ => false,
-    }
-}
 
 /// The source with this number, where 0 stands for none.
 fn source_of(number: u32) -> Option<u32>
@@ -54,9 +21,7 @@ fn source_of(number: u32) -> Option<u32>
 pub(crate) fn set(item: &mut ProcessRecord, batch: u32, change: SetProcess)
     ensures { item.new ≡ set batch change item.old }
 {
-    if is_created(item.state) && !is_created(change.state) && !is_killed(change.state) {
-        item.started = batch;
-    }
+    item.started = started_in(batch, item.state, item.started, change.state);
     if has_ended(change.state) {
         item.ended = batch;
     }

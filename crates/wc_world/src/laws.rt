@@ -1,6 +1,12 @@
 //! Laws of worlds and changes. Each is the contract of a function that does nothing.
 
-ghost use Rattle.wc_world.specs.Laws.{LinksStayCorrect, ReachedIsConsistent, SnapshotsGiveTheWorld};
+ghost use Rattle.wc_world.specs.Laws.{LinksStayCorrect, NotBoth, OneRefusal, ReachedIsConsistent, SnapshotsGiveTheWorld};
+
+/// No changes are both accepted and refused, and they are refused in one way.
+pub fn changes_have_one_answer()
+    ensures both { NotBoth }
+    ensures one { OneRefusal }
+{}
 
 /// The lists of each world that accepted changes make fit each other.
 pub fn reached_worlds_are_consistent()

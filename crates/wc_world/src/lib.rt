@@ -4,24 +4,42 @@
 //! its batches, and the numbers of further items that take no memory.
 #![tactic(auto)]
 
+mod accepting;
 mod applying;
+mod blocks;
 mod change;
+mod checking;
+mod checkpoints;
+mod definitions_after;
 mod environments;
 mod error;
+mod fitting;
 mod in_place;
 mod laws;
+mod links_after;
+mod nodes_after;
 mod outputs;
+mod point;
 mod records;
+mod records_after;
+mod settling;
+mod snapshots;
+mod standing;
 mod trees;
 mod world;
 
 pub use change::{Change, Changes, Kept, NewProcess, SetProcess};
 pub use environments::env_of;
 pub use error::WorldError;
-pub use laws::{links_stay_correct, reached_worlds_are_consistent, snapshots_give_the_world};
+pub use laws::{
+    changes_have_one_answer, links_stay_correct, reached_worlds_are_consistent,
+    snapshots_give_the_world,
+};
 pub use records::Records;
 pub use trees::tree_of;
 pub use world::{Known, Libraries, World};
 
+#[cfg(test)]
+mod accepting_tests;
 #[cfg(test)]
 mod tests;

@@ -20,7 +20,7 @@ pub type Known = (Checked, Words);
 pub type Libraries = Roomy<Known>;
 
 /// The record of the process with this number, if there is one.
-fn find_record(records: &[ProcessRecord], pid: u32) -> Option<&ProcessRecord>
+pub(crate) fn find_record(records: &[ProcessRecord], pid: u32) -> Option<&ProcessRecord>
     ensures { option_copied result ≡ find_record pid records.now }
 {
     for record in records {

@@ -1,13 +1,13 @@
 -- Inputs and outputs of a process, link by link.
-use Rattle.std.proofs.Common.{◌≡◌, ℕ, suc, Bool, true, false, if◌then◌else◌, List, [], ◌∷◌, drop, Option, Some, None, refl, ap, sym, ◌∙◌, arith, ◌<◌, length, get_or, drop-cons}
+use Rattle.std.proofs.Common.{◌≡◌, ℕ, Bool, true, false, if◌then◌else◌, List, [], ◌∷◌, Option, Some, None, refl, ap, sym, ◌∙◌}
 use Rattle.wc_value.specs.Ascending.{put, before}
 use Rattle.std.specs.Str.{bytes_eq}
 use Rattle.wc_value.specs.declared.value.Value.{Value}
 use Rattle.wc_graph.specs.declared.node.NodeKind.{NodeKind}
 use Rattle.wc_graph.specs.declared.link.Link.{Link}
 use Rattle.wc_state.specs.declared.environment.NodeValue.{NodeValue}
-use Rattle.wc_world.specs.Records.{is_input_of, is_output_of}
-use Rattle.wc_world.specs.Trees.{NamedValues, value_of, with_value, inputs_after, outputs_after, values_alone}
+use Rattle.wc_world.specs.Records.{is_output_of}
+use Rattle.wc_world.specs.Trees.{NamedValues, value_of, with_value, outputs_after, values_alone}
 
 -- ---- values alone
 

@@ -30,3 +30,6 @@ pub mod Settled
 pub mod OneRule
 pub mod OneAnswer
 pub mod InTurn
+mod LinkedValues
+mod LinkLabels
+mod TreeLaws

@@ -1,5 +1,5 @@
 -- The environment of a process is there.
-use Rattle.std.proofs.Common.{◌≡◌, ℕ, ◌+◌, Bool, true, false, List, [], ◌∷◌, ◌++◌, Option, Some, None, drop, refl, ap, sym, ◌∙◌, append_assoc}
+use Rattle.std.proofs.Common.{◌≡◌, ℕ, ◌+◌, true, false, List, [], ◌∷◌, ◌++◌, Option, Some, None, drop, refl, ap, sym, ◌∙◌, append_assoc}
 use Rattle.std.specs.Prelude.{is_some, slice_get, ◌&&◌, not}
 use Rattle.std.specs.Option.{option_map}
 use Rattle.std.specs.List.{list_all}
@@ -18,7 +18,7 @@ use Rattle.wc_world.specs.World.{World}
 use Rattle.wc_world.specs.Records.{find_record, has_called, definition_in}
 use Rattle.wc_world.specs.Fits.{is_nil, is_process, is_data_node, held_fits, frame_fits, outline_lengths, checkpoint_fits, standing_fits}
 use Rattle.wc_world.specs.Consistent.{Stands, IsConsistent}
-use Rattle.wc_world.specs.Trees.{child_at, and_child, children_at, item_of, and_item, items_of, context_of, outputs_of}
+use Rattle.wc_world.specs.Trees.{child_at, and_child, children_at, item_of, and_item, items_of, context_of}
 use Rattle.wc_world.proofs.FoundRecords.{left, right, found_holds}
 
 abbrev pub Held : Type 0

@@ -1,5 +1,5 @@
 -- Which changes a world takes, and what it refuses first.
-use Rattle.std.specs.Prelude.{◌≡◌, ℕ, suc, ◌+◌, ◌<◌, ◌≤◌, nat_le, nat_lt, ◌==◌, ◌⊎◌, Bool, true, false, not, ◌&&◌, ◌||◌, if◌then◌else◌, List, [], ◌∷◌, length, Option, Some, None}
+use Rattle.std.specs.Prelude.{◌≡◌, ℕ, suc, ◌+◌, ◌<◌, ◌≤◌, nat_le, nat_lt, ◌==◌, ◌⊎◌, Bool, true, false, ◌&&◌, ◌||◌, if◌then◌else◌, List, [], ◌∷◌, length, Option, Some, None}
 use Rattle.std.specs.List.{list_all, list_any}
 use Rattle.wc_value.specs.Spelling.{depth}
 use Rattle.wc_graph.specs.Rules.{IsCall}
@@ -10,7 +10,6 @@ use Rattle.wc_graph.specs.declared.link.Link.{Link}
 use Rattle.wc_state.specs.declared.record.ProcessRecord.{ProcessRecord}
 use Rattle.wc_world.specs.declared.change.Change.{Change}
 use Rattle.wc_world.specs.declared.change.Change.TheVariants as change
-use Rattle.wc_world.specs.declared.change.NewProcess.{NewProcess}
 use Rattle.wc_world.specs.declared.change.SetProcess.{SetProcess}
 use Rattle.wc_world.specs.declared.change.Kept.{Kept}
 use Rattle.wc_world.specs.declared.error.WorldError.{WorldError}

@@ -1,5 +1,5 @@
 -- What holds of each world that accepted changes make.
-use Rattle.std.specs.Prelude.{◌≡◌, ℕ, suc, ◌<◌, ◌≤◌, ◌==◌, nat_le, nat_lt, Bool, true, false, ◌&&◌, if◌then◌else◌, List, [], ◌∷◌, length, map, All, Option, Some, None}
+use Rattle.std.specs.Prelude.{◌≡◌, ℕ, suc, ◌≤◌, ◌==◌, nat_le, nat_lt, Bool, true, false, ◌&&◌, if◌then◌else◌, List, [], ◌∷◌, length, map, All, Option, Some, None}
 use Rattle.wc_value.specs.Spelling.{depth}
 use Rattle.wc_graph.specs.Rules.{IsCall, IsLinkCorrect}
 use Rattle.wc_graph.specs.declared.node.NodeKind.{NodeKind}

@@ -1,5 +1,5 @@
 -- What a change must fit.
-use Rattle.std.specs.Prelude.{ℕ, zero, suc, nat_le, nat_lt, ◌==◌, Bool, true, false, not, ◌&&◌, ◌||◌, if◌then◌else◌, List, [], ◌∷◌, map, Option, Some, None, is_some, slice_get}
+use Rattle.std.specs.Prelude.{ℕ, suc, nat_le, nat_lt, ◌==◌, Bool, true, false, not, ◌&&◌, ◌||◌, if◌then◌else◌, List, [], ◌∷◌, Option, Some, None, is_some, slice_get}
 use Rattle.std.specs.List.{list_all}
 use Rattle.std.specs.Str.{bytes_eq}
 use Rattle.wc_value.specs.Ascending.{before}
@@ -17,15 +17,13 @@ use Rattle.wc_state.specs.declared.record.ProcessKind.{ProcessKind}
 use Rattle.wc_state.specs.declared.record.ProcessKind.TheVariants as kind
 use Rattle.wc_state.specs.declared.record.ProcessRecord.{ProcessRecord}
 use Rattle.wc_state.specs.declared.record.Frame.{Frame}
-use Rattle.wc_state.specs.declared.record.Await.{Await}
 use Rattle.wc_state.specs.declared.record.Checkpoint.{Checkpoint}
 use Rattle.wc_state.specs.declared.record.Part.{Part}
 use Rattle.wc_state.specs.declared.record.Part.TheVariants as part
 use Rattle.wc_world.specs.declared.change.NewProcess.{NewProcess}
 use Rattle.wc_world.specs.declared.change.SetProcess.{SetProcess}
-use Rattle.wc_world.specs.declared.change.Kept.{Kept}
 use Rattle.wc_world.specs.World.{World, Known}
-use Rattle.wc_world.specs.Records.{find_record, has_ended, has_called, calls, gives_output, is_call_from, is_output_of, definition_in, kind_of_definition, same_kind}
+use Rattle.wc_world.specs.Records.{find_record, has_ended, has_called, is_call_from, is_output_of, definition_in, kind_of_definition, same_kind}
 use Rattle.wc_world.specs.Blocks.{lengths_of}
 
 -- ---- libraries

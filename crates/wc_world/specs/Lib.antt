@@ -16,3 +16,4 @@ pub mod Order
 pub mod Sights
 pub mod Evolved
 pub mod Accepting
+pub mod TreeLaws

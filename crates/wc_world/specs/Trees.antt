@@ -1,5 +1,5 @@
 -- What a world records of a process: its tree, and the environment of its checkpoint.
-use Rattle.std.specs.Prelude.{ℕ, zero, suc, Bool, if◌then◌else◌, List, [], ◌∷◌, Option, Some, None, option_map, option_and_then}
+use Rattle.std.specs.Prelude.{ℕ, zero, suc, if◌then◌else◌, List, [], ◌∷◌, Option, Some, None, option_map, option_and_then}
 use Rattle.wc_value.specs.Ascending.{put}
 use Rattle.wc_value.specs.declared.process.Tree.{Tree, roll-Tree}
 use Rattle.wc_value.specs.declared.value.Value.{Value}

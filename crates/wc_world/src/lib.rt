@@ -32,8 +32,8 @@ pub use change::{Change, Changes, Kept, NewProcess, SetProcess};
 pub use environments::env_of;
 pub use error::WorldError;
 pub use laws::{
-    changes_have_one_answer, links_stay_correct, reached_worlds_are_consistent,
-    snapshots_give_the_world,
+    changes_have_one_answer, inputs_are_linked, links_stay_correct, outputs_are_linked,
+    reached_worlds_are_consistent, recorded_trees_unfold, snapshots_give_the_world,
 };
 pub use records::Records;
 pub use trees::tree_of;

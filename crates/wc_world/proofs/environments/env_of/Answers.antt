@@ -1,4 +1,4 @@
-use Rattle.std.proofs.Common.{◌≡◌, sym, ◌∙◌, refl}
+use Rattle.std.proofs.Common.{sym, ◌∙◌, refl}
 use Rattle.wc_world.proofs.ReachedWorlds.{reached_is_consistent}
 use Rattle.wc_world.proofs.RecordedEnvironments.{no_context}
 use Rattle.wc_world.proofs.environments.env_of.Goals as goal

@@ -1,5 +1,5 @@
 use Rattle.std.proofs.Common.{◌≡◌, sym, subst}
-use Rattle.wc_world.specs.World.{World, empty}
+use Rattle.wc_world.specs.World.{empty}
 use Rattle.wc_world.specs.Accepted.{IsReached, nothing}
 use Rattle.wc_world.proofs.world.World.new.Goals as goal
 

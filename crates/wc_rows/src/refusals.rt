@@ -20,12 +20,7 @@ fn nested(alloc: Global, depth: u32) -> Result<Value, AllocError> {
 }
 
 /// The process `add` with another library, kind or depth.
-fn new(
-    alloc: Global,
-    library: u32,
-    kind: ProcessKind,
-    depth: u32,
-) -> Result<Change, AllocError> {
+fn new(alloc: Global, library: u32, kind: ProcessKind, depth: u32) -> Result<Change, AllocError> {
     Ok(Change::Process(NewProcess {
         kind,
         definition: Text::of_str(alloc, "add")?,
@@ -96,7 +91,11 @@ fn new_processes_fit(rt: HostRuntime) -> Result<(), Fail> {
         (1, ProcessKind::Function, 17, false),
     ] {
         let changes = one(alloc, new(alloc, library, kind, depth)?)?;
-        let wanted = if fits { None } else { Some(WorldError::BadRecord(4)) };
+        let wanted = if fits {
+            None
+        } else {
+            Some(WorldError::BadRecord(4))
+        };
         assert_eq!(rt; refusal(alloc, &changes)?, wanted);
     }
     Ok(())
@@ -130,7 +129,11 @@ fn calls_fit(rt: HostRuntime) -> Result<(), Fail> {
     let alloc = rt.alloc();
     for (depth, label, fits) in [(2, "c_1", true), (1, "c_1", false), (2, "c_2", false)] {
         let changes = calling(alloc, depth, label)?;
-        let wanted = if fits { None } else { Some(WorldError::BadRecord(5)) };
+        let wanted = if fits {
+            None
+        } else {
+            Some(WorldError::BadRecord(5))
+        };
         assert_eq!(rt; refusal(alloc, &changes)?, wanted);
     }
     Ok(())
@@ -165,7 +168,11 @@ fn failures_fit(rt: HostRuntime) -> Result<(), Fail> {
         (5, false, false),
         (6, true, false),
     ] {
-        let wanted = if fits { None } else { Some(WorldError::BadRecord(4)) };
+        let wanted = if fits {
+            None
+        } else {
+            Some(WorldError::BadRecord(4))
+        };
         assert_eq!(rt; refusal(alloc, &failed(alloc, fails, paused)?)?, wanted);
     }
     Ok(())
@@ -300,7 +307,40 @@ fn counts_stand_in_snapshots(rt: HostRuntime) -> Result<(), Fail> {
     let world = World::new(alloc);
     assert!(rt; world.accepts(alloc, &changes).is_ok());
     let changes = two(alloc, Change::Count(1), Change::Count(1))?;
-    assert_eq!(rt; world.accepts(alloc, &changes).err(), Some(WorldError::BadRecord(0)));
+    assert_eq!(rt;
+        world.accepts(alloc, &changes).err(),
+        Some(WorldError::BadRecord(0))
+    );
+    Ok(())
+}
+
+/// The first snapshot of process 1, which is created, with these numbers.
+fn kept(alloc: Global, started: u32, ended: u32) -> Result<Changes, Fail> {
+    let mut changes = Changes::new(alloc);
+    changes.push(library(alloc)?)?;
+    changes.push(new(alloc, 1, ProcessKind::Function, 1)?)?;
+    changes.push(Change::Kept(Kept {
+        pid: 1,
+        started,
+        ended,
+    }))?;
+    changes.push(Change::Count(3))?;
+    Ok(changes)
+}
+
+#[test]
+fn kept_numbers_fit(rt: HostRuntime) -> Result<(), Fail> {
+    let alloc = rt.alloc();
+    let world = World::new(alloc);
+    for (started, ended, fits) in [(0, 0, true), (3, 0, true), (4, 0, false), (0, 1, false)] {
+        let wanted = if fits {
+            None
+        } else {
+            Some(WorldError::BadRecord(1))
+        };
+        let given = world.accepts(alloc, &kept(alloc, started, ended)?).err();
+        assert_eq!(rt; given, wanted);
+    }
     Ok(())
 }
 
@@ -309,10 +349,16 @@ fn batches_are_limited(rt: HostRuntime) -> Result<(), Fail> {
     let alloc = rt.alloc();
     let mut world = World::new(alloc);
     let changes = one(alloc, Change::Count(4_000_000_001))?;
-    assert_eq!(rt; world.accepts(alloc, &changes).err(), Some(WorldError::BadRecord(0)));
+    assert_eq!(rt;
+        world.accepts(alloc, &changes).err(),
+        Some(WorldError::BadRecord(0))
+    );
     take(alloc, &mut world, one(alloc, Change::Count(4_000_000_000))?)?;
     assert_eq!(rt; world.batches(), 4_000_000_000);
     let changes = one(alloc, Change::Data(Value::Int(5)))?;
-    assert_eq!(rt; world.accepts(alloc, &changes).err(), Some(WorldError::BadRecord(0)));
+    assert_eq!(rt;
+        world.accepts(alloc, &changes).err(),
+        Some(WorldError::BadRecord(0))
+    );
     Ok(())
 }

@@ -5,9 +5,8 @@ use std::test::Fail;
 use wc_check::check;
 use wc_graph::{Link, LinkType};
 use wc_parser::parse;
-use wc_record::{read_changes, write_changes};
 use wc_report::tree_lines;
-use wc_state::{Await, Checkpoint, Frame, JobPart, Part, ProcessKind, Task};
+use wc_state::{Await, Checkpoint, Part, ProcessKind};
 use wc_syntax::Checked;
 use wc_value::{ProcessState, Text, Value, Words};
 use wc_world::{Change, Changes, NewProcess, SetProcess, World, env_of, tree_of};
@@ -127,7 +126,10 @@ fn a_function_is_submitted_and_ends(rt: HostRuntime) -> Result<(), Fail> {
     assert_eq!(rt; (record.started, record.ended), (2, 2));
     assert!(rt; world.record_of(4).is_none());
     let tree = tree_of(alloc, &world, 3)?;
-    assert_eq!(rt; tree_lines(alloc, &tree)?.as_str(), "finished 0\nsum int 5\n");
+    assert_eq!(rt;
+        tree_lines(alloc, &tree)?.as_str(),
+        "finished 0\nsum int 5\n"
+    );
     Ok(())
 }
 
@@ -232,17 +234,5 @@ fn a_process_has_its_environment(rt: HostRuntime) -> Result<(), Fail> {
     let input = env.inputs.find(b"x").ok_or("it is given")?;
     assert_eq!(rt; input.node, 1);
     assert_eq!(rt; env.ctx.len(), 0);
-    Ok(())
-}
-
-#[test]
-fn changes_read_back(rt: HostRuntime) -> Result<(), Fail> {
-    let alloc = rt.alloc();
-    let bytes = write_changes(alloc, &submission(alloc)?)?;
-    let mut world = World::new(alloc);
-    take(alloc, &mut world, read_changes(alloc, bytes.bytes())?)?;
-    take(alloc, &mut world, turn(alloc)?)?;
-    let tree = tree_of(alloc, &world, 3)?;
-    assert_eq!(rt; tree_lines(alloc, &tree)?.as_str(), "finished 0\nsum int 5\n");
     Ok(())
 }

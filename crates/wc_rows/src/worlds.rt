@@ -5,6 +5,7 @@ use std::test::Fail;
 use wc_check::check;
 use wc_graph::{Link, LinkType};
 use wc_parser::parse;
+use wc_record::{read_changes, write_changes};
 use wc_report::tree_lines;
 use wc_state::{Await, Checkpoint, Part, ProcessKind};
 use wc_syntax::Checked;
@@ -234,5 +235,20 @@ fn a_process_has_its_environment(rt: HostRuntime) -> Result<(), Fail> {
     let input = env.inputs.find(b"x").ok_or("it is given")?;
     assert_eq!(rt; input.node, 1);
     assert_eq!(rt; env.ctx.len(), 0);
+    Ok(())
+}
+
+#[test]
+fn changes_read_back(rt: HostRuntime) -> Result<(), Fail> {
+    let alloc = rt.alloc();
+    let bytes = write_changes(alloc, &submission(alloc)?)?;
+    let mut world = World::new(alloc);
+    take(alloc, &mut world, read_changes(alloc, bytes.bytes())?)?;
+    take(alloc, &mut world, turn(alloc)?)?;
+    let tree = tree_of(alloc, &world, 3)?;
+    assert_eq!(rt;
+        tree_lines(alloc, &tree)?.as_str(),
+        "finished 0\nsum int 5\n"
+    );
     Ok(())
 }

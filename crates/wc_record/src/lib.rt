@@ -1,0 +1,20 @@
+//! Changes of a world as bytes.
+#![tactic(auto)]
+
+mod error;
+mod fields;
+mod laws;
+mod library;
+mod parts;
+mod pieces;
+mod put;
+mod reading;
+mod writing;
+
+pub use error::RecordError;
+pub use laws::{reading_has_one_answer, what_is_read_is_written, what_is_written_is_read};
+pub use reading::read_changes;
+pub use writing::write_changes;
+
+#[cfg(test)]
+mod tests;

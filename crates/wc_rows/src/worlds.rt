@@ -5,12 +5,12 @@ use std::test::Fail;
 use wc_check::check;
 use wc_graph::{Link, LinkType};
 use wc_parser::parse;
-use wc_record::{read_changes, write_changes};
+use wc_record::read_changes;
 use wc_report::tree_lines;
 use wc_state::{Await, Checkpoint, Part, ProcessKind};
 use wc_syntax::Checked;
 use wc_value::{ProcessState, Text, Value, Words};
-use wc_world::{Change, Changes, NewProcess, SetProcess, World, env_of, tree_of};
+use wc_world::{Change, Changes, NewProcess, SetProcess, World, WorldError, env_of, tree_of};
 
 /// A function, a job, and two chains of which the outer calls the inner, which calls the function.
 const FILE: &str = "calcfunction add(x: int, y: int) -> (sum: int) { out sum = x + y; }
@@ -238,17 +238,22 @@ fn a_process_has_its_environment(rt: HostRuntime) -> Result<(), Fail> {
     Ok(())
 }
 
+/// The bytes of one change, the data node 5, and of two, the second a process of a library that isn't there.
+const PAYLOADS: [&[u8]; 2] = [
+    &[0, 0, 0, 1, 2, 1, 0, 0, 0, 0, 0, 0, 0, 5],
+    &[
+        0, 0, 0, 2, 2, 2, 1, 3, 1, 0, 0, 0, 1, 102, 0, 0, 0, 1, 0, 0, 0, 1, 0, 0, 0, 0, 0,
+    ],
+];
+
 #[test]
-fn changes_read_back(rt: HostRuntime) -> Result<(), Fail> {
+fn read_changes_are_taken_or_refused(rt: HostRuntime) -> Result<(), Fail> {
     let alloc = rt.alloc();
-    let bytes = write_changes(alloc, &submission(alloc)?)?;
     let mut world = World::new(alloc);
-    take(alloc, &mut world, read_changes(alloc, bytes.bytes())?)?;
-    take(alloc, &mut world, turn(alloc)?)?;
-    let tree = tree_of(alloc, &world, 3)?;
-    assert_eq!(rt;
-        tree_lines(alloc, &tree)?.as_str(),
-        "finished 0\nsum int 5\n"
-    );
+    take(alloc, &mut world, read_changes(alloc, PAYLOADS[0])?)?;
+    assert_eq!(rt; world.graph().nodes().len(), 1);
+    let changes = read_changes(alloc, PAYLOADS[1])?;
+    let given = world.accepts(alloc, &changes).err();
+    assert_eq!(rt; given, Some(WorldError::BadRecord(3)));
     Ok(())
 }

@@ -149,7 +149,7 @@ set_bytes s =
 abbrev pub kept_bytes : Kept → List ℕ
 kept_bytes k = u32_bytes k.pid ++ (u32_bytes k.started ++ u32_bytes k.ended)
 
--- the printed text_bytes of a library, and the names of its definitions that have caching on
+-- the printed text of a library, and the names of its definitions that have caching on
 abbrev pub library_bytes : List Definition → List (List ℕ) → List ℕ
 library_bytes library names = text_bytes (printed library) ++ list text_bytes names
 

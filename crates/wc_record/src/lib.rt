@@ -17,4 +17,6 @@ pub use reading::read_changes;
 pub use writing::write_changes;
 
 #[cfg(test)]
+mod places;
+#[cfg(test)]
 mod tests;

@@ -1,4 +1,4 @@
-//! Worked bytes of changes, and each refusal once.
+//! Worked bytes of changes, and each refusal.
 
 use crate::*;
 use std::alloc::Global;

@@ -9,6 +9,7 @@ pub mod PartCodes
 pub mod ChangeCodes
 pub mod Unique
 pub mod Whole
+pub mod Some
 pub mod Tolds
 pub mod Printed
 pub mod Writables

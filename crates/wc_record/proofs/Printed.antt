@@ -31,6 +31,10 @@ not_both e l h = cc
 printed_one : (t : List ℕ) (l m : List Definition) → TextSays t (Ok l) → (p : IsPrinted t m) → p.library ≡ l
 printed_one t l m says p = same_parsed p.library l (one_text_answer t (Ok p.library) (Ok l) p.says says)
 
+-- the text of a library that breaks a rule
+pub prints_unruled : (t : List ℕ) (l : List Definition) → TextSays t (Ok l) → (KeepsRules l → ⊥) → (m : List Definition) → IsPrinted t m → ⊥
+prints_unruled t l says unruled m p = unruled (subst KeepsRules (printed_one t l m says p) p.rules)
+
 -- the text of a library that prints another text
 pub prints_other : (t : List ℕ) (l : List Definition) → TextSays t (Ok l) → (printed l ≡ t → ⊥) → (m : List Definition) → IsPrinted t m → ⊥
 prints_other t l says differs m p = differs (ap printed (sym (printed_one t l m says p)) ∙ p.prints)
@@ -52,11 +56,10 @@ refused_rules l (finding.TooMany at) h other rules = breaks_rules l (finding.Too
 refused_rules l (finding.BadName n at) h other rules = breaks_rules l (finding.BadName n at) h rules
 refused_rules l finding.OutOfMemory h other rules = other refl
 
--- the text of a library that breaks a rule
 pub prints_refused : (t : List ℕ) (l : List Definition) (e : CheckError) → TextSays t (Ok l) → IsRefused l e → (e ≡ finding.OutOfMemory → ⊥) → (m : List Definition) → IsPrinted t m → ⊥
-prints_refused t l e says h other m p = refused_rules l e h other (subst KeepsRules (printed_one t l m says p) p.rules)
+prints_refused t l e says h other = prints_unruled t l says (refused_rules l e h other)
 
-says_refused : (t : List ℕ) (e : ParseError) → TextSays t (Err e) → (m : List Definition) → IsPrinted t m → ⊥
+pub says_refused : (t : List ℕ) (e : ParseError) → TextSays t (Err e) → (m : List Definition) → IsPrinted t m → ⊥
 says_refused t e says m p = not_both e p.library (one_text_answer t (Err e) (Ok p.library) says p.says)
 
 -- a text that is no library's

@@ -10,6 +10,10 @@ use Rattle.wc_record.specs.Reading.{whole}
 abbrev pub OneAnswer : Type 0
 OneAnswer = (bytes : List ℕ) (r s : Result (List Change) RecordError) → whole bytes r → whole bytes s → r ≡ s
 
+-- Reading has an answer.
+abbrev pub SomeReading : Type 0
+SomeReading = (bytes : List ℕ) → (r : Result (List Change) RecordError) × whole bytes r
+
 -- What is written is read.
 abbrev pub WrittenIsRead : Type 0
 WrittenIsRead = (cs : List Change) → IsWritten cs → whole (spelled cs) (Ok cs)

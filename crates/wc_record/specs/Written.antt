@@ -1,5 +1,5 @@
 -- Which changes can stand in bytes.
-use Rattle.std.specs.Prelude.{ℕ, ◌<◌, ◌≤◌, ◌^◌, ◌≡◌, ℤ, true, List, [], ◌∷◌, ◌++◌, length, All, Option, Some, None, FitsSigned}
+use Rattle.std.specs.Prelude.{ℕ, ◌<◌, ◌≤◌, ◌^◌, ◌≡◌, ℤ, true, List, length, All, Option, Some, None, FitsSigned}
 use Rattle.std.specs.Int.{w64}
 use Rattle.wc_value.specs.Ascending.{Ascends}
 use Rattle.wc_value.specs.Spelling.{spelling, depth}

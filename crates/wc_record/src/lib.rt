@@ -12,7 +12,9 @@ mod reading;
 mod writing;
 
 pub use error::RecordError;
-pub use laws::{reading_has_one_answer, what_is_read_is_written, what_is_written_is_read};
+pub use laws::{
+    reading_has_an_answer, reading_has_one_answer, what_is_read_is_written, what_is_written_is_read,
+};
 pub use reading::read_changes;
 pub use writing::write_changes;
 

@@ -1,5 +1,5 @@
-//! Whole commands on `serve`, over files and an output in memory, with their statuses and texts, and worlds made by hand. The
-//! texts and the refusals were worked out by hand from the rules.
+//! Whole commands on `serve`, over files and an output in memory, with their statuses and texts. The texts were worked
+//! out by hand from the rules.
 #![tactic(auto)]
 
 #[cfg(test)]
@@ -13,10 +13,6 @@ mod files;
 #[cfg(test)]
 mod functions;
 #[cfg(test)]
-mod refusals;
-#[cfg(test)]
 mod session;
 #[cfg(test)]
 mod values;
-#[cfg(test)]
-mod worlds;

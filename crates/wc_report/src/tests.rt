@@ -1,11 +1,15 @@
 //! Worked texts, each written where memory is ample.
 
-use crate::{kind_name, reason_name, state_text, tree_lines, value_text};
+use crate::{
+    kind_name, list_text, process_kind_name, reason_name, state_text, tree_lines, value_text,
+};
 use std::alloc::Global;
 use std::test::Fail;
+use wc_state::ProcessKind;
 use wc_value::{
     Branches, Bytes, Fields, Files, Kind, ProcessState, Reason, Text, Tree, Value, Values,
 };
+use wc_world::World;
 
 /// A folder of one file.
 fn folder(alloc: Global, name: &str, content: &[u8]) -> Result<Value, Fail> {
@@ -188,5 +192,26 @@ fn writes_values_with_their_kinds(rt: HostRuntime) -> Result<(), Fail> {
         value_text(alloc, &bytes)?.as_str(),
         "folder {\"f\":{\"hex\":\"ff\"}}"
     );
+    Ok(())
+}
+
+#[test]
+fn lists_no_process_of_an_empty_world(rt: HostRuntime) -> Result<(), Fail> {
+    let alloc = rt.alloc();
+    let world = World::new(alloc);
+    assert_eq!(rt; list_text(alloc, &world)?.as_str(), "");
+    Ok(())
+}
+
+#[test]
+fn names_kinds_of_processes(rt: HostRuntime) -> Result<(), Fail> {
+    let rows = [
+        (ProcessKind::Function, "calcfunction"),
+        (ProcessKind::Job, "calcjob"),
+        (ProcessKind::Chain, "workchain"),
+    ];
+    for (kind, name) in rows {
+        assert_eq!(rt; process_kind_name(kind), name);
+    }
     Ok(())
 }

@@ -61,7 +61,7 @@ fn put_outputs(
 }
 
 /// Writes what a process ran and its state.
-fn put_process(
+pub fn put_process(
     alloc: Global,
     out: &mut String,
     definition: &Text,

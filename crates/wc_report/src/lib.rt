@@ -1,15 +1,22 @@
-//! The texts of states, values, process trees and lists of processes.
+//! The texts of states, values, process trees and lists of processes, and the lines that tell what was done to a store.
 #![tactic(auto)]
 
+mod lines;
 mod list;
 mod names;
 mod tree;
 mod value;
 
+pub use lines::{
+    committed_text, damaged_text, full_text, initialised_text, live_count, packed_text,
+    paused_count, submitted_text,
+};
 pub use list::{list_text, process_kind_name};
 pub use names::{kind_name, reason_name, state_text};
 pub use tree::tree_lines;
 pub use value::value_text;
 
+#[cfg(test)]
+mod lines_tests;
 #[cfg(test)]
 mod tests;

@@ -1,6 +1,7 @@
-//! Worked lines, each written where memory is ample, and processes counted.
+//! Worked lines, each written where memory is ample, and processes listed and counted.
 
 use crate::lines::{live_among, paused_among};
+use crate::list::put_processes;
 use crate::{
     committed_text, damaged_text, full_text, initialised_text, live_count, packed_text,
     paused_count, submitted_text,
@@ -113,6 +114,21 @@ fn counts_processes(rt: HostRuntime) -> Result<(), Fail> {
     }
     assert_eq!(rt; live_among(processes.as_slice()), 3);
     assert_eq!(rt; paused_among(processes.as_slice()), 2);
+    Ok(())
+}
+
+#[test]
+fn lists_processes(rt: HostRuntime) -> Result<(), Fail> {
+    let alloc = rt.alloc();
+    let mut processes = Vec::new(alloc);
+    processes.push(process(alloc, ProcessState::Finished(0), false)?)?;
+    processes.push(process(alloc, ProcessState::Waiting, true)?)?;
+    let mut out = String::new(alloc);
+    put_processes(alloc, &mut out, processes.as_slice())?;
+    assert_eq!(rt;
+        out.as_str(),
+        "3 calcfunction add finished 0\n3 calcfunction add waiting paused\n"
+    );
     Ok(())
 }
 

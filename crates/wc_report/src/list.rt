@@ -42,7 +42,7 @@ fn put_line(alloc: Global, out: &mut String, process: &ProcessRecord) -> Result<
 }
 
 /// Writes the lines of these processes.
-fn put_processes(
+pub(crate) fn put_processes(
     alloc: Global,
     out: &mut String,
     processes: &[ProcessRecord],

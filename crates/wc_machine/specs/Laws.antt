@@ -1,0 +1,84 @@
+-- Laws of the machine on worlds of functions that take no other's outcome.
+use Rattle.std.specs.Prelude.{◌≡◌, ℕ, ◌+◌, ◌<◌, ◌≤◌, true, false, List, length, All, Some, None}
+use Rattle.wc_value.specs.declared.process.ProcessState.TheVariants as state
+use Rattle.wc_syntax.specs.Findings.{definition_named, is_among}
+use Rattle.wc_syntax.specs.declared.definition.Definition.{Definition}
+use Rattle.wc_syntax.specs.declared.definition.Definition.TheVariants as definition
+use Rattle.wc_syntax.specs.declared.definition.Function.{Function}
+use Rattle.wc_calculation.specs.Outcomes.{calculated}
+use Rattle.wc_calculation.specs.Rules.{Values}
+use Rattle.wc_calculation.specs.declared.outcomes.Parsed.{Parsed}
+use Rattle.wc_state.specs.declared.record.ProcessKind.TheVariants as kind
+use Rattle.wc_state.specs.declared.record.ProcessRecord.{ProcessRecord}
+use Rattle.wc_world.specs.declared.change.Change.{Change}
+use Rattle.wc_world.specs.World.{World, empty}
+use Rattle.wc_world.specs.Accepted.{IsAccepted, IsReached}
+use Rattle.wc_world.specs.Applied.{applied}
+use Rattle.wc_world.specs.Records.{find_record, is_calculation}
+use Rattle.wc_machine.specs.Continues.{Continues}
+use Rattle.wc_machine.specs.Ending.{ends}
+use Rattle.wc_machine.specs.Recorded.{its_definition, recorded_inputs}
+use Rattle.wc_machine.specs.Sound.{IsSound}
+use Rattle.wc_machine.specs.Submitting.{Submits, submitted_number}
+
+-- every process is a function without caching
+abbrev pub OnlyFunctions : World → Type 0
+OnlyFunctions w = All (λ r. (r.kind ≡ kind.Function) × (r.caching ≡ false)) w.records
+
+-- there is room for nodes up to this number, and for one batch more
+pub record HasPlaces (w : World) (last : ℕ) : Type 0 where
+  pub nodes : last ≤ 8000000
+  pub batches : w.batches < 4000000000
+
+-- ---- submissions
+
+abbrev pub SubmissionsAreAccepted : Type 0
+SubmissionsAreAccepted = (w : World) (library : List Definition) (caching : List (List ℕ)) (name : List ℕ) (inputs : Values) (cs : List Change)
+    → IsReached w → Submits w library caching name inputs cs → HasPlaces w (submitted_number w inputs)
+    → IsAccepted w cs
+
+abbrev pub SubmissionsContinue : Type 0
+SubmissionsContinue = (w : World) (library : List Definition) (caching : List (List ℕ)) (name : List ℕ) (inputs : Values) (cs : List Change)
+    → IsReached w → Submits w library caching name inputs cs → Continues w (applied w cs)
+
+-- the library has a function of this name, which is not among those with caching on
+pub record IsPlainFunction (library : List Definition) (caching : List (List ℕ)) (name : List ℕ) : Type 0 where
+  pub function : Function
+  pub is_there : definition_named name library ≡ Some (definition.Function function)
+  pub uncached : is_among name caching ≡ false
+
+abbrev pub SubmissionsKeepSound : Type 0
+SubmissionsKeepSound = (w : World) (library : List Definition) (caching : List (List ℕ)) (name : List ℕ) (inputs : Values) (cs : List Change)
+    → IsReached w → IsSound w → OnlyFunctions w → Submits w library caching name inputs cs → IsPlainFunction library caching name
+    → IsAccepted w cs → IsSound (applied w cs) × OnlyFunctions (applied w cs)
+
+-- ---- turns
+
+-- a calculation that is created, in a world that accepted changes make
+pub record IsCreatedCalculation (w : World) (r : ProcessRecord) : Type 0 where
+  pub reached : IsReached w
+  pub found : find_record r.node w.records ≡ Some r
+  pub calculates : is_calculation r.kind ≡ true
+  pub created : r.state ≡ state.Created
+
+-- the outputs of what a created function means
+abbrev pub calculated_for : World → ProcessRecord → Function → Parsed
+calculated_for w r f = calculated f (recorded_inputs w r.node)
+
+abbrev pub FunctionsAreAccepted : Type 0
+FunctionsAreAccepted = (w : World) (r : ProcessRecord) (f : Function) → IsCreatedCalculation w r → its_definition w r ≡ Some (definition.Function f)
+    → HasPlaces w (length w.nodes + length (calculated_for w r f).outputs) → IsAccepted w (ends w r (calculated_for w r f) None None)
+
+abbrev pub FunctionsContinue : Type 0
+FunctionsContinue = (w : World) (r : ProcessRecord) (f : Function) → IsCreatedCalculation w r → r.started ≡ 0 → its_definition w r ≡ Some (definition.Function f)
+    → Continues w (applied w (ends w r (calculated_for w r f) None None))
+
+abbrev pub FunctionsKeepSound : Type 0
+FunctionsKeepSound = (w : World) (r : ProcessRecord) (f : Function) → IsCreatedCalculation w r → its_definition w r ≡ Some (definition.Function f)
+    → IsSound w → OnlyFunctions w → IsAccepted w (ends w r (calculated_for w r f) None None)
+    → IsSound (applied w (ends w r (calculated_for w r f) None None)) × OnlyFunctions (applied w (ends w r (calculated_for w r f) None None))
+
+-- ---- the beginning
+
+abbrev pub EmptyIsSound : Type 0
+EmptyIsSound = IsSound empty

@@ -1,0 +1,13 @@
+//! What one event makes of a world, and when a world is sound.
+#![tactic(auto)]
+
+mod answer;
+mod function_laws;
+mod submission_laws;
+
+pub use answer::TaskAnswer;
+pub use function_laws::{functions_are_accepted, functions_continue, functions_keep_sound};
+pub use submission_laws::{
+    submissions_are_accepted, submissions_continue, submissions_keep_sound,
+    the_empty_world_is_sound,
+};

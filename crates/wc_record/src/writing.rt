@@ -1,21 +1,22 @@
 //! Changes, put at the end of bytes.
 
-ghost use Rattle.std.specs.Prelude.{◌≡◌, ◌++◌, ◌∷◌, true, List, IfOk, OnOk};
+ghost use Rattle.std.specs.Prelude.{◌≡◌, [], ◌++◌, ◌∷◌, ◌<◌, ◌≤◌, ◌^◌, true, List, IfOk, OnOk};
 ghost use Rattle.wc_world.specs.Fits.{names_ascend};
 ghost use Rattle.wc_value.specs.Spells.{IsText};
+ghost use Rattle.wc_value.specs.Spelling.{spelling, depth};
 ghost use Rattle.wc_syntax.specs.declared.definition.Definition.{Definition};
 ghost use Rattle.wc_syntax.specs.Bare.{bare_library};
 ghost use Rattle.wc_syntax.specs.Checked.{IsChecked};
 ghost use Rattle.wc_syntax.specs.Printing.{printed};
-ghost use Rattle.wc_record.specs.Spelled.{u32_bytes, text_bytes, list, kind_byte, type_byte, reason_number, state_bytes, code_bytes, new_bytes, link_bytes, set_bytes, kept_bytes, library_bytes, change_bytes, spelled};
-ghost use Rattle.wc_record.specs.Written.{IsList, IsState, IsCode, IsNew, IsLink, IsSet, IsKept, IsLibrary, IsChange, IsReadablePart, IsReadableChange, FailsFit, IsWritable, AreWritable, AreReadable, IsWritten};
+ghost use Rattle.wc_record.specs.Spelled.{u32_bytes, u64_bytes, text_bytes, list, truth_byte, kind_byte, type_byte, reason_number, state_bytes, code_bytes, part_bytes, new_bytes, link_bytes, set_bytes, kept_bytes, library_bytes, change_bytes, spelled};
+ghost use Rattle.wc_record.specs.Written.{IsNumber, IsList, IsState, IsCode, IsValue, IsPart, IsNew, IsLink, IsSet, IsKept, IsLibrary, IsChange, IsReadablePart, IsReadableChange, FailsFit, IsWritable, AreWritable, AreReadable, IsWritten};
 
 use crate::put::{put_bool, put_count, put_i64, put_part, put_text, put_u32, put_u64};
 use std::alloc::{AllocError, Global};
 use wc_graph::{Link, LinkType};
-use wc_state::ProcessKind;
+use wc_state::{Part, ProcessKind};
 use wc_syntax::{Checked, offsets_are_not_printed, print};
-use wc_value::{Bytes, ProcessState, Reason, Words, put_value};
+use wc_value::{Bytes, ProcessState, Reason, Text, Value, Words, put_value};
 use wc_world::{Change, Changes, Kept, NewProcess, SetProcess};
 
 fn kind_byte(kind: ProcessKind) -> u8
@@ -92,46 +93,117 @@ fn put_code(out: &mut Bytes, code: Option<i64>) -> Result<(), AllocError>
     }
 }
 
-fn put_new(out: &mut Bytes, new: &NewProcess) -> Result<(), AllocError>
-    ensures bytes { OnOk result (out.new ≡ out.old ++ new_bytes new.now) }
-    ensures fits { OnOk result (IsNew new.now) }
+/// Puts a new process. Its texts aren't copied.
+pub(crate) fn put_process(
+    out: &mut Bytes,
+    kind: ProcessKind,
+    definition: &Text,
+    library: u32,
+    depth: u32,
+    label: &Text,
+    caching: bool,
+) -> Result<(), AllocError>
+    ensures bytes { OnOk result (out.new ≡ out.old ++ 3 ∷ new_bytes (record { kind = kind; definition = definition.now; library = library; depth = depth; label = label.now; caching = caching })) }
+    ensures fits { OnOk result (IsNew (record { kind = kind; definition = definition.now; library = library; depth = depth; label = label.now; caching = caching })) }
 {
-    out.push(kind_byte(new.kind))?;
-    put_text(out, &new.definition)?;
-    put_u32(out, new.library)?;
-    put_u32(out, new.depth)?;
-    put_text(out, &new.label)?;
-    put_bool(out, new.caching)
+    out.push(3)?;
+    out.push(kind_byte(kind))?;
+    put_text(out, definition)?;
+    put_u32(out, library)?;
+    put_u32(out, depth)?;
+    put_text(out, label)?;
+    put_bool(out, caching)
 }
 
-fn put_link(out: &mut Bytes, link: &Link) -> Result<(), AllocError>
-    ensures bytes { OnOk result (out.new ≡ out.old ++ link_bytes link.now) }
+fn put_new(out: &mut Bytes, new: &NewProcess) -> Result<(), AllocError>
+    ensures bytes { OnOk result (out.new ≡ out.old ++ 3 ∷ new_bytes new.now) }
+    ensures fits { OnOk result (IsNew new.now) }
+{
+    put_process(
+        out,
+        new.kind,
+        &new.definition,
+        new.library,
+        new.depth,
+        &new.label,
+        new.caching,
+    )
+}
+
+/// Puts a link.
+pub(crate) fn put_link(out: &mut Bytes, link: &Link) -> Result<(), AllocError>
+    ensures bytes { OnOk result (out.new ≡ out.old ++ 4 ∷ link_bytes link.now) }
     ensures fits { OnOk result (IsLink link.now) }
 {
+    out.push(4)?;
     put_u32(out, link.source)?;
     put_u32(out, link.target)?;
     out.push(type_byte(link.link))?;
     put_text(out, &link.label)
 }
 
-fn put_set(out: &mut Bytes, set: &SetProcess) -> Result<(), AllocError>
-    requires { FailsFit set.now.part }
-    ensures bytes { OnOk result (out.new ≡ out.old ++ set_bytes set.now) }
-    ensures fits { OnOk result (IsReadablePart set.now.part → IsSet set.now) }
+/// Puts the first half of what a process is from now on: its number, its state and its pause mark.
+pub(crate) fn put_standing(
+    out: &mut Bytes,
+    pid: u32,
+    state: ProcessState,
+    paused: bool,
+) -> Result<(), AllocError>
+    ensures bytes { OnOk result (out.new ≡ out.old ++ 5 ∷ (u32_bytes pid ++ (state_bytes state ++ truth_byte paused ∷ []))) }
+    ensures pid { OnOk result (IsNumber pid) }
+    ensures state { OnOk result (IsState state) }
 {
-    put_u32(out, set.pid)?;
-    put_state(out, set.state)?;
-    put_bool(out, set.paused)?;
-    put_u32(out, set.cached_from)?;
-    put_u64(out, set.fuel)?;
-    put_code(out, set.code)?;
-    put_part(out, &set.part)
+    out.push(5)?;
+    put_u32(out, pid)?;
+    put_state(out, state)?;
+    put_bool(out, paused)
 }
 
-fn put_kept(out: &mut Bytes, kept: &Kept) -> Result<(), AllocError>
-    ensures bytes { OnOk result (out.new ≡ out.old ++ kept_bytes kept.now) }
+/// Puts the other half of what a process is from now on. Its part isn't copied.
+pub(crate) fn put_progress(
+    out: &mut Bytes,
+    cached_from: u32,
+    fuel: u64,
+    code: Option<i64>,
+    part: &Part,
+) -> Result<(), AllocError>
+    requires { FailsFit part.now }
+    ensures bytes { OnOk result (out.new ≡ out.old ++ (u32_bytes cached_from ++ (u64_bytes fuel ++ (code_bytes code ++ part_bytes part.now)))) }
+    ensures cached_from { OnOk result (IsNumber cached_from) }
+    ensures fuel { OnOk result (fuel < 2 ^ 64) }
+    ensures code { OnOk result (IsCode code) }
+    ensures part { OnOk result (IsReadablePart part.now → IsPart part.now) }
+{
+    put_u32(out, cached_from)?;
+    put_u64(out, fuel)?;
+    put_code(out, code)?;
+    put_part(out, part)
+}
+
+fn put_set(out: &mut Bytes, set: &SetProcess) -> Result<(), AllocError>
+    requires { FailsFit set.now.part }
+    ensures bytes { OnOk result (out.new ≡ out.old ++ 5 ∷ set_bytes set.now) }
+    ensures fits { OnOk result (IsReadablePart set.now.part → IsSet set.now) }
+{
+    put_standing(out, set.pid, set.state, set.paused)?;
+    put_progress(out, set.cached_from, set.fuel, set.code, &set.part)
+}
+
+/// Puts how many batches there were.
+pub(crate) fn put_batches(out: &mut Bytes, batches: u32) -> Result<(), AllocError>
+    ensures bytes { OnOk result (out.new ≡ out.old ++ 6 ∷ u32_bytes batches) }
+    ensures fits { OnOk result (IsNumber batches) }
+{
+    out.push(6)?;
+    put_u32(out, batches)
+}
+
+/// Puts when a process started and ended.
+pub(crate) fn put_kept(out: &mut Bytes, kept: &Kept) -> Result<(), AllocError>
+    ensures bytes { OnOk result (out.new ≡ out.old ++ 7 ∷ kept_bytes kept.now) }
     ensures fits { OnOk result (IsKept kept.now) }
 {
+    out.push(7)?;
     put_u32(out, kept.pid)?;
     put_u32(out, kept.started)?;
     put_u32(out, kept.ended)
@@ -159,55 +231,45 @@ fn put_printed(alloc: Global, out: &mut Bytes, library: &Checked) -> Result<(), 
     put_text(out, &printed)
 }
 
-fn put_library(
+/// Puts a library, with the names of its definitions that have caching on.
+pub(crate) fn put_library(
     alloc: Global,
     out: &mut Bytes,
     library: &Checked,
     names: &Words,
 ) -> Result<(), AllocError>
     requires { names_ascend names.now ≡ true }
-    ensures bytes { OnOk result (out.new ≡ out.old ++ library_bytes library.now names.now) }
+    ensures bytes { OnOk result (out.new ≡ out.old ++ 1 ∷ library_bytes library.now names.now) }
     ensures fits { OnOk result (IsLibrary library.now names.now) }
 {
+    out.push(1)?;
     put_printed(alloc, out, library)?;
     put_names(out, names)
 }
 
+/// Puts a data node.
+pub(crate) fn put_data(out: &mut Bytes, value: &Value) -> Result<(), AllocError>
+    ensures bytes { OnOk result (out.new ≡ out.old ++ 2 ∷ spelling value.now) }
+    ensures fits { OnOk result (depth value.now ≤ 32 → IsValue value.now) }
+{
+    out.push(2)?;
+    put_value(out, value)
+}
+
 /// Puts a change.
-pub fn put_change(alloc: Global, out: &mut Bytes, change: &Change) -> Result<(), AllocError>
+fn put_change(alloc: Global, out: &mut Bytes, change: &Change) -> Result<(), AllocError>
     requires { IsWritable change.now }
     ensures bytes { OnOk result (out.new ≡ out.old ++ change_bytes change.now) }
     ensures fits { OnOk result (IsReadableChange change.now → IsChange change.now) }
 {
     match change {
-        Change::Library(library, names) => {
-            out.push(1)?;
-            put_library(alloc, out, library, names)
-        }
-        Change::Data(value) => {
-            out.push(2)?;
-            put_value(out, value)
-        }
-        Change::Process(new) => {
-            out.push(3)?;
-            put_new(out, new)
-        }
-        Change::Link(link) => {
-            out.push(4)?;
-            put_link(out, link)
-        }
-        Change::Set(set) => {
-            out.push(5)?;
-            put_set(out, set)
-        }
-        Change::Count(batches) => {
-            out.push(6)?;
-            put_u32(out, *batches)
-        }
-        Change::Kept(kept) => {
-            out.push(7)?;
-            put_kept(out, kept)
-        }
+        Change::Library(library, names) => put_library(alloc, out, library, names),
+        Change::Data(value) => put_data(out, value),
+        Change::Process(new) => put_new(out, new),
+        Change::Link(link) => put_link(out, link),
+        Change::Set(set) => put_set(out, set),
+        Change::Count(batches) => put_batches(out, *batches),
+        Change::Kept(kept) => put_kept(out, kept),
     }
 }
 

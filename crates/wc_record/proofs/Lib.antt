@@ -13,3 +13,5 @@ pub mod Some
 pub mod Tolds
 pub mod Printed
 pub mod Writables
+pub mod Remaining
+pub mod SnapshotParts

@@ -5,3 +5,4 @@ pub mod Written
 pub mod Reading
 pub mod Libraries
 pub mod Laws
+pub mod Snapshots

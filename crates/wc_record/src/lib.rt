@@ -1,4 +1,4 @@
-//! Changes of a world as bytes.
+//! Changes of a world as bytes, and the bytes of its snapshot.
 #![tactic(auto)]
 
 mod error;
@@ -9,6 +9,7 @@ mod parts;
 mod pieces;
 mod put;
 mod reading;
+mod snapshot;
 mod writing;
 
 pub use error::RecordError;
@@ -16,6 +17,7 @@ pub use laws::{
     reading_has_an_answer, reading_has_one_answer, what_is_read_is_written, what_is_written_is_read,
 };
 pub use reading::read_changes;
+pub use snapshot::write_snapshot;
 pub use writing::write_changes;
 
 #[cfg(test)]

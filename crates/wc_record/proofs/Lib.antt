@@ -14,4 +14,4 @@ pub mod Tolds
 pub mod Printed
 pub mod Writables
 pub mod Remaining
-pub mod SnapshotParts
+pub mod SnapshotLength

@@ -4,7 +4,7 @@ use crate::*;
 use std::alloc::Global;
 use std::test::Fail;
 use wc_value::{Bytes, Value};
-use wc_world::Change;
+use wc_world::{Change, World};
 
 /// The bytes of one data node with the number 5.
 const FIVE: &[u8] = &[0, 0, 0, 1, 2, 1, 0, 0, 0, 0, 0, 0, 0, 5];
@@ -163,5 +163,63 @@ fn values_nest_no_deeper_than_32(rt: HostRuntime) -> Result<(), Fail> {
     bytes.push(1)?;
     let told = refusal(rt.alloc(), bytes.bytes())?;
     assert_eq!(rt; told.as_str(), "too deep at 165");
+    Ok(())
+}
+
+/// A world with the changes that bytes spell.
+fn world_of(alloc: Global, bytes: &[u8]) -> Result<World, Fail> {
+    let changes = read_changes(alloc, bytes)?;
+    let mut world = World::new(alloc);
+    world.accepts(alloc, &changes)?;
+    world.reserve(alloc, &changes)?;
+    world.apply(changes);
+    Ok(world)
+}
+
+#[test]
+fn empty_world_is_a_count_of_no_batches(rt: HostRuntime) -> Result<(), Fail> {
+    let world = World::new(rt.alloc());
+    let bytes = write_snapshot(rt.alloc(), &world)?;
+    let want: &[u8] = &[0, 0, 0, 1, 6, 0, 0, 0, 0];
+    assert_eq!(rt; bytes.bytes(), want);
+    Ok(())
+}
+
+#[test]
+fn batches_are_counted(rt: HostRuntime) -> Result<(), Fail> {
+    let world = world_of(rt.alloc(), FIVE)?;
+    let bytes = write_snapshot(rt.alloc(), &world)?;
+    let want: &[u8] = &[0, 0, 0, 2, 2, 1, 0, 0, 0, 0, 0, 0, 0, 5, 6, 0, 0, 0, 1];
+    assert_eq!(rt; bytes.bytes(), want);
+    Ok(())
+}
+
+/// The bytes of a world in which 2 and 3 were added.
+fn added(alloc: Global) -> Result<Bytes, Fail> {
+    let mut bytes = Bytes::new(alloc);
+    bytes.extend(&[0, 0, 0, 11, 1, 0, 0, 0, 72])?;
+    bytes.extend(ADD)?;
+    bytes.extend(&[0, 0, 0, 0])?;
+    bytes.extend(&[2, 1, 0, 0, 0, 0, 0, 0, 0, 2])?;
+    bytes.extend(&[2, 1, 0, 0, 0, 0, 0, 0, 0, 3])?;
+    bytes.extend(&[3, 1, 0, 0, 0, 3, 97, 100, 100])?;
+    bytes.extend(&[0, 0, 0, 1, 0, 0, 0, 1, 0, 0, 0, 0, 1])?;
+    bytes.extend(&[2, 1, 0, 0, 0, 0, 0, 0, 0, 5])?;
+    bytes.extend(&[4, 0, 0, 0, 1, 0, 0, 0, 3, 1, 0, 0, 0, 1, 120])?;
+    bytes.extend(&[4, 0, 0, 0, 2, 0, 0, 0, 3, 1, 0, 0, 0, 1, 121])?;
+    bytes.extend(&[4, 0, 0, 0, 3, 0, 0, 0, 4, 3, 0, 0, 0, 3, 115, 117, 109])?;
+    bytes.extend(&[5, 0, 0, 0, 3, 4, 0, 0, 0, 0, 0, 0, 0, 0, 0])?;
+    bytes.extend(&[0, 0, 0, 0, 0, 0, 0, 0, 0, 3])?;
+    bytes.extend(&[7, 0, 0, 0, 3, 0, 0, 0, 4, 0, 0, 0, 6])?;
+    bytes.extend(&[6, 0, 0, 0, 9])?;
+    Ok(bytes)
+}
+
+#[test]
+fn snapshot_of_a_snapshot_is_the_same(rt: HostRuntime) -> Result<(), Fail> {
+    let bytes = added(rt.alloc())?;
+    let world = world_of(rt.alloc(), bytes.bytes())?;
+    let back = write_snapshot(rt.alloc(), &world)?;
+    assert_eq!(rt; back.bytes(), bytes.bytes());
     Ok(())
 }

@@ -2,7 +2,7 @@ use Rattle.std.proofs.Common.{◌≡◌, ℕ, List, length, ap, ◌∙◌, arith
 use Rattle.wc_graph.specs.declared.node.NodeKind.{NodeKind}
 use Rattle.wc_graph.specs.declared.link.Link.{Link}
 use Rattle.wc_world.specs.World.{Known}
-use Rattle.wc_record.proofs.SnapshotParts.{records_counted, snapshot_length}
+use Rattle.wc_record.proofs.SnapshotLength.{records_counted, snapshot_length}
 use Rattle.wc_record.proofs.snapshot.changes_of.Goals as goal
 
 pub overflow_mul-count : goal.overflow_mul-count

@@ -1,0 +1,104 @@
+-- What holds after a batch was put at the place of a store, or wasn't.
+use Rattle.std.proofs.Common.{◌≡◌, ℕ, ◌+◌, Bool, true, false, List, [], ◌∷◌, length, Result, Ok, Err, sym, subst}
+use Rattle.std.specs.Prelude.{IsTrue}
+use Rattle.wc_disk.specs.declared.disk.Disk as disk
+use Rattle.wc_journal.specs.declared.journal.Journal.{Journal}
+use Rattle.wc_journal.specs.Reading.{journal_of, batches_of, is_snapshot_place, holds}
+use Rattle.wc_journal.specs.Journals.{IsSettled, with_batch}
+use Rattle.wc_record.specs.Spelled.{spelled}
+use Rattle.wc_record.specs.Reading.{whole}
+use Rattle.wc_record.specs.Written.{IsWritten}
+use Rattle.wc_record.proofs.Whole.{written_is_read}
+use Rattle.wc_world.specs.declared.change.Change.{Change}
+use Rattle.wc_world.specs.World.{World}
+use Rattle.wc_world.specs.Room.{Holding}
+use Rattle.wc_world.specs.Applied.{applied}
+use Rattle.wc_world.specs.Accepted.{IsAccepted, IsReached}
+use Rattle.wc_world.specs.Snapshot.{snapshot}
+use Rattle.wc_store.specs.declared.error.StoreError.{StoreError}
+use Rattle.wc_store.specs.declared.store.Store.{Store}
+use Rattle.wc_store.specs.Places.{its, opposite}
+use Rattle.wc_store.specs.Stores.{other, StandsFor, CommitLeaves, PackLeaves}
+use Rattle.wc_store.specs.Held.{is_plain}
+use Rattle.wc_store.specs.Placing.{Appends, Replaces}
+use Rattle.wc_store.specs.Refusals.{is_live_after}
+use Rattle.wc_store.proofs.Chosen.{Keeps}
+use Rattle.wc_store.proofs.Commits.{no_snapshot, kept_by, own_durable, other_durable, stands_again, stands_committed, keeps_after, commit_leaves}
+use Rattle.wc_store.proofs.Packs.{keeps_there, pack_leaves, stands_packed}
+use Rattle.wc_store.proofs.Counted.{own_told, other_told, both_told, unchanged_own, same_after}
+
+module _ {D : Type 0} (g : disk.Ghosts D) (store : Store) (one two : D) (stands : IsTrue (g.tells one) → IsTrue (g.tells two) → StandsFor g store one two) where
+  -- ---- before the call
+  pub settled_there : g.tells one ≡ g.tells two → IsTrue (g.tells (its store.place one two)) → IsSettled g store.journal (its store.place one two)
+  settled_there alike told =
+      let both : IsTrue (g.tells one) × IsTrue (g.tells two) = both_told g one two store.place alike told in
+      (stands both.0 both.1).settled
+
+  pub plain_there : g.tells one ≡ g.tells two → IsTrue (g.tells (its store.place one two))
+      → is_snapshot_place store.journal.generation (length (batches_of (journal_of (g.seen (its store.place one two))))) ≡ false
+  plain_there alike told =
+      let both : IsTrue (g.tells one) × IsTrue (g.tells two) = both_told g one two store.place alike told in
+      no_snapshot store.journal.generation _ (kept_by g store one two (stands both.0 both.1)).some
+
+  module _ (first : IsTrue (g.tells one)) (second : IsTrue (g.tells two)) where
+    abbrev keeps : Keeps store.place store.journal.version store.journal.generation (batches_of (journal_of (g.seen (its store.place one two)))) store.world.world
+        (g.seen (its store.place one two)) (g.seen (other store.place one two))
+    keeps = kept_by g store one two (stands first second)
+
+    -- ---- after a batch of changes
+    module _ (cs : List Change) (p : List ℕ) (limit : ℕ) (journal : Journal) (one_new two_new : D) {T : Type 0} (result : Result T StoreError)
+        (payload : p ≡ spelled cs) (written : IsWritten cs) (plain : is_plain cs ≡ true) (accepted : IsAccepted store.world.world cs)
+        (appends : Appends g p limit store.journal journal (its store.place one two) (its store.place one_new two_new) result)
+        (same : other store.place one_new two_new ≡ other store.place one two) where
+      read : whole p (Ok cs)
+      read = subst (λ (q : List ℕ). whole q (Ok cs)) (sym payload) (written_is_read cs written)
+
+      pub appended_leaves : CommitLeaves g store.place store.world.world (applied store.world.world cs) one two one_new two_new
+      appended_leaves =
+          commit_leaves g store.place store.journal store.world.world cs p one two keeps read plain accepted one_new two_new same
+          (appends.any_moment (own_told g one two store.place first second))
+
+      pub appended_stands : (world : Holding) (live : Bool) → world.world ≡ applied store.world.world cs
+          → (IsTrue (g.tells (its store.place one two)) → IsSettled g journal (its store.place one_new two_new))
+          → (IsTrue (g.tells (its store.place one two)) → journal_of (g.seen (its store.place one_new two_new)) ≡ with_batch store.journal (journal_of (g.seen (its store.place one two))) p)
+          → StandsFor g (record { world = world; journal = journal; place = store.place; live = live }) one_new two_new
+      appended_stands world live is settled held =
+          let told = own_told g one two store.place first second in
+          stands_committed g store.place world store.journal journal live store.world.world cs one two one_new two_new
+          (keeps_after g store.place store.journal store.world.world cs p one two keeps read plain accepted (g.seen (its store.place one_new two_new)) (held told))
+          same (other_durable g store.place one two (stands first second).durable_one (stands first second).durable_two) (settled told) appends.version appends.generation is
+
+    pub refused_stands : (T : Type 0) (e : StoreError) (p : List ℕ) (limit : ℕ) (journal : Journal) (one_new two_new : D) (world : Holding) (live : Bool)
+        → Appends {T = T} g p limit store.journal journal (its store.place one two) (its store.place one_new two_new) (Err e)
+        → other store.place one_new two_new ≡ other store.place one two → world.world ≡ store.world.world → is_live_after {T = T} (Err e) true ≡ true
+        → StandsFor g (record { world = world; journal = journal; place = store.place; live = live }) one_new two_new
+    refused_stands T e p limit journal one_new two_new world live appends same is stays =
+        let both = unchanged_own {T = T} (Err e) one two one_new two_new store.place appends.untouched same in
+        stands_again g store world journal live one two one_new two_new (stands first second) is appends.version appends.generation
+        (appends.still stays (own_told g one two store.place first second)) (same_after T e one one_new stays both.0) (same_after T e two two_new stays both.1)
+
+    -- ---- after a snapshot
+    module _ (p : List ℕ) (one_new two_new : D) (result : Result Journal StoreError) (payload : p ≡ spelled (snapshot store.world.world)) (written : IsWritten (snapshot store.world.world))
+        (reached : IsReached store.world.world)
+        (replaces : Replaces g (store.journal.generation + 1) p (other store.place one two) (other store.place one_new two_new) result)
+        (same : its store.place one_new two_new ≡ its store.place one two) where
+      read_back : whole p (Ok (snapshot store.world.world))
+      read_back = subst (λ (q : List ℕ). whole q (Ok (snapshot store.world.world))) (sym payload) (written_is_read (snapshot store.world.world) written)
+
+      pub replaced_leaves : PackLeaves g store.place store.world.world one two one_new two_new
+      replaced_leaves =
+          pack_leaves g store.place store.journal store.world.world one two keeps p reached read_back one_new two_new same
+          (replaces.any_moment (other_told g one two store.place first second))
+
+      pub replaced_stands : (world : Holding) (journal : Journal) (live : Bool) → world.world ≡ store.world.world → journal.version ≡ 2
+          → journal.generation ≡ store.journal.generation + 1
+          → (IsTrue (g.tells (other store.place one two)) → IsSettled g journal (other store.place one_new two_new))
+          → (IsTrue (g.tells (other store.place one two)) → journal_of (g.seen (other store.place one_new two_new)) ≡ holds 2 (store.journal.generation + 1) ((26, p) ∷ []))
+          → StandsFor g (record { world = world; journal = journal; place = opposite store.place; live = live }) one_new two_new
+      replaced_stands world journal live is version generation settled held =
+          let told = other_told g one two store.place first second in
+          let there = keeps_there g store.place store.journal store.world.world one two keeps p reached read_back (g.seen (other store.place one_new two_new)) (held told) in
+          stands_packed g store.place world (store.journal.generation + 1) journal live one two one_new two_new
+          (subst (λ (w : World). Keeps (opposite store.place) 2 (store.journal.generation + 1) (batches_of (journal_of (g.seen (other store.place one_new two_new)))) w
+          (g.seen (other store.place one_new two_new)) (g.seen (its store.place one two))) (sym is) there)
+          same (own_durable g store.place one two (stands first second).durable_one (stands first second).durable_two) (settled told) version generation

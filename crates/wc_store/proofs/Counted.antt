@@ -1,0 +1,48 @@
+-- What one step leaves of the whole call.
+use Rattle.std.proofs.Common.{◌≡◌, Bool, true, Result, Ok, Err, sym, subst}
+use Rattle.std.specs.Prelude.{IsTrue}
+use Rattle.wc_disk.specs.declared.disk.Disk as disk
+use Rattle.wc_store.specs.declared.error.StoreError.{StoreError}
+use Rattle.wc_store.specs.declared.error.StoreError.TheVariants.{DiskFault, Damaged, Full, AlreadyThere, OutOfMemory}
+use Rattle.wc_store.specs.declared.place.Place.{Place}
+use Rattle.wc_store.specs.declared.place.Place.TheVariants.{One, Two}
+use Rattle.wc_store.specs.Places.{its}
+use Rattle.wc_store.specs.Stores.{other}
+use Rattle.wc_store.specs.Refusals.{IsUnchanged, is_live_after}
+
+pub unchanged : {T S : Type 0} (result : Result T StoreError) (old new : S) → new ≡ old → IsUnchanged result old new
+unchanged (Ok answer) old new same = tt
+unchanged (Err DiskFault) old new same = tt
+unchanged (Err (Damaged disk at found)) old new same = same
+unchanged (Err (Full what count limit)) old new same = same
+unchanged (Err AlreadyThere) old new same = same
+unchanged (Err OutOfMemory) old new same = same
+
+-- ---- of both disks, where the call is of the one at a place
+module _ {T : Type 0} (result : Result T StoreError) {D : Type 0} (one two one_new two_new : D) where
+  pub unchanged_own : (place : Place) → IsUnchanged result (its place one two) (its place one_new two_new) → other place one_new two_new ≡ other place one two
+      → IsUnchanged result one one_new × IsUnchanged result two two_new
+  unchanged_own One own same = (own, unchanged result two two_new same)
+  unchanged_own Two own same = (unchanged result one one_new same, own)
+
+-- what a live store left unchanged is the same
+pub same_after : (T : Type 0) {S : Type 0} (e : StoreError) (old new : S) → is_live_after {T = T} (Err e) true ≡ true → IsUnchanged {T = T} (Err e) old new → new ≡ old
+same_after T DiskFault old new live is = absurd (cc)
+same_after T (Damaged disk at found) old new live is = is
+same_after T (Full what count limit) old new live is = is
+same_after T AlreadyThere old new live is = is
+same_after T OutOfMemory old new live is = is
+
+-- ---- disks of which both tell their bytes, or neither
+module _ {D : Type 0} (g : disk.Ghosts D) (one two : D) where
+  pub own_told : (place : Place) → IsTrue (g.tells one) → IsTrue (g.tells two) → IsTrue (g.tells (its place one two))
+  own_told One first second = first
+  own_told Two first second = second
+
+  pub other_told : (place : Place) → IsTrue (g.tells one) → IsTrue (g.tells two) → IsTrue (g.tells (other place one two))
+  other_told One first second = second
+  other_told Two first second = first
+
+  pub both_told : (place : Place) → g.tells one ≡ g.tells two → IsTrue (g.tells (its place one two)) → IsTrue (g.tells one) × IsTrue (g.tells two)
+  both_told One alike told = (told, subst (λ (b : Bool). IsTrue b) alike told)
+  both_told Two alike told = (subst (λ (b : Bool). IsTrue b) (sym alike) told, told)

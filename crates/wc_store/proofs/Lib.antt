@@ -1,0 +1,16 @@
+mod Looking
+mod Verdicts
+pub mod Playing
+mod ValueEnds
+mod Stops
+mod Addressed
+mod Turns
+mod Opened
+mod Chosen
+mod Made
+mod Commits
+mod Packs
+mod Accepts
+mod Counted
+mod Placed
+mod Committed

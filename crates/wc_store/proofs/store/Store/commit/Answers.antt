@@ -1,0 +1,48 @@
+use Rattle.std.proofs.Common.{◌∙◌, ap, sym, Ok, Err}
+use Rattle.wc_journal.specs.Batches.{payload_of}
+use Rattle.wc_world.specs.World.{World}
+use Rattle.wc_world.specs.Applied.{applied}
+use Rattle.wc_store.proofs.Committed.{settled_there, plain_there, appended_leaves, appended_stands, refused_stands}
+use Rattle.wc_store.proofs.store.Store.commit.Goals as goal
+
+pub append_at-requires : goal.append_at-requires
+append_at-requires g c =
+    let s = c.args.self.now in
+    record {
+      settled = settled_there g.D.Disk s c.args.one.now c.args.two.now c.requires.stands c.requires.alike;
+      version = c.in_ok-batch.ensures.batch.version_is;
+      kind = λ told. c.in_ok-batch.ensures.batch.snapshot_is ∙ sym (plain_there g.D.Disk s c.args.one.now c.args.two.now c.requires.stands c.requires.alike told);
+    }
+
+pub returns-in-Ok-clause-ok : goal.returns-in-Ok-clause-ok
+returns-in-Ok-clause-ok g c =
+    λ told told_too.
+    let appends = c.in-Ok.ensures.appends in
+    appended_stands g.D.Disk c.args.self.now c.args.one.now c.args.two.now c.requires.stands told told_too c.args.changes (payload_of c.in_ok-batch.batch) c.byte_limit-limit.result
+    c.append_at.new.journal c.append_at.new.one c.append_at.new.two {T = Unit {0}} (Ok tt) c.in_ok-batch.ensures.batch.payload c.in_ok-batch.ensures.batch.written c.requires.plain
+    c.requires.accepted appends c.in-Ok.ensures.untouched c.apply.new.self c.args.self.now.live (c.apply.ensures.world ∙ ap (λ (w : World). applied w c.args.changes) c.prepare.ensures.same)
+    appends.settled appends.held
+
+pub returns-in-Ok-clause-still : goal.returns-in-Ok-clause-still
+returns-in-Ok-clause-still g c = λ live. returns-in-Ok-clause-ok g c
+
+pub returns-in-Ok-clause-any_moment : goal.returns-in-Ok-clause-any_moment
+returns-in-Ok-clause-any_moment g c =
+    λ told told_too.
+    appended_leaves g.D.Disk c.args.self.now c.args.one.now c.args.two.now c.requires.stands told told_too c.args.changes (payload_of c.in_ok-batch.batch) c.byte_limit-limit.result
+    c.append_at.new.journal c.append_at.new.one c.append_at.new.two {T = Unit {0}} (Ok tt) c.in_ok-batch.ensures.batch.payload c.in_ok-batch.ensures.batch.written c.requires.plain
+    c.requires.accepted c.in-Ok.ensures.appends c.in-Ok.ensures.untouched
+
+pub returns-in-Err-clause-still : goal.returns-in-Err-clause-still
+returns-in-Err-clause-still g c =
+    λ live told told_too.
+    refused_stands g.D.Disk c.args.self.now c.args.one.now c.args.two.now c.requires.stands told told_too (Unit {0}) c.in-Err.error (payload_of c.in_ok-batch.batch) c.byte_limit-limit.result
+    c.append_at.new.journal c.append_at.new.one c.append_at.new.two c.prepare.new.world c.is_live_after-self.result c.in-Err.ensures.appends c.in-Err.ensures.untouched
+    c.prepare.ensures.same (sym c.is_live_after-self.ensures ∙ live)
+
+pub returns-in-Err-clause-any_moment : goal.returns-in-Err-clause-any_moment
+returns-in-Err-clause-any_moment g c =
+    λ told told_too.
+    appended_leaves g.D.Disk c.args.self.now c.args.one.now c.args.two.now c.requires.stands told told_too c.args.changes (payload_of c.in_ok-batch.batch) c.byte_limit-limit.result
+    c.append_at.new.journal c.append_at.new.one c.append_at.new.two {T = Unit {0}} (Err c.in-Err.error) c.in_ok-batch.ensures.batch.payload c.in_ok-batch.ensures.batch.written
+    c.requires.plain c.requires.accepted c.in-Err.ensures.appends c.in-Err.ensures.untouched

@@ -1,0 +1,11 @@
+pub mod Places
+pub mod Choosing
+pub mod Refusals
+pub mod Seeing
+pub mod Held
+pub mod Stores
+pub mod Laws
+pub mod Played
+pub mod Opening
+pub mod Placing
+pub mod Preparing

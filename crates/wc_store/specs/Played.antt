@@ -1,0 +1,90 @@
+-- What a payload and what batches are played as.
+use Rattle.std.specs.Prelude.{◌≡◌, ℕ, ◌+◌, ◌-◌, ◌^◌, ◌<◌, min, Bool, true, List, All, length, Ok, Err}
+use Rattle.wc_journal.specs.Reading.{Placed}
+use Rattle.wc_record.specs.declared.error.RecordError.{RecordError}
+use Rattle.wc_record.specs.Reading.{whole}
+use Rattle.wc_world.specs.World.{World, empty}
+use Rattle.wc_world.specs.Applied.{applied}
+use Rattle.wc_world.specs.Accepted.{IsAccepted, IsRefused}
+use Rattle.wc_world.specs.declared.change.Change.{Change}
+use Rattle.wc_world.specs.declared.error.WorldError.{WorldError}
+use Rattle.wc_store.specs.declared.error.StoreError.{StoreError}
+use Rattle.wc_store.specs.declared.error.StoreError.TheVariants as store
+use Rattle.wc_store.specs.declared.loading.Unplayed.{Unplayed}
+use Rattle.wc_store.specs.declared.loading.Unplayed.TheVariants as unplayed
+use Rattle.wc_store.specs.declared.loading.Stop.{Stop}
+use Rattle.wc_store.specs.declared.loading.Stop.TheVariants as stop
+use Rattle.wc_store.specs.Choosing.{found_at}
+use Rattle.wc_store.specs.Held.{a_world, damage, place_of, suits, IsUnfit, Plays}
+
+-- ---- one payload
+
+-- the payload isn't read, at this byte of it
+abbrev pub RefusesReading : List ℕ → Unplayed → Type 0
+RefusesReading payload (unplayed.Unread at) = (e : RecordError) × whole payload (Err e) × (at ≡ place_of e)
+RefusesReading payload unplayed.Unfit = ⊥
+RefusesReading payload unplayed.OutOfMemory = Unit {0}
+
+-- the world doesn't accept the changes
+abbrev pub RefusesChanges : World → List Change → Unplayed → Type 0
+RefusesChanges w cs (unplayed.Unread at) = ⊥
+RefusesChanges w cs unplayed.Unfit = (e : WorldError) × IsRefused w cs e
+RefusesChanges w cs unplayed.OutOfMemory = Unit {0}
+
+-- the payload isn't read, or its changes don't fit
+abbrev pub RefusesPayload : Bool → List ℕ → World → Unplayed → Type 0
+RefusesPayload snapshot payload w (unplayed.Unread at) = (e : RecordError) × whole payload (Err e) × (at ≡ place_of e)
+RefusesPayload snapshot payload w unplayed.Unfit = (cs : List Change) × whole payload (Ok cs) × IsUnfit snapshot w cs
+RefusesPayload snapshot payload w unplayed.OutOfMemory = Unit {0}
+
+-- the payload's changes suit and are accepted, and the world is the one after them
+pub record IsPlayed (snapshot : Bool) (payload : List ℕ) (old new : World) : Type 0 where
+  pub changes : List Change
+  pub reads : whole payload (Ok changes)
+  pub suit : suits snapshot changes ≡ true
+  pub accepted : IsAccepted old changes
+  pub after : new ≡ applied old changes
+
+-- ---- batches
+
+-- where a disk is damaged that has a payload at this offset which isn't played
+abbrev pub stop_of : ℕ → Unplayed → Stop
+stop_of at (unplayed.Unread within) = stop.At (min (at + within) (2 ^ 64 - 1))
+stop_of at unplayed.Unfit = stop.At at
+stop_of at unplayed.OutOfMemory = stop.OutOfMemory
+
+-- 64 bits can tell where each payload ends
+abbrev pub AreAddressed : Placed → Type 0
+AreAddressed bs = All (λ b. b.0 + length b.1 < 2 ^ 64) bs
+
+-- the same of an image whose bytes 64 bits can count
+abbrev pub AreCounted : List ℕ → Placed → Type 0
+AreCounted image bs = length image < 2 ^ 64 → AreAddressed bs
+
+-- damage is told only of an image whose bytes 64 bits can count
+abbrev pub IsSized : List ℕ → StoreError → Type 0
+IsSized image store.DiskFault = Unit {0}
+IsSized image (store.Damaged number at found) = length image < 2 ^ 64
+IsSized image (store.Full what count limit) = Unit {0}
+IsSized image store.AlreadyThere = Unit {0}
+IsSized image store.OutOfMemory = Unit {0}
+
+-- on each disk these batches make this world
+abbrev pub Makes : ℕ → Placed → World → Type 0
+Makes generation bs w = (disk : ℕ) (image : List ℕ) → Plays disk image generation 0 empty bs (a_world w)
+
+-- each disk that has these batches is damaged at this offset
+abbrev pub Breaks : ℕ → Placed → ℕ → Type 0
+Breaks generation bs at = (disk : ℕ) (image : List ℕ) → Plays disk image generation 0 empty bs (damage disk at (found_at image at))
+
+abbrev pub RefusesBatches : ℕ → Placed → Stop → Type 0
+RefusesBatches generation bs (stop.At at) = AreAddressed bs → Breaks generation bs at
+RefusesBatches generation bs stop.OutOfMemory = Unit {0}
+
+-- a disk is damaged where the batches that it has aren't played, and what is told is there, where the disk tells it
+abbrev pub RefusesPlaying : Type 0 → (disk : ℕ) → List ℕ → ℕ → Placed → StoreError → Type 0
+RefusesPlaying told disk image generation bs store.DiskFault = Unit {0}
+RefusesPlaying told disk image generation bs (store.Damaged number at found) = told → Plays disk image generation 0 empty bs (damage number at found)
+RefusesPlaying told disk image generation bs (store.Full what count limit) = ⊥
+RefusesPlaying told disk image generation bs store.AlreadyThere = ⊥
+RefusesPlaying told disk image generation bs store.OutOfMemory = Unit {0}

@@ -1,0 +1,134 @@
+-- When a store refuses, and what is counted.
+use Rattle.std.specs.Prelude.{◌≡◌, ◌⊎◌, ℕ, List, Result, Ok, Err, Bool, false, ◌-◌, ◌^◌, ◌<◌, ◌≤◌, ◌==◌, min, length, if◌then◌else◌}
+use Rattle.wc_io.specs.Counts.{Rises}
+use Rattle.wc_store.specs.declared.error.StoreError.{StoreError}
+use Rattle.wc_store.specs.declared.error.StoreError.TheVariants.{DiskFault, Damaged, Full, AlreadyThere, OutOfMemory}
+use Rattle.wc_store.specs.Choosing.{Choice, broken, found_at}
+use Rattle.wc_state.specs.declared.record.Limits.{Limits}
+use Rattle.wc_state.specs.declared.record.What.TheVariants as what
+use Rattle.wc_store.specs.Held.{Standing, damage, a_world}
+use Rattle.wc_journal.specs.declared.journal.Journal.{Journal}
+use Rattle.wc_journal.specs.Refusals.{size_after}
+use Rattle.wc_record.specs.Spelled.{spelled}
+use Rattle.wc_world.specs.World.{World}
+use Rattle.wc_world.specs.Applied.{applied}
+use Rattle.wc_world.specs.Snapshot.{snapshot}
+use Rattle.wc_world.specs.declared.change.Change.{Change}
+
+-- nothing is told of a disk that failed, or where memory ran out
+abbrev pub RefusesLook : StoreError → Type 0
+RefusesLook DiskFault = Unit {0}
+RefusesLook (Damaged disk at found) = ⊥
+RefusesLook (Full what count limit) = ⊥
+RefusesLook AlreadyThere = ⊥
+RefusesLook OutOfMemory = Unit {0}
+
+-- a disk is damaged at the place that is told, where both disks tell their bytes
+abbrev pub RefusesFinding : Type 0 → Choice → StoreError → Type 0
+RefusesFinding told choice DiskFault = Unit {0}
+RefusesFinding told choice (Damaged disk at found) = told → choice ≡ broken disk at found
+RefusesFinding told choice (Full what count limit) = ⊥
+RefusesFinding told choice AlreadyThere = ⊥
+RefusesFinding told choice OutOfMemory = Unit {0}
+
+-- damage of this disk at this place, with what the image has there, where the disk tells it
+abbrev pub IsDamageAt : Type 0 → (number at : ℕ) → List ℕ → StoreError → Type 0
+IsDamageAt told number at image DiskFault = Unit {0}
+IsDamageAt told number at image (Damaged disk place found) = (disk ≡ number) × (place ≡ at) × (told → found ≡ found_at image at)
+IsDamageAt told number at image (Full what count limit) = ⊥
+IsDamageAt told number at image AlreadyThere = ⊥
+IsDamageAt told number at image OutOfMemory = ⊥
+
+-- `DiskFault` comes only where the disk's count rose, and each other refusal leaves that count
+abbrev pub CountsRefusal : StoreError → ℕ → ℕ → Type 0
+CountsRefusal DiskFault old new = Rises old new
+CountsRefusal (Damaged disk at found) old new = new ≡ old
+CountsRefusal (Full what count limit) old new = new ≡ old
+CountsRefusal AlreadyThere old new = new ≡ old
+CountsRefusal OutOfMemory old new = new ≡ old
+
+-- the same of a call on one disk
+abbrev pub CountsOne : {T : Type 0} → Result T StoreError → ℕ → ℕ → Type 0
+CountsOne (Ok answer) old new = new ≡ old
+CountsOne (Err error) old new = CountsRefusal error old new
+
+-- `DiskFault` comes only where the count of one of the disks rose, and each other answer leaves both counts
+abbrev pub Counts : {T : Type 0} → Result T StoreError → (one one' two two' : ℕ) → Type 0
+Counts (Ok answer) one one' two two' = (one' ≡ one) × (two' ≡ two)
+Counts (Err DiskFault) one one' two two' = Rises one one' ⊎ Rises two two'
+Counts (Err (Damaged disk at found)) one one' two two' = (one' ≡ one) × (two' ≡ two)
+Counts (Err (Full what count limit)) one one' two two' = (one' ≡ one) × (two' ≡ two)
+Counts (Err AlreadyThere) one one' two two' = (one' ≡ one) × (two' ≡ two)
+Counts (Err OutOfMemory) one one' two two' = (one' ≡ one) × (two' ≡ two)
+
+-- where the disks tell their bytes, damage is what they hold; a store is refused only where one is asked for that isn't there
+abbrev pub RefusesLoad : Type 0 → (Standing → Type 0) → StoreError → Type 0
+RefusesLoad told held DiskFault = Unit {0}
+RefusesLoad told held (Damaged disk at found) = told → held (damage disk at found)
+RefusesLoad told held (Full what count limit) = ⊥
+RefusesLoad told held AlreadyThere = ⊥
+RefusesLoad told held OutOfMemory = Unit {0}
+
+abbrev pub RefusesInit : Type 0 → (Standing → Type 0) → StoreError → Type 0
+RefusesInit told held DiskFault = Unit {0}
+RefusesInit told held (Damaged disk at found) = told → held (damage disk at found)
+RefusesInit told held (Full what count limit) = ⊥
+RefusesInit told held AlreadyThere = told → (w : World) × held (a_world w)
+RefusesInit told held OutOfMemory = Unit {0}
+
+-- the bytes of a journal are limited by the settings, and in version 1 by 1,073,741,824 too
+abbrev pub byte_limit : ℕ → ℕ → ℕ
+byte_limit version most = if version == 1 then min most 1073741824 else most
+
+-- how many bytes the journal has after a commit
+abbrev pub committed_bytes : Journal → List Change → ℕ
+committed_bytes journal cs = size_after journal.end journal.version (spelled cs)
+
+-- a commit would pass the limit of nodes, or else that of bytes; batches are never too many where the changes are accepted
+abbrev pub RefusesCommit : Journal → Limits → World → List Change → StoreError → Type 0
+RefusesCommit journal limits w cs DiskFault =
+    (length (applied w cs).nodes ≤ limits.max_nodes) × (committed_bytes journal cs ≤ byte_limit journal.version limits.max_bytes)
+RefusesCommit journal limits w cs (Damaged disk at found) = ⊥
+RefusesCommit journal limits w cs (Full what.Nodes count limit) =
+    (count ≡ length (applied w cs).nodes) × (limit ≡ limits.max_nodes) × (limits.max_nodes < length (applied w cs).nodes)
+RefusesCommit journal limits w cs (Full what.Bytes count limit) =
+    (length (applied w cs).nodes ≤ limits.max_nodes)
+    × (count ≡ min (committed_bytes journal cs) (2 ^ 64 - 1)) × (limit ≡ byte_limit journal.version limits.max_bytes)
+    × (byte_limit journal.version limits.max_bytes < committed_bytes journal cs)
+RefusesCommit journal limits w cs (Full what.Batches count limit) = ⊥
+RefusesCommit journal limits w cs (Full what.Generations count limit) = ⊥
+RefusesCommit journal limits w cs AlreadyThere = ⊥
+RefusesCommit journal limits w cs OutOfMemory = Unit {0}
+
+-- a pack would pass the limit of generations, or else its snapshot that of a payload
+abbrev pub RefusesPack : ℕ → World → StoreError → Type 0
+RefusesPack generation w DiskFault = (generation ≤ 4000000000) × (length (spelled (snapshot w)) ≤ 2147483648)
+RefusesPack generation w (Damaged disk at found) = ⊥
+RefusesPack generation w (Full what.Generations count limit) = (count ≡ generation) × (limit ≡ 4000000000) × (4000000000 < generation)
+RefusesPack generation w (Full what.Bytes count limit) =
+    (generation ≤ 4000000000) × (count ≡ min (length (spelled (snapshot w))) (2 ^ 64 - 1)) × (limit ≡ 2147483648) × (2147483648 < length (spelled (snapshot w)))
+RefusesPack generation w (Full what.Nodes count limit) = ⊥
+RefusesPack generation w (Full what.Batches count limit) = ⊥
+RefusesPack generation w AlreadyThere = ⊥
+RefusesPack generation w OutOfMemory = Unit {0}
+
+-- a full store is the one before, and so is one for which memory ran out
+abbrev pub IsUnchanged : {T S : Type 0} → Result T StoreError → S → S → Type 0
+IsUnchanged (Ok answer) old new = Unit {0}
+IsUnchanged (Err DiskFault) old new = Unit {0}
+IsUnchanged (Err (Damaged disk at found)) old new = new ≡ old
+IsUnchanged (Err (Full what count limit)) old new = new ≡ old
+IsUnchanged (Err AlreadyThere) old new = new ≡ old
+IsUnchanged (Err OutOfMemory) old new = new ≡ old
+
+-- a store is live but after a DiskFault
+abbrev pub is_live_after : {T : Type 0} → Result T StoreError → Bool → Bool
+is_live_after (Err DiskFault) live = false
+is_live_after _ live = live
+
+-- Limits within their ranges.
+pub record AreLimits (limits : Limits) : Type 0 where
+  pub some_nodes : 1 ≤ limits.max_nodes
+  pub nodes : limits.max_nodes ≤ 8000000
+  pub some_bytes : 1024 ≤ limits.max_bytes
+  pub bytes : limits.max_bytes ≤ 2147483648

@@ -1,0 +1,20 @@
+//! The world on two disks: what was acknowledged stays, whatever crash cuts a write.
+#![tactic(auto)]
+
+mod choosing;
+mod committing;
+mod error;
+mod laws;
+mod loading;
+mod opening;
+mod place;
+mod placing;
+mod preparing;
+mod store;
+#[cfg(test)]
+mod tests;
+
+pub use error::StoreError;
+pub use laws::images_hold_one_thing;
+pub use place::Place;
+pub use store::Store;

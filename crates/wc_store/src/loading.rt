@@ -1,0 +1,199 @@
+//! The world that the batches of a journal make.
+ghost use Rattle.std.specs.Prelude.{◌≡◌, IsTrue, IfOk, IfErr, OnOk, OnErr};
+ghost use Rattle.wc_disk.specs.Images.{LeavesOnly};
+ghost use Rattle.wc_journal.specs.Reading.{is_snapshot_place};
+ghost use Rattle.wc_record.specs.Reading.{whole};
+ghost use Rattle.wc_world.specs.Applied.{applied};
+ghost use Rattle.wc_world.specs.Accepted.{IsAccepted, is_in_order};
+ghost use Rattle.wc_store.specs.Held.{place_of, is_plain, suits};
+ghost use Rattle.wc_store.specs.Played.{RefusesReading, RefusesChanges, RefusesPayload, IsPlayed, stop_of, AreCounted, Makes, RefusesBatches, RefusesPlaying};
+ghost use Rattle.wc_store.specs.Refusals.{CountsOne};
+
+use crate::choosing::damaged_at;
+use crate::error::StoreError;
+use std::alloc::Global;
+use wc_disk::Disk;
+use wc_journal::Batches;
+use wc_record::{RecordError, read_changes};
+use wc_world::{Change, Changes, World, WorldError};
+
+/// Why a payload isn't played.
+enum Unplayed {
+    /// Its reading stops at this byte of it.
+    Unread(usize),
+    /// Its changes don't fit.
+    Unfit,
+    /// Memory ran out.
+    OutOfMemory,
+}
+
+/// Why batches aren't played.
+enum Stop {
+    /// A disk that has them is damaged at this offset.
+    At(u64),
+    /// Memory ran out.
+    OutOfMemory,
+}
+
+/// Whether no change is a count or a kept.
+fn is_plain(changes: &[Change]) -> bool
+    ensures { result ≡ is_plain changes.now }
+{
+    for change in changes {
+        if matches!(change, Change::Count(_) | Change::Kept(_)) {
+            return false;
+        }
+    }
+    true
+}
+
+/// Whether the last change is the only count, and those directly before it are the kepts.
+fn is_in_order(changes: &[Change]) -> bool
+    ensures { result ≡ is_in_order changes.now }
+{
+    let mut kept = false;
+    for (place, change) in changes.iter().enumerate() {
+        match change {
+            Change::Count(_) => return place + 1 == changes.len(),
+            Change::Kept(_) => kept = true,
+            _ => {
+                if kept {
+                    return false;
+                }
+            }
+        }
+    }
+    false
+}
+
+/// Whether changes may be a snapshot, or another batch.
+fn suits(snapshot: bool, changes: &[Change]) -> bool
+    ensures { result ≡ suits snapshot changes.now }
+{
+    if snapshot {
+        is_in_order(changes)
+    } else {
+        is_plain(changes)
+    }
+}
+
+/// The byte that a refusal names.
+fn place_of(error: RecordError) -> usize
+    ensures { result ≡ place_of error }
+{
+    match error {
+        RecordError::OutOfMemory => 0,
+        RecordError::Truncated(at)
+        | RecordError::BadTag(at)
+        | RecordError::NotUtf8(at)
+        | RecordError::Unsorted(at)
+        | RecordError::TooDeep(at)
+        | RecordError::Trailing(at)
+        | RecordError::BadLibrary(at) => at,
+    }
+}
+
+/// Reads a payload.
+fn changes_of(alloc: Global, payload: &[u8]) -> Result<Changes, Unplayed>
+    ensures ok { IfOk result (λ changes. whole payload.now (Ok changes)) }
+    ensures refused { IfErr result (RefusesReading payload.now) }
+{
+    match read_changes(alloc, payload) {
+        Ok(changes) => Ok(changes),
+        Err(RecordError::OutOfMemory) => Err(Unplayed::OutOfMemory),
+        Err(error) => Err(Unplayed::Unread(place_of(error))),
+    }
+}
+
+/// Applies changes that the world accepts.
+fn take(alloc: Global, world: &mut World, changes: Changes) -> Result<(), Unplayed>
+    ensures accepted { OnOk result (IsAccepted world.old.world changes) }
+    ensures after { OnOk result (world.new.world ≡ applied world.old.world changes) }
+    ensures same { OnErr result (world.new.world ≡ world.old.world) }
+    ensures refused { IfErr result (RefusesChanges world.old.world changes) }
+{
+    match world.accepts(alloc, &changes) {
+        Err(WorldError::OutOfMemory) => return Err(Unplayed::OutOfMemory),
+        Err(_) => return Err(Unplayed::Unfit),
+        Ok(()) => {}
+    }
+    if world.reserve(alloc, &changes).is_err() {
+        return Err(Unplayed::OutOfMemory);
+    }
+    world.apply(changes);
+    Ok(())
+}
+
+/// Plays one payload.
+fn play_one(
+    alloc: Global,
+    world: &mut World,
+    snapshot: bool,
+    payload: &[u8],
+) -> Result<(), Unplayed>
+    ensures ok { OnOk result (IsPlayed snapshot payload.now world.old.world world.new.world) }
+    ensures same { OnErr result (world.new.world ≡ world.old.world) }
+    ensures refused { IfErr result (RefusesPayload snapshot payload.now world.old.world) }
+{
+    let changes = changes_of(alloc, payload)?;
+    if !suits(snapshot, changes.as_slice()) {
+        return Err(Unplayed::Unfit);
+    }
+    take(alloc, world, changes)
+}
+
+/// Whether the batch of this number is a snapshot.
+fn is_snapshot(generation: u64, number: usize) -> bool
+    ensures { result ≡ is_snapshot_place generation number }
+{
+    number == 0 && generation >= 2
+}
+
+/// Where a disk is damaged that has a payload at this offset which isn't played.
+fn stop_of(at: u64, unplayed: Unplayed) -> Stop
+    ensures { result ≡ stop_of at unplayed }
+{
+    match unplayed {
+        Unplayed::Unread(within) => Stop::At(at.saturating_add(within as u64)),
+        Unplayed::Unfit => Stop::At(at),
+        Unplayed::OutOfMemory => Stop::OutOfMemory,
+    }
+}
+
+/// Plays all batches on the empty world.
+fn play_all(alloc: Global, generation: u64, batches: &Batches) -> Result<World, Stop>
+    ensures ok { IfOk result (λ world. Makes generation batches.now world.world) }
+    ensures refused { IfErr result (RefusesBatches generation batches.now) }
+{
+    let mut world = World::new(alloc);
+    for (number, batch) in batches.as_slice().iter().enumerate() {
+        let snapshot = is_snapshot(generation, number);
+        if let Err(unplayed) = play_one(alloc, &mut world, snapshot, batch.1.bytes()) {
+            return Err(stop_of(batch.0, unplayed));
+        }
+    }
+    Ok(world)
+}
+
+/// The world that the batches of the disk of this number make of the empty one.
+pub fn play<D: Disk>(
+    alloc: Global,
+    disk: &mut D,
+    number: u8,
+    generation: u64,
+    batches: &Batches,
+) -> Result<World, StoreError>
+    ensures ok { IfOk result (λ world. Makes generation batches.now world.world) }
+    ensures untouched { OnOk result (disk.new ≡ disk.old) }
+    ensures refused { IfErr result (RefusesPlaying (IsTrue (D.tells disk.old) × AreCounted (D.seen disk.old) batches.now) number (D.seen disk.old) generation batches.now) }
+    ensures seen { D.seen disk.new ≡ D.seen disk.old }
+    ensures any_moment { LeavesOnly D.Disk disk.old disk.new (D.may_leave disk.old) }
+    ensures tells { D.tells disk.new ≡ D.tells disk.old }
+    ensures cause { CountsOne result (D.faults disk.old) (D.faults disk.new) }
+{
+    match play_all(alloc, generation, batches) {
+        Ok(world) => Ok(world),
+        Err(Stop::At(at)) => Err(damaged_at(disk, number, at)),
+        Err(Stop::OutOfMemory) => Err(StoreError::OutOfMemory),
+    }
+}

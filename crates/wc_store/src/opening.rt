@@ -1,0 +1,126 @@
+//! Stores that are made, and stores that are read.
+ghost use Rattle.std.specs.Prelude.{◌≡◌, true, IsTrue, IfNone, IfOk, IfErr, IfSome, OnOk};
+ghost use Rattle.wc_disk.specs.Steps.{Only};
+ghost use Rattle.wc_disk.specs.Images.{LeavesOnly};
+ghost use Rattle.wc_journal.specs.Reading.{journal_of, no_journal};
+ghost use Rattle.wc_world.specs.World.{empty};
+ghost use Rattle.wc_store.specs.Held.{IsHeld, nothing};
+ghost use Rattle.wc_store.specs.Places.{number_of, its};
+ghost use Rattle.wc_store.specs.Played.{AreCounted, Makes, RefusesPlaying};
+ghost use Rattle.wc_store.specs.Opening.{Opens};
+ghost use Rattle.wc_store.specs.Stores.{StandsFor, Loads, MadeOr};
+ghost use Rattle.wc_store.specs.Refusals.{Counts, RefusesLoad, RefusesInit};
+
+use crate::choosing::find_store;
+use crate::error::StoreError;
+use crate::loading::play;
+use crate::place::Place;
+use crate::store::Store;
+use std::alloc::Global;
+use wc_disk::Disk;
+use wc_journal::{Batches, Journal};
+use wc_world::World;
+
+/// The world that the batches make of the empty one, which the disk at the place has.
+fn play_at<D: Disk>(
+    alloc: Global,
+    place: Place,
+    one: &mut D,
+    two: &mut D,
+    generation: u64,
+    batches: &Batches,
+) -> Result<World, StoreError>
+    ensures ok { IfOk result (λ world. Makes generation batches.now world.world) }
+    ensures untouched_one { OnOk result (one.new ≡ one.old) }
+    ensures untouched_two { OnOk result (two.new ≡ two.old) }
+    ensures refused { IfErr result (RefusesPlaying
+        (IsTrue (D.tells (its place one.old two.old)) × AreCounted (D.seen (its place one.old two.old)) batches.now)
+        (number_of place) (D.seen (its place one.old two.old)) generation batches.now) }
+    ensures seen_one { D.seen one.new ≡ D.seen one.old }
+    ensures seen_two { D.seen two.new ≡ D.seen two.old }
+    ensures any_moment_one { LeavesOnly D.Disk one.old one.new (D.may_leave one.old) }
+    ensures any_moment_two { LeavesOnly D.Disk two.old two.new (D.may_leave two.old) }
+    ensures tells_one { D.tells one.new ≡ D.tells one.old }
+    ensures tells_two { D.tells two.new ≡ D.tells two.old }
+    ensures cause { Counts result (D.faults one.old) (D.faults one.new) (D.faults two.old) (D.faults two.new) }
+{
+    match place {
+        Place::One => play(alloc, one, 1, generation, batches),
+        Place::Two => play(alloc, two, 2, generation, batches),
+    }
+}
+
+/// What two disks hold: a store, or none.
+fn open<D: Disk>(alloc: Global, one: &mut D, two: &mut D) -> Result<Option<Store>, StoreError>
+    ensures ok { IfOk result (λ found. IsTrue (D.tells one.old) → IsTrue (D.tells two.old) → Opens D.Disk found one.new two.new) }
+    ensures live { IfOk result (λ found. IfSome found (λ store. store.live ≡ true)) }
+    ensures bare { IfOk result (λ found. IfNone found (IsTrue (D.tells one.old) → journal_of (D.seen one.old) ≡ no_journal)) }
+    ensures refused { IfErr result (RefusesLoad (IsTrue (D.tells one.old) × IsTrue (D.tells two.old)) (IsHeld (D.seen one.old) (D.seen two.old))) }
+    ensures durable_one { OnOk result (Only (D.seen one.new) (D.may_leave one.new)) }
+    ensures durable_two { OnOk result (Only (D.seen two.new) (D.may_leave two.new)) }
+    ensures seen_one { D.seen one.new ≡ D.seen one.old }
+    ensures seen_two { D.seen two.new ≡ D.seen two.old }
+    ensures any_moment_one { LeavesOnly D.Disk one.old one.new (D.may_leave one.old) }
+    ensures any_moment_two { LeavesOnly D.Disk two.old two.new (D.may_leave two.old) }
+    ensures tells_one { D.tells one.new ≡ D.tells one.old }
+    ensures tells_two { D.tells two.new ≡ D.tells two.old }
+    ensures cause { Counts result (D.faults one.old) (D.faults one.new) (D.faults two.old) (D.faults two.new) }
+{
+    let Some((place, loaded)) = find_store(alloc, one, two)? else {
+        return Ok(None);
+    };
+    let generation = loaded.journal.generation();
+    let world = play_at(alloc, place, one, two, generation, &loaded.batches)?;
+    Ok(Some(Store {
+        world,
+        journal: loaded.journal,
+        place,
+        live: true,
+    }))
+}
+
+impl Store {
+    /// Makes an empty store of generation 1 on disk one.
+    pub fn init<D: Disk>(alloc: Global, one: &mut D, two: &mut D) -> Result<Store, StoreError>
+        ensures ok { IfOk result (λ store. IsTrue (D.tells one.old) → IsTrue (D.tells two.old) → StandsFor D.Disk store one.new two.new) }
+        ensures empty { IfOk result (λ store. store.world.world ≡ empty) }
+        ensures live { IfOk result (λ store. store.live ≡ true) }
+        ensures nothing { OnOk result (IsTrue (D.tells one.old) → IsTrue (D.tells two.old) → IsHeld (D.seen one.old) (D.seen two.old) nothing) }
+        ensures refused { IfErr result (RefusesInit (IsTrue (D.tells one.old) × IsTrue (D.tells two.old)) (IsHeld (D.seen one.old) (D.seen two.old))) }
+        ensures any_moment_one { IsTrue (D.tells one.old) → LeavesOnly D.Disk one.old one.new (MadeOr (D.may_leave one.old)) }
+        ensures any_moment_two { LeavesOnly D.Disk two.old two.new (D.may_leave two.old) }
+        ensures tells { (D.tells one.new ≡ D.tells one.old) × (D.tells two.new ≡ D.tells two.old) }
+        ensures cause { Counts result (D.faults one.old) (D.faults one.new) (D.faults two.old) (D.faults two.new) }
+    {
+        if open(alloc, one, two)?.is_some() {
+            return Err(StoreError::AlreadyThere);
+        }
+        match Journal::create(one, 1) {
+            Err(_) => Err(StoreError::DiskFault),
+            Ok(journal) => Ok(Store {
+                world: World::new(alloc),
+                journal,
+                place: Place::One,
+                live: true,
+            }),
+        }
+    }
+
+    /// The store that two disks hold, or none where they hold none.
+    pub fn load<D: Disk>(
+        alloc: Global,
+        one: &mut D,
+        two: &mut D,
+    ) -> Result<Option<Store>, StoreError>
+        ensures ok { IfOk result (λ store. IsTrue (D.tells one.old) → IsTrue (D.tells two.old) → Loads D.Disk store one.new two.new) }
+        ensures live { IfOk result (λ store. IfSome store (λ s. s.live ≡ true)) }
+        ensures refused { IfErr result (RefusesLoad (IsTrue (D.tells one.old) × IsTrue (D.tells two.old)) (IsHeld (D.seen one.old) (D.seen two.old))) }
+        ensures seen { (D.seen one.new ≡ D.seen one.old) × (D.seen two.new ≡ D.seen two.old) }
+        ensures any_moment_one { LeavesOnly D.Disk one.old one.new (D.may_leave one.old) }
+        ensures any_moment_two { LeavesOnly D.Disk two.old two.new (D.may_leave two.old) }
+        ensures tells { (D.tells one.new ≡ D.tells one.old) × (D.tells two.new ≡ D.tells two.old) }
+        ensures cause { Counts result (D.faults one.old) (D.faults one.new) (D.faults two.old) (D.faults two.new) }
+    {
+        open(alloc, one, two)
+    }
+}

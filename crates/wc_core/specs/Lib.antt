@@ -1,0 +1,5 @@
+pub mod Ready
+pub mod Ranges
+pub mod Ended
+pub mod Submitted
+pub mod Refusals

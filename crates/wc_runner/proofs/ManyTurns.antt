@@ -1,0 +1,67 @@
+-- Turns one after another in a world of functions.
+use Rattle.std.proofs.Common.{◌≡◌, ℕ, ◌+◌, None, sym, subst, arith}
+use Rattle.wc_world.specs.World.{World}
+use Rattle.wc_world.specs.Accepted.{IsReached}
+use Rattle.wc_world.proofs.FoundRecords.{found_holds}
+use Rattle.wc_machine.specs.Continues.{Continues}
+use Rattle.wc_machine.specs.Laws.{OnlyFunctions, calculated_for}
+use Rattle.wc_machine.specs.Ending.{ends}
+use Rattle.wc_machine.specs.Sound.{IsSound, IsFitting}
+use Rattle.wc_machine.proofs.FunctionEnds.{functions_continue}
+use Rattle.wc_machine.proofs.SoundFunctions.{functions_keep_sound}
+use Rattle.wc_runner.specs.Laws.{StaysSound, TurnsKeepSound, TurnsAreBatches}
+use Rattle.wc_runner.specs.Trips.{OneTurn, Turns, none, one_more}
+use Rattle.wc_runner.proofs.Continuing.{continues_itself, continues_on}
+use Rattle.wc_runner.proofs.FunctionTurns.{EndsOne, ends_one, reached_after, batches_after, functions_after}
+
+-- worlds of functions that accepted changes make
+pub record AreFunctions (w : World) : Type 0 where
+  pub reached : IsReached w
+  pub only : OnlyFunctions w
+
+pub functions_on : (poll : ℕ) (w v : World) → AreFunctions w → OneTurn poll w v → AreFunctions v
+functions_on poll w v a t =
+    let e = ends_one poll w v a.reached a.only t in
+    record { reached = reached_after w v e; only = functions_after w v a.only e }
+
+pub functions_last : (poll n : ℕ) (w v : World) → AreFunctions w → Turns poll n w v → AreFunctions v
+functions_last poll n w v a (none x) = a
+functions_last poll n w v a (one_more m x y z ts t) = functions_on poll y z (functions_last poll m x y a ts) t
+
+pub batch_on : (poll : ℕ) (w v : World) → AreFunctions w → OneTurn poll w v → v.batches ≡ w.batches + 1
+batch_on poll w v a t = batches_after w v (ends_one poll w v a.reached a.only t)
+
+counted : (poll n : ℕ) (w v : World) → AreFunctions w → Turns poll n w v → v.batches ≡ w.batches + n
+counted poll n w v a (none x) = omega arith
+counted poll n w v a (one_more m x y z ts t) =
+    let before : y.batches ≡ x.batches + m = counted poll m x y a ts in
+    let more : z.batches ≡ y.batches + 1 = batch_on poll y z (functions_last poll m x y a ts) t in
+    omega arith
+
+pub turns_counted : TurnsAreBatches
+turns_counted poll n w v reached only ts = counted poll n w v (record { reached = reached; only = only }) ts
+
+-- ---- soundness
+
+sound_on : (w v : World) → IsSound w → OnlyFunctions w → EndsOne w v → StaysSound w v
+sound_on w v sound only e =
+    let r = e.process in
+    let cs = ends w r (calculated_for w r e.function) None None in
+    let fits : IsFitting w r = found_holds (IsFitting w) r.node w.records r sound.records e.created.found in
+    let kept = functions_keep_sound w r e.function e.created e.runs sound only e.accepted in
+    record {
+      sound = subst IsSound (sym e.after) kept.0;
+      functions = subst OnlyFunctions (sym e.after) kept.1;
+      continues = subst (Continues w) (sym e.after) (functions_continue w r e.function e.created (fits.started e.created.created) e.runs);
+      reached = reached_after w v e;
+    }
+
+sound_last : (poll n : ℕ) (w v : World) → IsReached w → IsSound w → OnlyFunctions w → Turns poll n w v → StaysSound w v
+sound_last poll n w v reached sound only (none x) = record { sound = sound; functions = only; continues = continues_itself x reached; reached = reached }
+sound_last poll n w v reached sound only (one_more m x y z ts t) =
+    let before = sound_last poll m x y reached sound only ts in
+    let last = sound_on y z before.sound before.functions (ends_one poll y z before.reached before.functions t) in
+    record { sound = last.sound; functions = last.functions; continues = continues_on x y z before.continues last.continues; reached = last.reached }
+
+pub turns_sound : TurnsKeepSound
+turns_sound poll n w v reached sound only ts = sound_last poll n w v reached sound only ts

@@ -1,0 +1,28 @@
+-- Laws of turns one after another, in worlds of functions that take no other's outcome.
+use Rattle.std.specs.Prelude.{◌≡◌, ℕ, ◌+◌}
+use Rattle.wc_world.specs.World.{World}
+use Rattle.wc_world.specs.Accepted.{IsReached}
+use Rattle.wc_machine.specs.Continues.{Continues}
+use Rattle.wc_machine.specs.Laws.{OnlyFunctions}
+use Rattle.wc_machine.specs.Sound.{IsSound}
+use Rattle.wc_runner.specs.Trips.{Turns}
+
+-- The later world is sound too, and holds all that the earlier one held.
+pub record StaysSound (w v : World) : Type 0 where
+  pub sound : IsSound v
+  pub functions : OnlyFunctions v
+  pub continues : Continues w v
+  pub reached : IsReached v
+
+abbrev pub TurnsKeepSound : Type 0
+TurnsKeepSound = (poll n : ℕ) (w v : World) → IsReached w → IsSound w → OnlyFunctions w → Turns poll n w v → StaysSound w v
+
+-- each turn is one batch
+abbrev pub TurnsAreBatches : Type 0
+TurnsAreBatches = (poll n : ℕ) (w v : World) → IsReached w → OnlyFunctions w → Turns poll n w v → v.batches ≡ w.batches + n
+
+abbrev pub WorldsContinueThemselves : Type 0
+WorldsContinueThemselves = (w : World) → IsReached w → Continues w w
+
+abbrev pub ContinuingGoesOn : Type 0
+ContinuingGoesOn = (u v w : World) → Continues u v → Continues v w → Continues u w

@@ -1,0 +1,73 @@
+-- Why a turn on a store, or a run, breaks off, and what is counted.
+use Rattle.std.specs.Prelude.{◌≡◌, ◌⊎◌, ℕ, Bool, true, false, List, Result, Ok, Err}
+use Rattle.wc_io.specs.Counts.{Rises}
+use Rattle.wc_disk.specs.declared.disk.Disk as disk
+use Rattle.wc_journal.specs.declared.journal.Journal.{Journal}
+use Rattle.wc_journal.specs.Journals.{IsSettled}
+use Rattle.wc_state.specs.declared.record.Limits.{Limits}
+use Rattle.wc_world.specs.declared.change.Change.{Change}
+use Rattle.wc_world.specs.World.{World}
+use Rattle.wc_core.specs.Ended.{EndsFunction}
+use Rattle.wc_core.specs.Ready.{is_ready_at}
+use Rattle.wc_core.specs.Refusals.{RefusesTurn}
+use Rattle.wc_core.specs.declared.error.TurnError.TheVariants as turn_error
+use Rattle.wc_store.specs.Places.{its}
+use Rattle.wc_store.specs.Refusals.{RefusesCommit}
+use Rattle.wc_store.specs.declared.error.StoreError.{StoreError}
+use Rattle.wc_store.specs.declared.error.StoreError.TheVariants as store_error
+use Rattle.wc_store.specs.declared.store.Store.{Store}
+use Rattle.wc_runner.specs.declared.error.RunError.{RunError}
+use Rattle.wc_runner.specs.declared.error.RunError.TheVariants.{DiskFault, Full, OutOfMemory}
+
+-- ---- one turn
+
+-- the changes of the process's turn can't be committed, for this reason
+abbrev pub RefusesItsCommit : Journal → Limits → World → (pid : ℕ) → StoreError → Type 0
+RefusesItsCommit journal limits w pid e = (cs : List Change) × EndsFunction w pid 0 cs × RefusesCommit journal limits w cs e
+
+-- The turn of the process is refused as one on the world alone, or its changes can't be committed. Want of memory may come at any time.
+abbrev pub RefusesStep : Journal → Limits → World → (pid : ℕ) → RunError → Type 0
+RefusesStep journal limits w pid DiskFault = RefusesItsCommit journal limits w pid store_error.DiskFault
+RefusesStep journal limits w pid (Full what count limit) =
+    RefusesTurn w pid 0 limits.max_nodes (turn_error.Full what count limit) ⊎ RefusesItsCommit journal limits w pid (store_error.Full what count limit)
+RefusesStep journal limits w pid OutOfMemory = Unit {0}
+
+-- ---- a run
+
+-- The world is full at the turn of a ready process, by a journal that stands for the store's disk, where the disks tell their bytes.
+pub record IsFullAt {D : Type 0} (g : disk.Ghosts D) (told : Type 0) (limits : Limits) (store : Store) (one two : D) (e : RunError) : Type 0 where
+  pub pid : ℕ
+  pub ready : is_ready_at store.world.world pid 0 ≡ true
+  pub journal : Journal
+  pub version : journal.version ≡ store.journal.version
+  pub settled : told → IsSettled g journal (its store.place one two)
+  pub refused : RefusesStep journal limits store.world.world pid e
+
+-- a run is full at the world that it has come to, and otherwise breaks off for a fault or want of memory alone
+abbrev pub RefusesRun : {D : Type 0} → disk.Ghosts D → Type 0 → Limits → Store → D → D → RunError → Type 0
+RefusesRun g told limits store one two DiskFault = Unit {0}
+RefusesRun g told limits store one two (Full what count limit) = IsFullAt g told limits store one two (Full what count limit)
+RefusesRun g told limits store one two OutOfMemory = Unit {0}
+
+-- ---- what is counted
+
+-- `DiskFault` comes only where the count of one of the disks rose, and each other answer leaves both counts
+abbrev pub Counts : {T : Type 0} → Result T RunError → (one one' two two' : ℕ) → Type 0
+Counts (Ok answer) one one' two two' = (one' ≡ one) × (two' ≡ two)
+Counts (Err DiskFault) one one' two two' = Rises one one' ⊎ Rises two two'
+Counts (Err (Full what count limit)) one one' two two' = (one' ≡ one) × (two' ≡ two)
+Counts (Err OutOfMemory) one one' two two' = (one' ≡ one) × (two' ≡ two)
+
+-- a disk is as it was where the store was full or memory ran out
+abbrev pub IsUnchanged : {T S : Type 0} → Result T RunError → S → S → Type 0
+IsUnchanged (Ok answer) old new = Unit {0}
+IsUnchanged (Err DiskFault) old new = Unit {0}
+IsUnchanged (Err (Full what count limit)) old new = new ≡ old
+IsUnchanged (Err OutOfMemory) old new = new ≡ old
+
+-- a store is live but after a DiskFault
+abbrev pub is_live_after : {T : Type 0} → Result T RunError → Bool
+is_live_after (Ok answer) = true
+is_live_after (Err DiskFault) = false
+is_live_after (Err (Full what count limit)) = true
+is_live_after (Err OutOfMemory) = true

@@ -23,7 +23,7 @@ use Rattle.wc_core.specs.Ended.{EndsFunction}
 use Rattle.wc_core.specs.Refusals.{HasRoom}
 use Rattle.wc_store.specs.Held.{is_plain}
 use Rattle.wc_runner.specs.Turning.{IsTurnOf}
-use Rattle.wc_runner.specs.Trips.{OneTurn}
+use Rattle.wc_runner.specs.Trips.{TurnOf}
 use Rattle.wc_runner.proofs.FunctionTurns.{IsPlain, created_here, ends_one, batches_after, functions_after}
 
 plain_creations : (next pid : ℕ) (os : Values) (rest : List Change) → is_plain rest ≡ true → is_plain (creations next pid os ++ rest) ≡ true
@@ -67,14 +67,14 @@ module _ (w : World) (pid most : ℕ) (reached : IsReached w) (only : OnlyFuncti
 -- ---- what the changes make
 
 module _ (poll : ℕ) (w : World) (pid : ℕ) (cs : List Change) (t : IsTurnOf poll w pid cs) where
-  pub one_turn : OneTurn poll w (applied w cs)
-  one_turn = record { pid = pid; changes = cs; leads = t.leads; accepted = t.accepted; after = refl }
+  pub one_turn : TurnOf poll pid w (applied w cs)
+  one_turn = record { changes = cs; leads = t.leads; accepted = t.accepted; after = refl }
 
   pub one_batch : OnlyFunctions w → (applied w cs).batches ≡ w.batches + 1
-  one_batch only = batches_after w (applied w cs) (ends_one poll w (applied w cs) t.reached only one_turn)
+  one_batch only = batches_after w (applied w cs) (ends_one poll w (applied w cs) t.reached only (pid, one_turn))
 
   pub still_functions : OnlyFunctions w → OnlyFunctions (applied w cs)
-  still_functions only = functions_after w (applied w cs) only (ends_one poll w (applied w cs) t.reached only one_turn)
+  still_functions only = functions_after w (applied w cs) only (ends_one poll w (applied w cs) t.reached only (pid, one_turn))
 
 -- what is there is a function
 pub plain_there : (pid : ℕ) (rs : List ProcessRecord) → AreFunctions rs → IfSome (find_record pid rs) (λ r. (r.kind ≡ kind.Function) × (r.caching ≡ false))

@@ -110,20 +110,20 @@ pub record EndsOne (w v : World) : Type 0 where
 
 pub ends_one : (poll : ℕ) (w v : World) → IsReached w → OnlyFunctions w → OneTurn poll w v → EndsOne w v
 ends_one poll w v reached only t =
-    let given : GivesTurn poll w (turn t.pid Nothing 0) t.changes = gives_turn poll w (turn t.pid Nothing 0) t.changes t.leads in
+    let given : GivesTurn poll w (turn t.0 Nothing 0) t.1.changes = gives_turn poll w (turn t.0 Nothing 0) t.1.changes t.1.leads in
     let r : ProcessRecord = given.0 in
     let c : IsConsistent w = reached_is_consistent w reached in
     let plain : IsPlain r = found_holds IsPlain r.node w.records r only given.2 in
     let stands : Stands w r = found_holds (Stands w) r.node w.records r c.records given.2 in
     let runs : RunsFunction (its_definition w r) = runs_function (its_definition w r) (subst (λ (k : ProcessKind). is_of_kind k (its_definition w r) ≡ true) plain.0 stands.defined) in
-    let same : t.changes ≡ ends w r (calculated_for w r runs.0) None None = only_calculates poll 0 w r runs.0 Nothing t.changes plain.1 runs.1 given.4 in
+    let same : t.1.changes ≡ ends w r (calculated_for w r runs.0) None None = only_calculates poll 0 w r runs.0 Nothing t.1.changes plain.1 runs.1 given.4 in
     record {
       process = r;
       function = runs.0;
       created = created_here w r reached only given.2 given.3;
       runs = runs.1;
-      accepted = subst (IsAccepted w) same t.accepted;
-      after = t.after ∙ ap (applied w) same;
+      accepted = subst (IsAccepted w) same t.1.accepted;
+      after = t.1.after ∙ ap (applied w) same;
     }
 
 -- ---- what one turn keeps

@@ -10,8 +10,8 @@ use Rattle.wc_store.specs.declared.store.Store.{Store}
 use Rattle.wc_store.specs.Places.{its}
 use Rattle.wc_store.specs.Held.{Standing, a_world, IsHeld}
 use Rattle.wc_store.specs.Stores.{other, HoldsAs, HoldsEither, StandsFor, CommitLeaves}
-use Rattle.wc_runner.specs.Leaves.{HoldsSome, LeavesWorlds, IsOrOneTurn, SomeTurns}
-use Rattle.wc_runner.specs.Trips.{OneTurn, Turns, one_more}
+use Rattle.wc_runner.specs.Leaves.{HoldsSome, LeavesWorlds, IsOrTurnOf, SomeTurns}
+use Rattle.wc_runner.specs.Trips.{TurnOf, Turns, one_more}
 
 module _ {D : Type 0} (g : disk.Ghosts D) where
   held_as : (place : Place) (one two : D) (s : Standing) → IsHeld (g.seen one) (g.seen two) s → HoldsAs place (g.seen (its place one two)) (g.seen (other place one two)) s
@@ -37,31 +37,31 @@ module _ {D : Type 0} (g : disk.Ghosts D) where
       }
 
   -- a commit of a turn leaves the world before or the one after
-  pub commit_leaves : (poll : ℕ) (place : Place) (w v : World) (one two one_new two_new : D) → OneTurn poll w v → CommitLeaves g place w v one two one_new two_new
-      → LeavesWorlds g place (IsOrOneTurn poll w) one two one_new two_new
-  commit_leaves poll place w v one two one_new two_new t leaves = record {
+  pub commit_leaves : (poll pid : ℕ) (place : Place) (w v : World) (one two one_new two_new : D) → TurnOf poll pid w v → CommitLeaves g place w v one two one_new two_new
+      → LeavesWorlds g place (IsOrTurnOf poll pid w) one two one_new two_new
+  commit_leaves poll pid place w v one two one_new two_new t leaves = record {
     untouched = leaves.untouched;
     each = weaker_run g (its place one two) (its place one_new two_new) _ _ leaves.each either;
   }
     where
-      either : (image : List ℕ) → HoldsEither place w v (g.seen (other place one two)) image → HoldsSome place (IsOrOneTurn poll w) (g.seen (other place one two)) image
+      either : (image : List ℕ) → HoldsEither place w v (g.seen (other place one two)) image → HoldsSome place (IsOrTurnOf poll pid w) (g.seen (other place one two)) image
       either image (inl before) = (w, inl refl, before)
       either image (inr after) = (v, inr t, after)
 
   -- ---- one turn more
 
-  more_turns : (poll n : ℕ) (u w v : World) → Turns poll n u w → IsOrOneTurn poll w v → SomeTurns poll u v
-  more_turns poll n u w v ts (inl same) = (n, subst (Turns poll n u) (sym same) ts)
-  more_turns poll n u w v ts (inr t) = (suc n, one_more n u w v ts t)
+  more_turns : (poll pid n : ℕ) (u w v : World) → Turns poll n u w → IsOrTurnOf poll pid w v → SomeTurns poll u v
+  more_turns poll pid n u w v ts (inl same) = (n, subst (Turns poll n u) (sym same) ts)
+  more_turns poll pid n u w v ts (inr t) = (suc n, one_more n u w v ts (pid, t))
 
-  pub leaves_on : (poll n : ℕ) (place : Place) (u w : World) (one two one_mid two_mid one_new two_new : D) → Turns poll n u w
-      → LeavesWorlds g place (SomeTurns poll u) one two one_mid two_mid → LeavesWorlds g place (IsOrOneTurn poll w) one_mid two_mid one_new two_new
+  pub leaves_on : (poll pid n : ℕ) (place : Place) (u w : World) (one two one_mid two_mid one_new two_new : D) → Turns poll n u w
+      → LeavesWorlds g place (SomeTurns poll u) one two one_mid two_mid → LeavesWorlds g place (IsOrTurnOf poll pid w) one_mid two_mid one_new two_new
       → LeavesWorlds g place (SomeTurns poll u) one two one_new two_new
-  leaves_on poll n place u w one two one_mid two_mid one_new two_new ts first second =
+  leaves_on poll pid n place u w one two one_mid two_mid one_new two_new ts first second =
       let beside : g.seen (other place one_mid two_mid) ≡ g.seen (other place one two) = ap g.seen first.untouched in
       record {
         untouched = second.untouched ∙ first.untouched;
         each = both_runs g (its place one two) (its place one_mid two_mid) (its place one_new two_new) _ _ (HoldsSome place (SomeTurns poll u) (g.seen (other place one two)))
             first.each second.each (λ image h. h)
-            (λ image h. (h.0, more_turns poll n u w h.0 ts h.1, subst (λ (rest : List ℕ). HoldsAs place image rest (a_world h.0)) beside h.2));
+            (λ image h. (h.0, more_turns poll pid n u w h.0 ts h.1, subst (λ (rest : List ℕ). HoldsAs place image rest (a_world h.0)) beside h.2));
       }

@@ -13,8 +13,8 @@ use Rattle.wc_store.specs.Stores.{StandsFor}
 use Rattle.wc_runner.specs.declared.error.RunError.{RunError}
 use Rattle.wc_runner.specs.declared.error.RunError.TheVariants.{DiskFault, Full, OutOfMemory}
 use Rattle.wc_runner.specs.Refusals.{RefusesStep, RefusesRun, IsUnchanged}
-use Rattle.wc_runner.specs.Leaves.{LeavesWorlds, IsOrOneTurn, SomeTurns}
-use Rattle.wc_runner.specs.Trips.{OneTurn, Turns, none, one_more}
+use Rattle.wc_runner.specs.Leaves.{LeavesWorlds, IsOrTurnOf, SomeTurns}
+use Rattle.wc_runner.specs.Trips.{TurnOf, Turns, none, one_more}
 use Rattle.wc_runner.proofs.Leaving.{stands_leaves, leaves_on}
 
 -- So many turns were taken of at most so many, from one store and its disks to others.
@@ -56,24 +56,24 @@ module _ {D : Type 0} (g : disk.Ghosts D) where
   }
 
   module _ (poll most : ℕ) (old : Store) (one two : D) (taken : ℕ) (s : Store) (one_s two_s : D) (u : UnderWay g poll most old one two taken s one_s two_s)
-      (v : Store) (one_v two_v : D) where
+      (v : Store) (one_v two_v : D) (pid : ℕ) where
     -- what a turn leaves on the disks, as a part of the run
-    pub leaves_more : (IsTrue (g.tells one_s) → IsTrue (g.tells two_s) → LeavesWorlds g s.place (IsOrOneTurn poll s.world.world) one_s two_s one_v two_v)
+    pub leaves_more : (IsTrue (g.tells one_s) → IsTrue (g.tells two_s) → LeavesWorlds g s.place (IsOrTurnOf poll pid s.world.world) one_s two_s one_v two_v)
         → IsTrue (g.tells one) → IsTrue (g.tells two) → LeavesWorlds g old.place (SomeTurns poll old.world.world) one two one_v two_v
     leaves_more turn first second =
         let told : IsTrue (g.tells one_s) = subst (λ (b : Bool). IsTrue b) (sym u.tells_one) first in
         let told_too : IsTrue (g.tells two_s) = subst (λ (b : Bool). IsTrue b) (sym u.tells_two) second in
-        leaves_on g poll taken old.place old.world.world s.world.world one two one_s two_s one_v two_v u.turns (u.any_moment first second)
-        (subst (λ (p : _). LeavesWorlds g p (IsOrOneTurn poll s.world.world) one_s two_s one_v two_v) u.place (turn told told_too))
+        leaves_on g poll pid taken old.place old.world.world s.world.world one two one_s two_s one_v two_v u.turns (u.any_moment first second)
+        (subst (λ (p : _). LeavesWorlds g p (IsOrTurnOf poll pid s.world.world) one_s two_s one_v two_v) u.place (turn told told_too))
 
     pub stands_still : (IsTrue (g.tells one_s) → IsTrue (g.tells two_s) → StandsFor g v one_v two_v) → IsTrue (g.tells one) → IsTrue (g.tells two)
         → StandsFor g v one_v two_v
     stands_still turn first second = turn (subst (λ (b : Bool). IsTrue b) (sym u.tells_one) first) (subst (λ (b : Bool). IsTrue b) (sym u.tells_two) second)
 
-    pub goes_on : taken < most → v.live ≡ true → OneTurn poll s.world.world v.world.world → v.world.world.batches ≡ s.world.world.batches + 1
+    pub goes_on : taken < most → v.live ≡ true → TurnOf poll pid s.world.world v.world.world → v.world.world.batches ≡ s.world.world.batches + 1
         → OnlyFunctions v.world.world → (IsTrue (g.tells one_s) → IsTrue (g.tells two_s) → StandsFor g v one_v two_v)
         → (v.place ≡ s.place) × (v.journal.generation ≡ s.journal.generation) × (v.journal.version ≡ s.journal.version)
-        → (IsTrue (g.tells one_s) → IsTrue (g.tells two_s) → LeavesWorlds g s.place (IsOrOneTurn poll s.world.world) one_s two_s one_v two_v)
+        → (IsTrue (g.tells one_s) → IsTrue (g.tells two_s) → LeavesWorlds g s.place (IsOrTurnOf poll pid s.world.world) one_s two_s one_v two_v)
         → (g.tells one_v ≡ g.tells one_s) × (g.tells two_v ≡ g.tells two_s) → (g.faults one_v ≡ g.faults one_s) × (g.faults two_v ≡ g.faults two_s)
         → UnderWay g poll most old one two (taken + 1) v one_v two_v
     goes_on less live turn batch only stands place leaves tells faults =
@@ -86,7 +86,7 @@ module _ {D : Type 0} (g : disk.Ghosts D) where
           faults_two = faults.1 ∙ u.faults_two;
           stands = stands_still stands;
           functions = only;
-          turns = subst (λ (n : ℕ). Turns poll n old.world.world v.world.world) more (one_more taken old.world.world s.world.world v.world.world u.turns turn);
+          turns = subst (λ (n : ℕ). Turns poll n old.world.world v.world.world) more (one_more taken old.world.world s.world.world v.world.world u.turns (pid, turn));
           batches = omega (arith, batch, u.batches);
           few = omega arith;
           place = place.0 ∙ u.place;
@@ -96,12 +96,12 @@ module _ {D : Type 0} (g : disk.Ghosts D) where
         }
 
     -- why the run breaks off, where the turn does
-    pub refuses : (T : Type 0) (limits : Limits) (pid : ℕ) (e : RunError) → is_ready_at s.world.world pid 0 ≡ true → v.world.world ≡ s.world.world
+    pub refuses : (T : Type 0) (limits : Limits) (e : RunError) → is_ready_at s.world.world pid 0 ≡ true → v.world.world ≡ s.world.world
         → RefusesStep s.journal limits s.world.world pid e → IsUnchanged {T = T} (Err e) one_s one_v → IsUnchanged {T = T} (Err e) two_s two_v
         → (v.place ≡ s.place) × (v.journal.generation ≡ s.journal.generation) × (v.journal.version ≡ s.journal.version)
         → RefusesRun g (IsTrue (g.tells one) × IsTrue (g.tells two)) limits v one_v two_v e
-    refuses T limits pid DiskFault ready world refused same_one same_two place = tt
-    refuses T limits pid (Full what count limit) ready world refused same_one same_two place = record {
+    refuses T limits DiskFault ready world refused same_one same_two place = tt
+    refuses T limits (Full what count limit) ready world refused same_one same_two place = record {
       pid = pid;
       ready = ap (λ (w : World). is_ready_at w pid 0) world ∙ ready;
       journal = s.journal;
@@ -112,4 +112,4 @@ module _ {D : Type 0} (g : disk.Ghosts D) where
           subst (λ (d : D). IsSettled g s.journal d) same there;
       refused = subst (λ (w : World). RefusesStep s.journal limits w pid (Full what count limit)) (sym world) refused;
     }
-    refuses T limits pid OutOfMemory ready world refused same_one same_two place = tt
+    refuses T limits OutOfMemory ready world refused same_one same_two place = tt

@@ -7,7 +7,7 @@ use Rattle.wc_store.specs.declared.place.Place.{Place}
 use Rattle.wc_store.specs.Places.{its}
 use Rattle.wc_store.specs.Held.{a_world}
 use Rattle.wc_store.specs.Stores.{other, HoldsAs}
-use Rattle.wc_runner.specs.Trips.{OneTurn, Turns}
+use Rattle.wc_runner.specs.Trips.{TurnOf, Turns}
 
 -- The image, beside that of the other disk, holds a world of which P holds.
 abbrev pub HoldsSome : Place → (World → Type 0) → List ℕ → List ℕ → Type 0
@@ -18,9 +18,9 @@ pub record LeavesWorlds {D : Type 0} (g : disk.Ghosts D) (place : Place) (P : Wo
   pub untouched : other place one_new two_new ≡ other place one two
   pub each : LeavesOnly g (its place one two) (its place one_new two_new) (HoldsSome place P (g.seen (other place one two)))
 
--- the world, or what one turn makes of it
-abbrev pub IsOrOneTurn : ℕ → World → World → Type 0
-IsOrOneTurn poll w v = (v ≡ w) ⊎ OneTurn poll w v
+-- the world, or what the turn of this process makes of it
+abbrev pub IsOrTurnOf : (poll pid : ℕ) → World → World → Type 0
+IsOrTurnOf poll pid w v = (v ≡ w) ⊎ TurnOf poll pid w v
 
 -- what some turns make of the world
 abbrev pub SomeTurns : ℕ → World → World → Type 0

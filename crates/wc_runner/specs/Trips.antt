@@ -13,13 +13,16 @@ use Rattle.wc_machine.specs.Machine.{Leads, turn}
 
 -- ---- turns
 
--- One world is what the turn of a process that asks nothing makes of another.
-pub record OneTurn (poll : ℕ) (w v : World) : Type 0 where
-  pub pid : ℕ
+-- One world is what the turn of this process, which asks nothing, makes of another.
+pub record TurnOf (poll pid : ℕ) (w v : World) : Type 0 where
   pub changes : List Change
   pub leads : Leads poll w (turn pid Nothing 0) changes
   pub accepted : IsAccepted w changes
   pub after : v ≡ applied w changes
+
+-- one world is what the turn of some process makes of another
+abbrev pub OneTurn : ℕ → World → World → Type 0
+OneTurn poll w v = (pid : ℕ) × TurnOf poll pid w v
 
 -- so many turns, one after another
 pub data Turns (poll : ℕ) : ℕ → World → World → Type 0 where

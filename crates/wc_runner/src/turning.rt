@@ -5,9 +5,9 @@ ghost use Rattle.wc_machine.specs.Laws.{OnlyFunctions};
 ghost use Rattle.wc_core.specs.Ranges.{AreLimits};
 ghost use Rattle.wc_core.specs.Ready.{is_ready_at};
 ghost use Rattle.wc_store.specs.Stores.{StandsFor};
-ghost use Rattle.wc_runner.specs.Leaves.{IsOrOneTurn, LeavesWorlds};
+ghost use Rattle.wc_runner.specs.Leaves.{IsOrTurnOf, LeavesWorlds};
 ghost use Rattle.wc_runner.specs.Refusals.{Counts, IsUnchanged, RefusesStep, is_live_after};
-ghost use Rattle.wc_runner.specs.Trips.{OneTurn};
+ghost use Rattle.wc_runner.specs.Trips.{TurnOf};
 ghost use Rattle.wc_runner.specs.Turning.{IsTurnOf, RefusesChanges, of_store, of_turn};
 
 use crate::error::RunError;
@@ -71,7 +71,7 @@ pub fn turn_one<D: Disk>(
     requires limits { AreLimits limits.now }
     requires ready { is_ready_at store.old.world.world pid 0 ≡ true }
     requires functions { OnlyFunctions store.old.world.world }
-    ensures ok { OnOk result (OneTurn limits.now.poll_ms store.old.world.world store.new.world.world) }
+    ensures ok { OnOk result (TurnOf limits.now.poll_ms pid store.old.world.world store.new.world.world) }
     ensures batches { OnOk result (store.new.world.world.batches ≡ store.old.world.world.batches + 1) }
     ensures same { OnErr result (store.new.world.world ≡ store.old.world.world) }
     ensures functions { OnlyFunctions store.new.world.world }
@@ -82,7 +82,7 @@ pub fn turn_one<D: Disk>(
     ensures still { store.new.live ≡ true → IsTrue (D.tells one.old) → IsTrue (D.tells two.old) → StandsFor D.Disk store.new one.new two.new }
     ensures place { (store.new.place ≡ store.old.place) × (store.new.journal.generation ≡ store.old.journal.generation) × (store.new.journal.version ≡ store.old.journal.version) }
     ensures any_moment { IsTrue (D.tells one.old) → IsTrue (D.tells two.old)
-        → LeavesWorlds D.Disk store.old.place (IsOrOneTurn limits.now.poll_ms store.old.world.world) one.old two.old one.new two.new }
+        → LeavesWorlds D.Disk store.old.place (IsOrTurnOf limits.now.poll_ms pid store.old.world.world) one.old two.old one.new two.new }
     ensures tells { (D.tells one.new ≡ D.tells one.old) × (D.tells two.new ≡ D.tells two.old) }
     ensures cause { Counts result (D.faults one.old) (D.faults one.new) (D.faults two.old) (D.faults two.new) }
 {

@@ -15,7 +15,7 @@ trip-preserved g c =
     let e = c.in-Ok.ensures in
     let less : c.trip.taken < c.args.turns = let few = c.trip.invariant.few in let not_all = c.if-taken-turns.false in omega arith in
     goes_on g.D.Disk c.args.limits.now.poll_ms c.args.turns c.args.store.now c.args.one.now c.args.two.now c.trip.taken c.trip.store c.trip.one c.trip.two c.trip.invariant
-    c.turn_one.new.store c.turn_one.new.one c.turn_one.new.two less e.live e.ok e.batches e.functions (e.still e.live) e.place e.any_moment e.tells e.cause
+    c.turn_one.new.store c.turn_one.new.one c.turn_one.new.two c.in-Turn.pid less e.live e.ok e.batches e.functions (e.still e.live) e.place e.any_moment e.tells e.cause
 
 pub returns-in-Err-clause-refused : goal.returns-in-Err-clause-refused
 returns-in-Err-clause-refused g c =
@@ -24,9 +24,9 @@ returns-in-Err-clause-refused g c =
     let ready : is_ready_at c.trip.store.world.world c.in-Turn.pid 0 ≡ true
     = subst (λ (w : World). is_ready_at w c.in-Turn.pid 0 ≡ true) world c.in-Turn.ensures.2 in
     refuses g.D.Disk c.args.limits.now.poll_ms c.args.turns c.args.store.now c.args.one.now c.args.two.now c.trip.taken c.trip.store c.trip.one c.trip.two c.trip.invariant
-    c.turn_one.new.store c.turn_one.new.one c.turn_one.new.two (Unit {0}) c.args.limits.now c.in-Turn.pid c.in-Err.error ready e.same e.refused e.untouched_one e.untouched_two e.place
+    c.turn_one.new.store c.turn_one.new.one c.turn_one.new.two c.in-Turn.pid (Unit {0}) c.args.limits.now c.in-Err.error ready e.same e.refused e.untouched_one e.untouched_two e.place
 
 pub returns-in-Err-clause-any_moment : goal.returns-in-Err-clause-any_moment
 returns-in-Err-clause-any_moment g c =
     leaves_more g.D.Disk c.args.limits.now.poll_ms c.args.turns c.args.store.now c.args.one.now c.args.two.now c.trip.taken c.trip.store c.trip.one c.trip.two c.trip.invariant
-    c.turn_one.new.store c.turn_one.new.one c.turn_one.new.two c.in-Err.ensures.any_moment
+    c.turn_one.new.store c.turn_one.new.one c.turn_one.new.two c.in-Turn.pid c.in-Err.ensures.any_moment

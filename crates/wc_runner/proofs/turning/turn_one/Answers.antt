@@ -2,7 +2,7 @@ use Rattle.std.proofs.Common.{inl, refl, sym, ap, subst, ◌∙◌}
 use Rattle.wc_world.specs.Room.{Holding}
 use Rattle.wc_world.specs.World.{World}
 use Rattle.wc_machine.specs.Laws.{OnlyFunctions}
-use Rattle.wc_runner.specs.Leaves.{IsOrOneTurn}
+use Rattle.wc_runner.specs.Leaves.{IsOrTurnOf}
 use Rattle.wc_runner.specs.Turning.{IsTurnOf}
 use Rattle.wc_runner.proofs.Accepted.{one_turn, one_batch, still_functions}
 use Rattle.wc_runner.proofs.Leaving.{stands_leaves, commit_leaves}
@@ -11,7 +11,7 @@ use Rattle.wc_runner.proofs.turning.turn_one.Goals as goal
 pub returns-in_err-changes-clause-any_moment : goal.returns-in_err-changes-clause-any_moment
 returns-in_err-changes-clause-any_moment g c =
     let s = c.args.store.now in
-    λ told told_too. stands_leaves g.D.Disk s (IsOrOneTurn c.args.limits.now.poll_ms s.world.world) c.args.one.now c.args.two.now g.met.D.Disk.only_now
+    λ told told_too. stands_leaves g.D.Disk s (IsOrTurnOf c.args.limits.now.poll_ms c.args.pid s.world.world) c.args.one.now c.args.two.now g.met.D.Disk.only_now
     (c.requires.stands told told_too) (inl refl)
 
 pub returns-in-Ok-clause-batches : goal.returns-in-Ok-clause-batches
@@ -33,7 +33,7 @@ returns-in-Ok-clause-any_moment g c =
     let s = c.args.store.now in
     let poll = c.args.limits.now.poll_ms in
     let turn = subst (λ (h : Holding). IsTurnOf poll h.world c.args.pid c.in_ok-changes.changes) c.world.ensures c.in_ok-changes.ensures.ok in
-    λ told told_too. commit_leaves g.D.Disk poll s.place s.world.world _ c.args.one.now c.args.two.now c.commit.new.one c.commit.new.two
+    λ told told_too. commit_leaves g.D.Disk poll c.args.pid s.place s.world.world _ c.args.one.now c.args.two.now c.commit.new.one c.commit.new.two
     (one_turn poll s.world.world c.args.pid c.in_ok-changes.changes turn) (c.in-Ok.ensures.any_moment told told_too)
 
 pub returns-in-Err-clause-any_moment : goal.returns-in-Err-clause-any_moment
@@ -41,5 +41,5 @@ returns-in-Err-clause-any_moment g c =
     let s = c.args.store.now in
     let poll = c.args.limits.now.poll_ms in
     let turn = subst (λ (h : Holding). IsTurnOf poll h.world c.args.pid c.in_ok-changes.changes) c.world.ensures c.in_ok-changes.ensures.ok in
-    λ told told_too. commit_leaves g.D.Disk poll s.place s.world.world _ c.args.one.now c.args.two.now c.commit.new.one c.commit.new.two
+    λ told told_too. commit_leaves g.D.Disk poll c.args.pid s.place s.world.world _ c.args.one.now c.args.two.now c.commit.new.one c.commit.new.two
     (one_turn poll s.world.world c.args.pid c.in_ok-changes.changes turn) (c.in-Err.ensures.any_moment told told_too)

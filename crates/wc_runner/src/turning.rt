@@ -1,9 +1,10 @@
 //! One turn on a store.
 
-ghost use Rattle.std.specs.Prelude.{◌≡◌, ◌+◌, true, IsTrue, IfOk, IfErr, OnOk, OnErr};
+ghost use Rattle.std.specs.Prelude.{◌≡◌, ◌≤◌, ◌+◌, true, length, IsTrue, IfOk, IfErr, OnOk, OnErr};
 ghost use Rattle.wc_machine.specs.Laws.{OnlyFunctions};
 ghost use Rattle.wc_core.specs.Ranges.{AreLimits};
 ghost use Rattle.wc_core.specs.Ready.{is_ready_at};
+ghost use Rattle.wc_store.specs.Refusals.{byte_limit};
 ghost use Rattle.wc_store.specs.Stores.{StandsFor};
 ghost use Rattle.wc_runner.specs.Leaves.{IsOrTurnOf, LeavesWorlds};
 ghost use Rattle.wc_runner.specs.Refusals.{Counts, IsUnchanged, RefusesStep, is_live_after};
@@ -71,6 +72,9 @@ pub fn turn_one<D: Disk>(
     requires limits { AreLimits limits.now }
     requires ready { is_ready_at store.old.world.world pid 0 ≡ true }
     requires functions { OnlyFunctions store.old.world.world }
+    ensures fits { OnOk result ((length store.new.world.world.nodes ≤ limits.now.max_nodes)
+        × (store.new.journal.end + 1 ≤ byte_limit store.new.journal.version limits.now.max_bytes)) }
+    ensures kept { OnErr result (store.new.journal.end ≡ store.old.journal.end) }
     ensures ok { OnOk result (TurnOf limits.now.poll_ms pid store.old.world.world store.new.world.world) }
     ensures batches { OnOk result (store.new.world.world.batches ≡ store.old.world.world.batches + 1) }
     ensures same { OnErr result (store.new.world.world ≡ store.old.world.world) }

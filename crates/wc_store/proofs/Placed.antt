@@ -62,13 +62,16 @@ module _ {D : Type 0} (g : disk.Ghosts D) where
       → RefusesAppend (size_after journal.end journal.version p) limit e → ((count most : ℕ) → IsErrOf {T = T} (Err e) (Full count most) → new ≡ old)
       → ((count most : ℕ) → IsErrOf {T = T} (Err e) (Full count most) → IsTrue (g.tells old) → IsSettled g journal_new new)
       → journal_new.version ≡ journal.version → journal_new.generation ≡ journal.generation → g.tells new ≡ g.tells old
-      → CountsDiskFault {T = T} (Err e) (g.faults old) (g.faults new) → Appends {T = S} g p limit journal journal_new old new (Err s)
-  refused_appends T S p limit journal journal_new old new e s is moment refused unwritten still version generation tells cause =
+      → CountsDiskFault {T = T} (Err e) (g.faults old) (g.faults new) → journal_new.end ≡ journal.end
+      → Appends {T = S} g p limit journal journal_new old new (Err s)
+  refused_appends T S p limit journal journal_new old new e s is moment refused unwritten still version generation tells cause kept =
       subst (λ (x : StoreError). Appends {T = S} g p limit journal journal_new old new (Err x)) (sym is) (record {
         settled = tt;
         held = tt;
         any_moment = moment;
         fits = tt;
+        longer = tt;
+        kept = kept;
         refused = length_as (size_after journal.end journal.version p) limit e refused;
         untouched = append_untouched T S (size_after journal.end journal.version p) limit e old new refused unwritten;
         still = append_still T S (size_after journal.end journal.version p) limit (IsTrue (g.tells old) → IsSettled g journal_new new) e refused still;

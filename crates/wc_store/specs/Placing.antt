@@ -1,5 +1,5 @@
 -- What the calls of a journal leave at one of the two disks of a store.
-use Rattle.std.specs.Prelude.{◌≡◌, ◌-◌, ◌^◌, ◌<◌, ◌≤◌, ℕ, true, List, [], ◌∷◌, min, Result, IsTrue, IfOk, IfErr, OnOk}
+use Rattle.std.specs.Prelude.{◌≡◌, ◌+◌, ◌-◌, ◌^◌, ◌<◌, ◌≤◌, ℕ, true, List, [], ◌∷◌, min, Result, IsTrue, IfOk, IfErr, OnOk, OnErr}
 use Rattle.wc_disk.specs.declared.disk.Disk as disk
 use Rattle.wc_disk.specs.Images.{LeavesOnly}
 use Rattle.wc_journal.specs.declared.error.JournalError.{JournalError}
@@ -37,6 +37,8 @@ pub record Appends {D T : Type 0} (g : disk.Ghosts D) (payload : List ℕ) (limi
   pub held : OnOk result (IsTrue (g.tells old) → journal_of (g.seen new) ≡ with_batch journal (journal_of (g.seen old)) payload)
   pub any_moment : IsTrue (g.tells old) → LeavesOnly g old new (HoldsEither (journal_of (g.seen old)) (with_batch journal (journal_of (g.seen old)) payload))
   pub fits : OnOk result (size_after journal.end journal.version payload ≤ limit)
+  pub longer : OnOk result (journal_new.end + 1 ≡ size_after journal.end journal.version payload)
+  pub kept : OnErr result (journal_new.end ≡ journal.end)
   pub refused : IfErr result (RefusesLength (size_after journal.end journal.version payload) limit)
   pub untouched : IsUnchanged result old new
   pub still : is_live_after result true ≡ true → IsTrue (g.tells old) → IsSettled g journal_new new

@@ -51,9 +51,13 @@ pub record PackLeaves {D : Type 0} (g : disk.Ghosts D) (place : Place) (world : 
 abbrev pub IsMade : List ℕ → Type 0
 IsMade image = (journal_of image ≡ no_journal) ⊎ (journal_of image ≡ holds 2 1 [])
 
--- `init` leaves on disk one what a crash at entry might have left, or an image that it makes
-abbrev pub MadeOr : (List ℕ → Type 0) → List ℕ → Type 0
-MadeOr before image = before image ⊎ IsMade image
+-- disk one reads as no journal, and where disk two tells its bytes, the two hold nothing
+abbrev pub HoldsNothing : Type 0 → List ℕ → List ℕ → Type 0
+HoldsNothing told one two = (journal_of one ≡ no_journal) × (told → IsHeld one two nothing)
+
+-- `init` leaves on disk one what a crash at entry might have left, or, where this held, an image that it makes
+abbrev pub MadeOr : Type 0 → (List ℕ → Type 0) → List ℕ → Type 0
+MadeOr bare before image = before image ⊎ (bare × IsMade image)
 
 -- what was loaded is what the disks hold
 abbrev pub Loads : {D : Type 0} → disk.Ghosts D → Option Store → D → D → Type 0

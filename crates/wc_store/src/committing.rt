@@ -7,6 +7,7 @@ ghost use Rattle.wc_world.specs.Accepted.{IsAccepted};
 ghost use Rattle.wc_world.specs.Snapshot.{snapshot};
 ghost use Rattle.wc_store.specs.Places.{number_of, opposite};
 ghost use Rattle.wc_store.specs.Held.{is_plain};
+ghost use Rattle.wc_store.specs.Preparing.{HasGeneration};
 ghost use Rattle.wc_store.specs.Stores.{StandsFor, CommitLeaves, PackLeaves, other};
 ghost use Rattle.wc_store.specs.Refusals.{Counts, RefusesCommit, RefusesPack, IsUnchanged, AreLimits, is_live_after, byte_limit, committed_bytes};
 
@@ -49,6 +50,8 @@ impl Store {
         ensures refused { IfErr result (RefusesCommit self.old.journal limits.now self.old.world.world changes) }
         ensures fits { OnOk result ((length (applied self.old.world.world changes).nodes ≤ limits.now.max_nodes)
             × (committed_bytes self.old.journal changes ≤ byte_limit self.old.journal.version limits.now.max_bytes)) }
+        ensures longer { OnOk result (self.new.journal.end + 1 ≡ committed_bytes self.old.journal changes) }
+        ensures kept { OnErr result (self.new.journal.end ≡ self.old.journal.end) }
         ensures untouched_one { IsUnchanged result one.old one.new }
         ensures untouched_two { IsUnchanged result two.old two.new }
         ensures still { self.new.live ≡ true → IsTrue (D.tells one.old) → IsTrue (D.tells two.old) → StandsFor D.Disk self.new one.new two.new }
@@ -91,6 +94,9 @@ impl Store {
             ≡ holds 2 (self.old.journal.generation + 1) ((26, spelled (snapshot self.old.world.world)) ∷ [])) }
         ensures live { self.new.live ≡ is_live_after result true }
         ensures refused { IfErr result (RefusesPack self.old.journal.generation self.old.world.world) }
+        ensures fits { OnOk result (HasGeneration self.old.journal.generation self.old.world.world) }
+        ensures version { OnOk result (self.new.journal.version ≡ 2) }
+        ensures kept { OnErr result ((self.new.place ≡ self.old.place) × (self.new.journal ≡ self.old.journal)) }
         ensures untouched_one { IsUnchanged result one.old one.new }
         ensures untouched_two { IsUnchanged result two.old two.new }
         ensures still { self.new.live ≡ true → IsTrue (D.tells one.old) → IsTrue (D.tells two.old) → StandsFor D.Disk self.new one.new two.new }

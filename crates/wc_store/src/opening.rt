@@ -6,10 +6,11 @@ ghost use Rattle.wc_journal.specs.Reading.{journal_of, no_journal};
 ghost use Rattle.wc_world.specs.World.{empty};
 ghost use Rattle.wc_store.specs.Held.{IsHeld, nothing};
 ghost use Rattle.wc_store.specs.Places.{number_of, its};
+ghost use Rattle.wc_store.specs.declared.place.Place.TheVariants.{One};
 ghost use Rattle.wc_store.specs.Played.{AreCounted, Makes, RefusesPlaying};
 ghost use Rattle.wc_store.specs.Opening.{Opens};
-ghost use Rattle.wc_store.specs.Stores.{StandsFor, Loads, MadeOr};
-ghost use Rattle.wc_store.specs.Refusals.{Counts, RefusesLoad, RefusesInit};
+ghost use Rattle.wc_store.specs.Stores.{StandsFor, Loads, MadeOr, HoldsNothing};
+ghost use Rattle.wc_store.specs.Refusals.{Counts, RefusesLoad, RefusesInit, IsUnchanged};
 
 use crate::choosing::find_store;
 use crate::error::StoreError;
@@ -87,7 +88,11 @@ impl Store {
         ensures live { IfOk result (λ store. store.live ≡ true) }
         ensures nothing { OnOk result (IsTrue (D.tells one.old) → IsTrue (D.tells two.old) → IsHeld (D.seen one.old) (D.seen two.old) nothing) }
         ensures refused { IfErr result (RefusesInit (IsTrue (D.tells one.old) × IsTrue (D.tells two.old)) (IsHeld (D.seen one.old) (D.seen two.old))) }
-        ensures any_moment_one { IsTrue (D.tells one.old) → LeavesOnly D.Disk one.old one.new (MadeOr (D.may_leave one.old)) }
+        ensures made { IfOk result (λ store. (store.place ≡ One) × (store.journal.generation ≡ 1) × (store.journal.version ≡ 2)) }
+        ensures kept { IsUnchanged result (D.seen one.old) (D.seen one.new) }
+        ensures seen_two { D.seen two.new ≡ D.seen two.old }
+        ensures any_moment_one { IsTrue (D.tells one.old) → LeavesOnly D.Disk one.old one.new
+            (MadeOr (HoldsNothing (IsTrue (D.tells two.old)) (D.seen one.old) (D.seen two.old)) (D.may_leave one.old)) }
         ensures any_moment_two { LeavesOnly D.Disk two.old two.new (D.may_leave two.old) }
         ensures tells { (D.tells one.new ≡ D.tells one.old) × (D.tells two.new ≡ D.tells two.old) }
         ensures cause { Counts result (D.faults one.old) (D.faults one.new) (D.faults two.old) (D.faults two.new) }

@@ -11,8 +11,6 @@ mod place;
 mod placing;
 mod preparing;
 mod store;
-#[cfg(test)]
-mod tests;
 
 pub use error::StoreError;
 pub use laws::images_hold_one_thing;

@@ -1,14 +1,16 @@
+//! Stores on disks in memory.
+
 ghost use Rattle.std.specs.Prelude.{◌≡◌, ◌≤◌, true, IsTrue, IfOk};
 ghost use Rattle.wc_store.specs.Held.{is_plain};
 ghost use Rattle.wc_store.specs.Refusals.{is_live_after};
 ghost use Rattle.wc_store.specs.Stores.{StandsFor};
 
-use crate::{Store, StoreError};
 use std::alloc::{AllocError, Global};
 use std::test::Fail;
 use wc_disk::{Disk, MemoryDisk};
 use wc_journal::Found;
 use wc_state::{Limits, What};
+use wc_store::{Store, StoreError};
 use wc_value::{Bytes, List, Value};
 use wc_world::{Change, Changes};
 

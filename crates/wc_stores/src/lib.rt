@@ -1,5 +1,4 @@
-//! Stores on disks in memory: what images hold and what is refused, and the bytes that commits and packs leave. What is wanted was
-//! worked out by hand from the rules.
+//! Stores on disks in memory: what images hold and what is refused. What is wanted was worked out by hand from the rules.
 #![tactic(auto)]
 
 #[cfg(test)]

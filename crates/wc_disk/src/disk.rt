@@ -73,6 +73,9 @@ pub trait Disk {
         ensures tells { tells self.new ≡ tells self.old }
         ensures cause { CountsFault result (faults self.old) (faults self.new) };
 
+    /// Either each disk of this kind tells its bytes, or none does.
+    ghost alike: { (one two : Self) → tells one ≡ tells two };
+
     /// A disk reads as one of the images that a crash now may leave.
     ghost reads_as: { (disk : Self) → IsTrue (tells disk) → may_leave disk (seen disk) };
 

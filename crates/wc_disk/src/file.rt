@@ -184,6 +184,8 @@ impl<R: Files<File = File> + Drop> Disk for FileDisk<R> {
 
     ghost faults = { λ d. d.faults };
 
+    ghost alike = { λ one two i. false };
+
     ghost reads_as = { λ d told. absurd (false≢true told) };
 
     ghost counts_now = { λ d t image le left. left };

@@ -118,6 +118,8 @@ impl Disk for MemoryDisk {
 
     ghost faults = { λ d. d.schedule.faults };
 
+    ghost alike = { λ one two i. true };
+
     ghost reads_as = { λ d told. reads_as_image d.tape.calls d.tape.begun };
 
     ghost counts_now = { λ d. counts_here d.tape.calls d.tape.begun };

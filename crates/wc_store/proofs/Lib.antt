@@ -14,3 +14,5 @@ mod Accepts
 mod Counted
 mod Placed
 mod Committed
+pub mod Parts
+mod Reached

@@ -13,10 +13,10 @@ use Rattle.wc_world.proofs.OneAnswer.{taken_or_refused}
 use Rattle.wc_store.specs.Choosing.{Choice, no_store, broken, on, chosen, found_at}
 use Rattle.wc_store.specs.Held.{Standing, damage, a_world, place_of, suits, IsUnfit, Plays, image_of, PlaysChoice, IsHeld}
 
-same_world : (w v : World) → a_world w ≡ a_world v → w ≡ v
+pub same_world : (w v : World) → a_world w ≡ a_world v → w ≡ v
 same_world w v h = cc
 
-world_or_damage : (w : World) (s : Standing) (d at : ℕ) (image : List ℕ) → s ≡ a_world w → s ≡ damage d at (found_at image at) → ⊥
+pub world_or_damage : (w : World) (s : Standing) (d at : ℕ) (image : List ℕ) → s ≡ a_world w → s ≡ damage d at (found_at image at) → ⊥
 world_or_damage w s d at image h k = let same : a_world w ≡ damage d at (found_at image at) = sym h ∙ k in absurd (cc)
 
 -- ---- that batches make a world doesn't hang on the image

@@ -61,7 +61,7 @@ Counts (Err (Full what count limit)) one one' two two' = (one' ≡ one) × (two'
 Counts (Err AlreadyThere) one one' two two' = (one' ≡ one) × (two' ≡ two)
 Counts (Err OutOfMemory) one one' two two' = (one' ≡ one) × (two' ≡ two)
 
--- where the disks tell their bytes, damage is what they hold; a store is refused only where one is asked for that isn't there
+-- where the disks tell their bytes, damage is what they hold; a load is never refused for a store that is there
 abbrev pub RefusesLoad : Type 0 → (Standing → Type 0) → StoreError → Type 0
 RefusesLoad told held DiskFault = Unit {0}
 RefusesLoad told held (Damaged disk at found) = told → held (damage disk at found)
@@ -69,6 +69,7 @@ RefusesLoad told held (Full what count limit) = ⊥
 RefusesLoad told held AlreadyThere = ⊥
 RefusesLoad told held OutOfMemory = Unit {0}
 
+-- where they tell their bytes, a store that is there holds a world
 abbrev pub RefusesInit : Type 0 → (Standing → Type 0) → StoreError → Type 0
 RefusesInit told held DiskFault = Unit {0}
 RefusesInit told held (Damaged disk at found) = told → held (damage disk at found)

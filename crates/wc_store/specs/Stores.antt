@@ -1,14 +1,16 @@
 -- When a store stands for two disks, and what its calls leave on them.
-use Rattle.std.specs.Prelude.{◌≡◌, ◌⊎◌, ℕ, List, [], Option, Some, None}
+use Rattle.std.specs.Prelude.{◌≡◌, ◌≤◌, ◌⊎◌, ℕ, List, [], Option, Some, None, Result, Ok, Err}
 use Rattle.wc_disk.specs.declared.disk.Disk as disk
 use Rattle.wc_disk.specs.Steps.{Only}
 use Rattle.wc_disk.specs.Images.{LeavesOnly}
 use Rattle.wc_journal.specs.Reading.{no_journal, holds, journal_of, batches_of}
 use Rattle.wc_journal.specs.Journals.{IsSettled}
+use Rattle.wc_store.specs.declared.error.StoreError.{StoreError}
+use Rattle.wc_store.specs.declared.error.StoreError.TheVariants.{DiskFault, Damaged, Full, AlreadyThere, OutOfMemory}
 use Rattle.wc_store.specs.declared.store.Store.{Store}
 use Rattle.wc_store.specs.declared.place.Place.{Place}
 use Rattle.wc_store.specs.declared.place.Place.TheVariants as place
-use Rattle.wc_world.specs.World.{World}
+use Rattle.wc_world.specs.World.{World, empty}
 use Rattle.wc_store.specs.Places.{number_of, its}
 use Rattle.wc_store.specs.Choosing.{on, chosen}
 use Rattle.wc_store.specs.Held.{IsHeld, Standing, nothing, a_world}
@@ -63,3 +65,50 @@ MadeOr bare before image = before image ⊎ (bare × IsMade image)
 abbrev pub Loads : {D : Type 0} → disk.Ghosts D → Option Store → D → D → Type 0
 Loads g None one two = IsHeld (g.seen one) (g.seen two) nothing
 Loads g (Some store) one two = StandsFor g store one two
+
+-- ---- a call in two parts
+
+-- A call that only reads the disks: each image is one that a crash at entry might have left.
+pub record InOnePart {D : Type 0} (g : disk.Ghosts D) (one two one_new two_new : D) : Type 0 where
+  pub only_one : LeavesOnly g one one_new (g.may_leave one)
+  pub only_two : LeavesOnly g two two_new (g.may_leave two)
+
+-- A call in two parts. Up to the middle each image is one that a crash at entry might have left; from then on each pair of images is
+-- as P says. Each disk has a clock of its own, so the middle is a moment of each.
+pub record InTwoParts {D : Type 0} (g : disk.Ghosts D) (one two one_new two_new : D) (P : List ℕ → List ℕ → Type 0) : Type 0 where
+  pub one_between : D
+  pub two_between : D
+  pub first_one : LeavesOnly g one one_between (g.may_leave one)
+  pub first_two : LeavesOnly g two two_between (g.may_leave two)
+  pub later_one : g.moment one_between ≤ g.moment one_new
+  pub later_two : g.moment two_between ≤ g.moment two_new
+  pub pairs : (a b : List ℕ) → g.left_since one_new (g.moment one_between) a → g.left_since two_new (g.moment two_between) b → P a b
+  -- an image since an earlier moment is one from before the middle, or is as P says beside each image of the other disk from then on
+  pub since_one : (t : ℕ) (a : List ℕ) → t ≤ g.moment one_between → g.left_since one_new t a
+      → g.left_since one_between t a ⊎ ((b : List ℕ) → g.left_since two_new (g.moment two_between) b → P a b)
+  pub since_two : (t : ℕ) (b : List ℕ) → t ≤ g.moment two_between → g.left_since two_new t b
+      → g.left_since two_between t b ⊎ ((a : List ℕ) → g.left_since one_new (g.moment one_between) a → P a b)
+
+-- the images are these two
+abbrev pub AreImages : (one two a b : List ℕ) → Type 0
+AreImages one two a b = (a ≡ one) × (b ≡ two)
+
+-- the images hold the one world or the other
+abbrev pub HoldsOneOf : World → World → List ℕ → List ℕ → Type 0
+HoldsOneOf before after a b = IsHeld a b (a_world before) ⊎ IsHeld a b (a_world after)
+
+-- What comes of two images that hold nothing where a store is made: images that hold nothing, or the empty world.
+pub record BeginsFrom (one two a b : List ℕ) : Type 0 where
+  pub before : IsHeld one two nothing
+  pub held : IsHeld a b nothing ⊎ IsHeld a b (a_world empty)
+
+-- `init` has a second part where it makes a store, also where the disk fails then. Where a store is there, the images from the middle
+-- on are what the disks read as.
+abbrev pub InitLeaves : {D : Type 0} → disk.Ghosts D → Result Store StoreError → (one two one_new two_new : D) → Type 0
+InitLeaves g (Ok store) one two one_new two_new = InTwoParts g one two one_new two_new (BeginsFrom (g.seen one) (g.seen two))
+InitLeaves g (Err DiskFault) one two one_new two_new =
+    InOnePart g one two one_new two_new ⊎ InTwoParts g one two one_new two_new (BeginsFrom (g.seen one) (g.seen two))
+InitLeaves g (Err (Damaged disk at found)) one two one_new two_new = InOnePart g one two one_new two_new
+InitLeaves g (Err (Full what count limit)) one two one_new two_new = InOnePart g one two one_new two_new
+InitLeaves g (Err AlreadyThere) one two one_new two_new = InTwoParts g one two one_new two_new (AreImages (g.seen one) (g.seen two))
+InitLeaves g (Err OutOfMemory) one two one_new two_new = InOnePart g one two one_new two_new

@@ -38,7 +38,6 @@ impl Store {
         limits: &Limits,
     ) -> Result<(), StoreError>
         requires live { self.old.live ≡ true }
-        requires alike { D.tells one.old ≡ D.tells two.old }
         requires stands { IsTrue (D.tells one.old) → IsTrue (D.tells two.old) → StandsFor D.Disk self.old one.old two.old }
         requires accepted { IsAccepted self.old.world.world changes }
         requires plain { is_plain changes ≡ true }
@@ -84,7 +83,6 @@ impl Store {
         two: &mut D,
     ) -> Result<u64, StoreError>
         requires live { self.old.live ≡ true }
-        requires alike { D.tells one.old ≡ D.tells two.old }
         requires stands { IsTrue (D.tells one.old) → IsTrue (D.tells two.old) → StandsFor D.Disk self.old one.old two.old }
         ensures generation { IfOk result (λ g. (g ≡ self.old.journal.generation + 1) × (self.new.journal.generation ≡ g)) }
         ensures world { self.new.world.world ≡ self.old.world.world }

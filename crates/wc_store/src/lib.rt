@@ -13,6 +13,6 @@ mod preparing;
 mod store;
 
 pub use error::StoreError;
-pub use laws::images_hold_one_thing;
+pub use laws::{held_worlds_are_reached, images_hold_one_thing};
 pub use place::Place;
 pub use store::Store;

@@ -9,7 +9,7 @@ ghost use Rattle.wc_store.specs.Places.{number_of, its};
 ghost use Rattle.wc_store.specs.declared.place.Place.TheVariants.{One};
 ghost use Rattle.wc_store.specs.Played.{AreCounted, Makes, RefusesPlaying};
 ghost use Rattle.wc_store.specs.Opening.{Opens};
-ghost use Rattle.wc_store.specs.Stores.{StandsFor, Loads, MadeOr, HoldsNothing};
+ghost use Rattle.wc_store.specs.Stores.{StandsFor, Loads, MadeOr, HoldsNothing, InTwoParts, AreImages, InitLeaves};
 ghost use Rattle.wc_store.specs.Refusals.{Counts, RefusesLoad, RefusesInit, IsUnchanged};
 
 use crate::choosing::find_store;
@@ -94,6 +94,7 @@ impl Store {
         ensures any_moment_one { IsTrue (D.tells one.old) → LeavesOnly D.Disk one.old one.new
             (MadeOr (HoldsNothing (IsTrue (D.tells two.old)) (D.seen one.old) (D.seen two.old)) (D.may_leave one.old)) }
         ensures any_moment_two { LeavesOnly D.Disk two.old two.new (D.may_leave two.old) }
+        ensures parts { IsTrue (D.tells one.old) → IsTrue (D.tells two.old) → InitLeaves D.Disk result one.old two.old one.new two.new }
         ensures tells { (D.tells one.new ≡ D.tells one.old) × (D.tells two.new ≡ D.tells two.old) }
         ensures cause { Counts result (D.faults one.old) (D.faults one.new) (D.faults two.old) (D.faults two.new) }
     {
@@ -123,6 +124,7 @@ impl Store {
         ensures seen { (D.seen one.new ≡ D.seen one.old) × (D.seen two.new ≡ D.seen two.old) }
         ensures any_moment_one { LeavesOnly D.Disk one.old one.new (D.may_leave one.old) }
         ensures any_moment_two { LeavesOnly D.Disk two.old two.new (D.may_leave two.old) }
+        ensures parts { OnOk result (InTwoParts D.Disk one.old two.old one.new two.new (AreImages (D.seen one.old) (D.seen two.old))) }
         ensures tells { (D.tells one.new ≡ D.tells one.old) × (D.tells two.new ≡ D.tells two.old) }
         ensures cause { Counts result (D.faults one.old) (D.faults one.new) (D.faults two.old) (D.faults two.new) }
     {

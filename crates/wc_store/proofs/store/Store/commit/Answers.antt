@@ -9,9 +9,9 @@ pub append_at-requires : goal.append_at-requires
 append_at-requires g c =
     let s = c.args.self.now in
     record {
-      settled = settled_there g.D.Disk s c.args.one.now c.args.two.now c.requires.stands c.requires.alike;
+      settled = settled_there g.D.Disk s c.args.one.now c.args.two.now c.requires.stands (g.met.D.Disk.alike c.args.one.now c.args.two.now);
       version = c.in_ok-batch.ensures.batch.version_is;
-      kind = λ told. c.in_ok-batch.ensures.batch.snapshot_is ∙ sym (plain_there g.D.Disk s c.args.one.now c.args.two.now c.requires.stands c.requires.alike told);
+      kind = λ told. c.in_ok-batch.ensures.batch.snapshot_is ∙ sym (plain_there g.D.Disk s c.args.one.now c.args.two.now c.requires.stands (g.met.D.Disk.alike c.args.one.now c.args.two.now) told);
     }
 
 pub returns-in-Ok-clause-ok : goal.returns-in-Ok-clause-ok

@@ -1,6 +1,6 @@
-use Rattle.std.proofs.Common.{◌∙◌, refl, sym}
+use Rattle.std.proofs.Common.{◌∙◌, inr, refl, sym}
 use Rattle.wc_store.proofs.Opened.{opens_none}
-use Rattle.wc_store.proofs.Made.{made, second_counts}
+use Rattle.wc_store.proofs.Made.{made, made_parts, second_counts}
 use Rattle.wc_store.proofs.store.Store.init.Goals as goal
 
 pub returns-in-Ok-clause-ok : goal.returns-in-Ok-clause-ok
@@ -10,3 +10,17 @@ returns-in-Ok-clause-ok g c =
     let none = opens_none g.D.Disk c.in_ok-open.field-0 c.open.new.one c.open.new.two (sym c.if-is_some.ensures) (c.in_ok-open.ensures.ok told_one told_two) in
     made g.D.Disk _ c.create.new.disk c.open.new.two refl c.in-Ok.ensures.version c.in-Ok.ensures.generation c.new.ensures (c.in-Ok.ensures.held told)
     (second_counts _ _ none) (c.in-Ok.ensures.settled told) c.in_ok-open.ensures.durable_two
+
+pub returns-in-Ok-clause-parts : goal.returns-in-Ok-clause-parts
+returns-in-Ok-clause-parts g c =
+    λ told_one told_two.
+    let opened = c.in_ok-open.ensures in
+    made_parts g.D.Disk g.met.D.Disk.only_now c.in_ok-open.field-0 c.args.one.now c.args.two.now c.open.new.one c.open.new.two c.create.new.disk
+    (sym c.if-is_some.ensures) (opened.ok told_one told_two) opened.seen_one opened.seen_two opened.any_moment_one opened.any_moment_two opened.durable_two (c.in-Ok.ensures.any_moment (c.open.ensures.tells_one ∙ told_one))
+
+pub returns-in-Err-clause-parts : goal.returns-in-Err-clause-parts
+returns-in-Err-clause-parts g c =
+    λ told_one told_two.
+    let opened = c.in_ok-open.ensures in
+    inr (made_parts g.D.Disk g.met.D.Disk.only_now c.in_ok-open.field-0 c.args.one.now c.args.two.now c.open.new.one c.open.new.two c.create.new.disk
+    (sym c.if-is_some.ensures) (opened.ok told_one told_two) opened.seen_one opened.seen_two opened.any_moment_one opened.any_moment_two opened.durable_two (c.in-Err.ensures.any_moment (c.open.ensures.tells_one ∙ told_one)))

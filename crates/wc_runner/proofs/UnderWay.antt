@@ -1,5 +1,5 @@
 -- A run that has taken some turns.
-use Rattle.std.proofs.Common.{◌≡◌, ℕ, suc, ◌+◌, ◌<◌, ◌≤◌, Bool, true, List, Err, refl, sym, ap, subst, ◌∙◌, arith}
+use Rattle.std.proofs.Common.{◌≡◌, inl, inr, ⊎_elim, ℕ, suc, ◌+◌, ◌<◌, ◌≤◌, Bool, true, List, length, Err, refl, sym, ap, subst, ◌∙◌, arith}
 use Rattle.std.specs.Prelude.{IsTrue}
 use Rattle.wc_disk.specs.declared.disk.Disk as disk
 use Rattle.wc_journal.specs.Journals.{IsSettled}
@@ -9,16 +9,18 @@ use Rattle.wc_machine.specs.Laws.{OnlyFunctions}
 use Rattle.wc_core.specs.Ready.{is_ready_at}
 use Rattle.wc_store.specs.declared.store.Store.{Store}
 use Rattle.wc_store.specs.Places.{its}
+use Rattle.wc_store.specs.Refusals.{byte_limit}
 use Rattle.wc_store.specs.Stores.{StandsFor}
 use Rattle.wc_runner.specs.declared.error.RunError.{RunError}
 use Rattle.wc_runner.specs.declared.error.RunError.TheVariants.{DiskFault, Full, OutOfMemory}
 use Rattle.wc_runner.specs.Refusals.{RefusesStep, RefusesRun, IsUnchanged}
 use Rattle.wc_runner.specs.Leaves.{LeavesWorlds, IsOrTurnOf, SomeTurns}
+use Rattle.wc_runner.specs.Running.{FitsAfter}
 use Rattle.wc_runner.specs.Trips.{TurnOf, Turns, none, one_more}
 use Rattle.wc_runner.proofs.Leaving.{stands_leaves, leaves_on}
 
 -- So many turns were taken of at most so many, from one store and its disks to others.
-pub record UnderWay {D : Type 0} (g : disk.Ghosts D) (poll most : ℕ) (old : Store) (one two : D) (taken : ℕ) (store : Store) (one_now two_now : D) : Type 0 where
+pub record UnderWay {D : Type 0} (g : disk.Ghosts D) (limits : Limits) (poll most : ℕ) (old : Store) (one two : D) (taken : ℕ) (store : Store) (one_now two_now : D) : Type 0 where
   pub live : store.live ≡ true
   pub tells_one : g.tells one_now ≡ g.tells one
   pub tells_two : g.tells two_now ≡ g.tells two
@@ -32,13 +34,14 @@ pub record UnderWay {D : Type 0} (g : disk.Ghosts D) (poll most : ℕ) (old : St
   pub place : store.place ≡ old.place
   pub generation : store.journal.generation ≡ old.journal.generation
   pub version : store.journal.version ≡ old.journal.version
+  pub fits : FitsAfter limits old.world.world store
   pub any_moment : IsTrue (g.tells one) → IsTrue (g.tells two) → LeavesWorlds g old.place (SomeTurns poll old.world.world) one two one_now two_now
 
 module _ {D : Type 0} (g : disk.Ghosts D) where
-  pub begins : (poll most : ℕ) (old : Store) (one two : D) → ((d : D) (image : List ℕ) → g.left_since d (g.moment d) image → g.may_leave d image)
+  pub begins : (limits : Limits) (poll most : ℕ) (old : Store) (one two : D) → ((d : D) (image : List ℕ) → g.left_since d (g.moment d) image → g.may_leave d image)
       → old.live ≡ true → OnlyFunctions old.world.world → (IsTrue (g.tells one) → IsTrue (g.tells two) → StandsFor g old one two)
-      → UnderWay g poll most old one two 0 old one two
-  begins poll most old one two only_now live only stands = record {
+      → UnderWay g limits poll most old one two 0 old one two
+  begins limits poll most old one two only_now live only stands = record {
     live = live;
     tells_one = refl;
     tells_two = refl;
@@ -52,10 +55,11 @@ module _ {D : Type 0} (g : disk.Ghosts D) where
     place = refl;
     generation = refl;
     version = refl;
+    fits = inl refl;
     any_moment = λ first second. stands_leaves g old (SomeTurns poll old.world.world) one two only_now (stands first second) (0, none old.world.world);
   }
 
-  module _ (poll most : ℕ) (old : Store) (one two : D) (taken : ℕ) (s : Store) (one_s two_s : D) (u : UnderWay g poll most old one two taken s one_s two_s)
+  module _ (limits : Limits) (poll most : ℕ) (old : Store) (one two : D) (taken : ℕ) (s : Store) (one_s two_s : D) (u : UnderWay g limits poll most old one two taken s one_s two_s)
       (v : Store) (one_v two_v : D) (pid : ℕ) where
     -- what a turn leaves on the disks, as a part of the run
     pub leaves_more : (IsTrue (g.tells one_s) → IsTrue (g.tells two_s) → LeavesWorlds g s.place (IsOrTurnOf poll pid s.world.world) one_s two_s one_v two_v)
@@ -71,12 +75,13 @@ module _ {D : Type 0} (g : disk.Ghosts D) where
     stands_still turn first second = turn (subst (λ (b : Bool). IsTrue b) (sym u.tells_one) first) (subst (λ (b : Bool). IsTrue b) (sym u.tells_two) second)
 
     pub goes_on : taken < most → v.live ≡ true → TurnOf poll pid s.world.world v.world.world → v.world.world.batches ≡ s.world.world.batches + 1
+        → (length v.world.world.nodes ≤ limits.max_nodes) × (v.journal.end + 1 ≤ byte_limit v.journal.version limits.max_bytes)
         → OnlyFunctions v.world.world → (IsTrue (g.tells one_s) → IsTrue (g.tells two_s) → StandsFor g v one_v two_v)
         → (v.place ≡ s.place) × (v.journal.generation ≡ s.journal.generation) × (v.journal.version ≡ s.journal.version)
         → (IsTrue (g.tells one_s) → IsTrue (g.tells two_s) → LeavesWorlds g s.place (IsOrTurnOf poll pid s.world.world) one_s two_s one_v two_v)
         → (g.tells one_v ≡ g.tells one_s) × (g.tells two_v ≡ g.tells two_s) → (g.faults one_v ≡ g.faults one_s) × (g.faults two_v ≡ g.faults two_s)
-        → UnderWay g poll most old one two (taken + 1) v one_v two_v
-    goes_on less live turn batch only stands place leaves tells faults =
+        → UnderWay g limits poll most old one two (taken + 1) v one_v two_v
+    goes_on less live turn batch fits only stands place leaves tells faults =
         let more : suc taken ≡ taken + 1 = omega arith in
         record {
           live = live;
@@ -92,16 +97,27 @@ module _ {D : Type 0} (g : disk.Ghosts D) where
           place = place.0 ∙ u.place;
           generation = place.1 ∙ u.generation;
           version = place.2 ∙ u.version;
+          fits = inr fits;
           any_moment = leaves_more leaves;
         }
 
+    -- a turn that is refused changes no length
+    pub fits_still : v.world.world ≡ s.world.world → v.journal.end ≡ s.journal.end → v.journal.version ≡ s.journal.version → FitsAfter limits old.world.world v
+    fits_still world end version =
+        ⊎_elim (λ same. inl (world ∙ same))
+        (λ f. inr (
+          subst (λ (w : World). length w.nodes ≤ limits.max_nodes) (sym world) f.0,
+          subst (λ (n : ℕ). v.journal.end + 1 ≤ byte_limit n limits.max_bytes) (sym version)
+              (subst (λ (n : ℕ). n + 1 ≤ byte_limit s.journal.version limits.max_bytes) (sym end) f.1),
+        )) u.fits
+
     -- why the run breaks off, where the turn does
-    pub refuses : (T : Type 0) (limits : Limits) (e : RunError) → is_ready_at s.world.world pid 0 ≡ true → v.world.world ≡ s.world.world
+    pub refuses : (T : Type 0) (e : RunError) → is_ready_at s.world.world pid 0 ≡ true → v.world.world ≡ s.world.world
         → RefusesStep s.journal limits s.world.world pid e → IsUnchanged {T = T} (Err e) one_s one_v → IsUnchanged {T = T} (Err e) two_s two_v
         → (v.place ≡ s.place) × (v.journal.generation ≡ s.journal.generation) × (v.journal.version ≡ s.journal.version)
         → RefusesRun g (IsTrue (g.tells one) × IsTrue (g.tells two)) limits v one_v two_v e
-    refuses T limits DiskFault ready world refused same_one same_two place = tt
-    refuses T limits (Full what count limit) ready world refused same_one same_two place = record {
+    refuses T DiskFault ready world refused same_one same_two place = tt
+    refuses T (Full what count limit) ready world refused same_one same_two place = record {
       pid = pid;
       ready = ap (λ (w : World). is_ready_at w pid 0) world ∙ ready;
       journal = s.journal;
@@ -112,4 +128,4 @@ module _ {D : Type 0} (g : disk.Ghosts D) where
           subst (λ (d : D). IsSettled g s.journal d) same there;
       refused = subst (λ (w : World). RefusesStep s.journal limits w pid (Full what count limit)) (sym world) refused;
     }
-    refuses T limits OutOfMemory ready world refused same_one same_two place = tt
+    refuses T OutOfMemory ready world refused same_one same_two place = tt

@@ -6,7 +6,7 @@ ghost use Rattle.wc_core.specs.Ranges.{AreLimits};
 ghost use Rattle.wc_store.specs.Stores.{StandsFor};
 ghost use Rattle.wc_runner.specs.Leaves.{LeavesWorlds, SomeTurns};
 ghost use Rattle.wc_runner.specs.Refusals.{Counts, RefusesRun, is_live_after};
-ghost use Rattle.wc_runner.specs.Running.{EndsAs, TakesTurns};
+ghost use Rattle.wc_runner.specs.Running.{EndsAs, FitsAfter, TakesTurns};
 
 use crate::error::RunError;
 use crate::standing::{Next, next_turn};
@@ -37,12 +37,12 @@ pub fn run<D: Disk>(
     turns: u64,
 ) -> Result<RunEnd, RunError>
     requires live { store.old.live ≡ true }
-    requires alike { D.tells one.old ≡ D.tells two.old }
     requires stands { IsTrue (D.tells one.old) → IsTrue (D.tells two.old) → StandsFor D.Disk store.old one.old two.old }
     requires limits { AreLimits limits.now }
     requires functions { OnlyFunctions store.old.world.world }
     ensures takes { TakesTurns limits.now.poll_ms turns store.old.world.world store.new.world.world }
     ensures ends { IfOk result (EndsAs limits.now.poll_ms turns store.old.world.world store.new.world.world) }
+    ensures fits { FitsAfter limits.now store.old.world.world store.new }
     ensures functions { OnlyFunctions store.new.world.world }
     ensures live { store.new.live ≡ is_live_after result }
     ensures refused { IfErr result (RefusesRun D.Disk (IsTrue (D.tells one.old) × IsTrue (D.tells two.old)) limits.now store.new one.new two.new) }

@@ -67,7 +67,6 @@ pub fn turn_one<D: Disk>(
     pid: u32,
 ) -> Result<(), RunError>
     requires live { store.old.live ≡ true }
-    requires alike { D.tells one.old ≡ D.tells two.old }
     requires stands { IsTrue (D.tells one.old) → IsTrue (D.tells two.old) → StandsFor D.Disk store.old one.old two.old }
     requires limits { AreLimits limits.now }
     requires ready { is_ready_at store.old.world.world pid 0 ≡ true }

@@ -1,8 +1,10 @@
-//! The program: its words, files and standard output are handed to `serve`, whose status is the program's.
+//! The program: its words, files, standard output and store are handed to `serve`, whose status is the program's.
 #![tactic(auto)]
 
+use std::alloc::AllocError;
 use std::process::ExitCode;
 use std::{env, io};
+use wc_disk::FileDisk;
 use wc_engine::{Status, serve};
 use wc_io::{FileShelf, StdoutSink};
 use wc_value::{List, Text, Words};
@@ -16,6 +18,11 @@ fn words_of(rt: &HostRuntime) -> io::Result<Words> {
     Ok(words)
 }
 
+/// A disk of the store, which is the file at this path.
+fn disk(rt: HostRuntime, path: &str) -> Result<FileDisk<HostRuntime>, AllocError> {
+    Ok(FileDisk::new(rt, Text::of_str(rt.alloc(), path)?))
+}
+
 fn main(rt: HostRuntime) -> ExitCode {
     let words = match words_of(&rt) {
         Ok(words) => words,
@@ -25,6 +32,16 @@ fn main(rt: HostRuntime) -> ExitCode {
     };
     let mut shelf = FileShelf::new(rt);
     let mut sink = StdoutSink::new(rt);
-    let status = serve(rt.alloc(), &words, &mut shelf, &mut sink);
+    let (Ok(mut one), Ok(mut two)) = (disk(rt, "wc.store/one"), disk(rt, "wc.store/two")) else {
+        return ExitCode::from(Status::OutOfMemory.code());
+    };
+    let status = serve(
+        rt.alloc(),
+        &words,
+        &mut shelf,
+        &mut sink,
+        &mut one,
+        &mut two,
+    );
     ExitCode::from(status.code())
 }

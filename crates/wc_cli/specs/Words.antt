@@ -1,12 +1,12 @@
 -- The words of the command line, and the command that they are.
-use Rattle.std.specs.Prelude.{ℕ, Bool, true, false, not, ◌&&◌, ◌==◌, nat_lt, nat_le, if◌then◌else◌, List, [], ◌∷◌, ◌++◌, length, drop, take, slice_index, Option, Some, None, option_map, option_and_then, codes}
+use Rattle.std.specs.Prelude.{ℕ, Bool, true, false, ◌&&◌, ◌==◌, nat_lt, nat_le, if◌then◌else◌, List, [], ◌∷◌, ◌++◌, length, drop, take, slice_index, Option, Some, None, option_map, option_and_then, codes}
 use Rattle.std.specs.Char.{digit_value}
 use Rattle.std.specs.List.{position_or_len, before_first, after_first, list_all}
 use Rattle.std.specs.Str.{bytes_eq}
 use Rattle.std.specs.Str.Parse.{digits_value}
 use Rattle.wc_cli.specs.declared.line.Line.{Line}
 use Rattle.wc_cli.specs.declared.command.Command.{Command}
-use Rattle.wc_cli.specs.declared.command.Command.TheVariants.{Check, Dry}
+use Rattle.wc_cli.specs.declared.command.Command.TheVariants.{Check, Dry, Init, Submit, Run, List as Listing, Tree, Pack}
 
 -- ---- a word PORT=VALUE
 
@@ -82,15 +82,19 @@ is_numeral text = nat_lt 0 (length text) && list_all (λ d. nat_lt (digit_value 
 abbrev pub digits_of : List ℕ → Option ℕ
 digits_of text = if is_numeral text then Some (digits_value 10 text) else None
 
--- an amount is at most 1000000000
-abbrev pub limited : Option ℕ → Option ℕ
-limited None = None
-limited (Some n) = if nat_le n 1000000000 then Some n else None
+-- a number from the least to the most that is allowed
+abbrev pub within : ℕ → ℕ → Option ℕ → Option ℕ
+within least most None = None
+within least most (Some n) = if nat_le least n && nat_le n most then Some n else None
 
--- how much fuel is asked for; 100000 where nothing is
+-- how much fuel is asked for, at most 1000000000; 100000 where nothing is
 abbrev pub amount_of : Option (List ℕ) → Option ℕ
 amount_of None = Some 100000
-amount_of (Some text) = limited (digits_of text)
+amount_of (Some text) = within 0 1000000000 (digits_of text)
+
+-- the number of a process: of 32 bits, and not zero
+abbrev pub pid_of : List ℕ → Option ℕ
+pid_of text = within 1 4294967295 (digits_of text)
 
 abbrev pub dry_given : List ℕ → List ℕ → Option ℕ → Option (List (List ℕ × List ℕ)) → Option Command
 dry_given file name (Some fuel) (Some given) = Some (Dry file name given fuel)
@@ -104,19 +108,45 @@ dry_among _ fuel = None
 abbrev pub dry_of : Line → Option Command
 dry_of l = dry_among l.operands (amount_of l.fuel)
 
-abbrev pub check_among : List (List ℕ) → Option (List ℕ) → Option Command
-check_among (file ∷ []) None = Some (Check file)
-check_among _ _ = None
-
 -- `check FILE`
-abbrev pub check_of : Line → Option Command
-check_of l = check_among l.operands l.fuel
+abbrev pub check_of : List (List ℕ) → Option Command
+check_of (file ∷ []) = Some (Check file)
+check_of _ = None
+
+-- `submit FILE NAME [PORT=VALUE]...`
+abbrev pub submit_of : List (List ℕ) → Option Command
+submit_of (file ∷ name ∷ given) = option_map (Submit file name) (cut_all given)
+submit_of _ = None
+
+-- `tree PID`
+abbrev pub tree_of : List (List ℕ) → Option Command
+tree_of (pid ∷ []) = option_map Tree (pid_of pid)
+tree_of _ = None
+
+-- a command that takes no operands
+abbrev pub alone : Command → List (List ℕ) → Option Command
+alone c [] = Some c
+alone c _ = None
+
+-- the command of this name, of those that take no option
+abbrev pub plain_command : List ℕ → List (List ℕ) → Option Command
+plain_command word operands =
+    if bytes_eq word (codes "check") then check_of operands
+    else if bytes_eq word (codes "init") then alone Init operands
+    else if bytes_eq word (codes "submit") then submit_of operands
+    else if bytes_eq word (codes "run") then alone Run operands
+    else if bytes_eq word (codes "list") then alone Listing operands
+    else if bytes_eq word (codes "tree") then tree_of operands
+    else if bytes_eq word (codes "pack") then alone Pack operands
+    else None
+
+-- what stands only where no fuel is asked for
+abbrev pub without_fuel : Option (List ℕ) → Option Command → Option Command
+without_fuel None c = c
+without_fuel (Some _) c = None
 
 abbrev pub named_command : List ℕ → Line → Option Command
-named_command word l =
-    if bytes_eq word (codes "dry") then dry_of l
-    else if bytes_eq word (codes "check") then check_of l
-    else None
+named_command word l = if bytes_eq word (codes "dry") then dry_of l else without_fuel l.fuel (plain_command word l.operands)
 
 -- the first word is the command
 abbrev pub command_of : List (List ℕ) → Option Command

@@ -1,7 +1,7 @@
 //! Commands.
 
-ghost use Rattle.std.specs.Prelude.{◌≡◌, IfOk, Some};
-ghost use Rattle.wc_cli.specs.Words.{cut_word, cut_all, digits_of, limited, amount_of, dry_given, dry_among, check_among, named_command, command_of};
+ghost use Rattle.std.specs.Prelude.{◌≡◌, IfOk};
+ghost use Rattle.wc_cli.specs.Words.{cut_word, cut_all, digits_of, within, amount_of, pid_of, dry_among, check_of, submit_of, tree_of, alone, plain_command, named_command, command_of};
 
 use crate::line::{Line, read_line};
 use std::alloc::{AllocError, Global};
@@ -38,6 +38,28 @@ pub enum Command {
         /// The file.
         file: Text,
     },
+    /// `init`: a new store.
+    Init,
+    /// `submit FILE NAME [PORT=VALUE]...`: a new process of a definition with these inputs.
+    Submit {
+        /// The file that holds the library.
+        file: Text,
+        /// The definition.
+        name: Text,
+        /// The inputs.
+        given: Givens,
+    },
+    /// `run`: the work that the store's processes have left.
+    Run,
+    /// `list`: the processes of the store.
+    List,
+    /// `tree PID`: the tree of a process.
+    Tree {
+        /// The number of the process.
+        pid: u32,
+    },
+    /// `pack`: the store written anew in its shortest form.
+    Pack,
 }
 
 /// A word cut at its first `=`, if it has one.
@@ -66,7 +88,7 @@ fn cut_words(alloc: Global, words: &[Text]) -> Result<Option<Givens>, AllocError
 
 /// The number that a text writes in decimal digits, if it writes one of 64 bits.
 fn number(text: &str) -> Option<u64>
-    ensures { limited result ≡ limited (digits_of text.now) }
+    ensures { result ≡ within 0 18446744073709551615 (digits_of text.now) }
 {
     let bytes = text.as_bytes();
     if bytes.is_empty() || bytes[0] == b'+' {
@@ -75,12 +97,12 @@ fn number(text: &str) -> Option<u64>
     text.parse::<u64>().ok()
 }
 
-/// The amount that a text writes in decimal digits, if it is within the limit.
-fn amount(text: &str) -> Option<u64>
-    ensures { result ≡ amount_of (Some text.now) }
+/// The number that a text writes in decimal digits, if it is one from the least to the most.
+fn number_within(text: &str, least: u64, most: u64) -> Option<u64>
+    ensures { result ≡ within least most (digits_of text.now) }
 {
     match number(text) {
-        Some(amount) if amount <= MOST_FUEL => Some(amount),
+        Some(number) if least <= number && number <= most => Some(number),
         _ => None,
     }
 }
@@ -90,8 +112,18 @@ fn fuel_of(fuel: &Option<Text>) -> Option<u64>
     ensures { result ≡ amount_of fuel.now }
 {
     match fuel {
-        Some(text) => amount(text.as_str()),
+        Some(text) => number_within(text.as_str(), 0, MOST_FUEL),
         None => Some(FUEL),
+    }
+}
+
+/// The number of a process that a text writes in decimal digits.
+fn pid_of(text: &str) -> Option<u32>
+    ensures { result ≡ pid_of text.now }
+{
+    match number_within(text, 1, u32::MAX as u64) {
+        Some(pid) => Some(pid as u32),
+        None => None,
     }
 }
 
@@ -117,12 +149,73 @@ fn dry_command(
     }
 }
 
-/// The command `check` with these operands and this fuel, of which it takes none.
-fn check_command(operands: &[Text], fuel: &Option<Text>) -> Result<Option<Command>, AllocError>
-    ensures { IfOk result (λ c. c ≡ check_among operands.now fuel.now) }
+/// The command `check` with these operands.
+fn check_command(operands: &[Text]) -> Result<Option<Command>, AllocError>
+    ensures { IfOk result (λ c. c ≡ check_of operands.now) }
 {
     match operands {
-        [file] if fuel.is_none() => Ok(Some(Command::Check { file: file.copy()? })),
+        [file] => Ok(Some(Command::Check { file: file.copy()? })),
+        _ => Ok(None),
+    }
+}
+
+/// The command `submit` with these operands.
+fn submit_command(alloc: Global, operands: &[Text]) -> Result<Option<Command>, AllocError>
+    ensures { IfOk result (λ c. c ≡ submit_of operands.now) }
+{
+    match operands {
+        [file, name, given @ ..] => match cut_words(alloc, given)? {
+            Some(given) => Ok(Some(Command::Submit {
+                file: file.copy()?,
+                name: name.copy()?,
+                given,
+            })),
+            None => Ok(None),
+        },
+        _ => Ok(None),
+    }
+}
+
+/// The command `tree` with these operands.
+fn tree_command(operands: &[Text]) -> Option<Command>
+    ensures { result ≡ tree_of operands.now }
+{
+    match operands {
+        [text] => match pid_of(text.as_str()) {
+            Some(pid) => Some(Command::Tree { pid }),
+            None => None,
+        },
+        _ => None,
+    }
+}
+
+/// A command where there are no operands.
+fn alone(command: Command, operands: &[Text]) -> Option<Command>
+    ensures { result ≡ alone command operands.now }
+{
+    if operands.is_empty() {
+        Some(command)
+    } else {
+        None
+    }
+}
+
+/// The command of this name with these operands, of the commands that take no option.
+fn plain_command(
+    alloc: Global,
+    word: &Text,
+    operands: &[Text],
+) -> Result<Option<Command>, AllocError>
+    ensures { IfOk result (λ c. c ≡ plain_command word.now operands.now) }
+{
+    match word.as_str() {
+        "check" => check_command(operands),
+        "init" => Ok(alone(Command::Init, operands)),
+        "submit" => submit_command(alloc, operands),
+        "run" => Ok(alone(Command::Run, operands)),
+        "list" => Ok(alone(Command::List, operands)),
+        "tree" => Ok(tree_command(operands)),
+        "pack" => Ok(alone(Command::Pack, operands)),
         _ => Ok(None),
     }
 }
@@ -133,7 +226,7 @@ fn named(alloc: Global, word: &Text, line: &Line) -> Result<Option<Command>, All
 {
     match word.as_str() {
         "dry" => dry_command(alloc, line.operands.as_slice(), fuel_of(&line.fuel)),
-        "check" => check_command(line.operands.as_slice(), &line.fuel),
+        _ if line.fuel.is_none() => plain_command(alloc, word, line.operands.as_slice()),
         _ => Ok(None),
     }
 }

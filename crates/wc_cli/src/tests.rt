@@ -1,4 +1,4 @@
-use crate::{Command, command_of};
+use crate::{Command, Givens, command_of};
 use std::alloc::Global;
 use std::test::Fail;
 use wc_value::{Text, Words};
@@ -12,44 +12,62 @@ fn words_of(alloc: Global, line: &str) -> Result<Words, Fail> {
     Ok(words)
 }
 
+/// A file, a definition and inputs, in words behind the name of their command.
+fn shown_call(
+    alloc: Global,
+    command: &str,
+    file: &Text,
+    name: &Text,
+    given: &Givens,
+) -> Result<String, Fail> {
+    let mut text = format!(in alloc; "{command} {} {}", file.as_str(), name.as_str())?;
+    for (port, value) in given.as_slice() {
+        let part = format!(in alloc; " {}<{}", port.as_str(), value.as_str())?;
+        text.push_str(part.as_str())?;
+    }
+    Ok(text)
+}
+
 /// The command of a line, in words.
 fn shown(alloc: Global, line: &str) -> Result<String, Fail> {
     let words = words_of(alloc, line)?;
-    match command_of(alloc, &words)? {
-        None => Ok(String::from_str(alloc, "words")?),
-        Some(Command::Check { file }) => Ok(format!(in alloc; "check {}", file.as_str())?),
-        Some(
-            Command::Dry {
-                file,
-                name,
-                given,
-                fuel,
-            },
-        ) => {
-            let mut text = format!(in alloc; "dry {} {} {fuel}", file.as_str(), name.as_str())?;
-            for (port, value) in given.as_slice() {
-                let part = format!(in alloc; " {}<{}", port.as_str(), value.as_str())?;
-                text.push_str(part.as_str())?;
-            }
-            Ok(text)
+    let Some(command) = command_of(alloc, &words)? else {
+        return Ok(String::from_str(alloc, "words")?);
+    };
+    match command {
+        Command::Dry {
+            file,
+            name,
+            given,
+            fuel,
+        } => {
+            let call = shown_call(alloc, "dry", &file, &name, &given)?;
+            Ok(format!(in alloc; "{call}, {fuel}")?)
         }
+        Command::Check { file } => Ok(format!(in alloc; "check {}", file.as_str())?),
+        Command::Init => Ok(String::from_str(alloc, "init")?),
+        Command::Submit { file, name, given } => shown_call(alloc, "submit", &file, &name, &given),
+        Command::Run => Ok(String::from_str(alloc, "run")?),
+        Command::List => Ok(String::from_str(alloc, "list")?),
+        Command::Tree { pid } => Ok(format!(in alloc; "tree {pid}")?),
+        Command::Pack => Ok(String::from_str(alloc, "pack")?),
     }
 }
 
 #[test]
 fn reads_commands(rt: HostRuntime) -> Result<(), Fail> {
     for (line, want) in [
-        ("dry f add x=2 y=3", "dry f add 100000 x<2 y<3"),
-        ("dry f add x=a=b y=", "dry f add 100000 x<a=b y<"),
-        ("dry --fuel 7 f add", "dry f add 7"),
-        ("dry f --fuel=007 add x=1", "dry f add 7 x<1"),
+        ("dry f add x=2 y=3", "dry f add x<2 y<3, 100000"),
+        ("dry f add x=a=b y=", "dry f add x<a=b y<, 100000"),
+        ("dry --fuel 7 f add", "dry f add, 7"),
+        ("dry f --fuel=007 add x=1", "dry f add x<1, 7"),
         (
             "dry f add x=1 --fuel 1000000000",
-            "dry f add 1000000000 x<1",
+            "dry f add x<1, 1000000000",
         ),
-        ("dry --fuel=0 -- f -x -y=1", "dry f -x 0 -y<1"),
+        ("dry --fuel=0 -- f -x -y=1", "dry f -x -y<1, 0"),
         ("dry - - -=1", "words"),
-        ("dry - - =1", "dry - - 100000 <1"),
+        ("dry - - =1", "dry - - <1, 100000"),
         ("check f", "check f"),
         ("check -- -f", "check -f"),
         ("check -- --", "check --"),
@@ -91,6 +109,44 @@ fn refuses_words(rt: HostRuntime) -> Result<(), Fail> {
     ] {
         let got = shown(rt.alloc(), line)?;
         assert_eq!(rt; got.as_str(), "words");
+    }
+    Ok(())
+}
+
+#[test]
+fn reads_commands_of_a_store(rt: HostRuntime) -> Result<(), Fail> {
+    for (line, want) in [
+        ("init", "init"),
+        ("init f", "words"),
+        ("submit f add x=2 y=", "submit f add x<2 y<"),
+        ("submit -- f -x -y=1", "submit f -x -y<1"),
+        ("submit f add", "submit f add"),
+        ("submit f", "words"),
+        ("submit f add x", "words"),
+        ("submit f add --fuel 1", "words"),
+        ("run", "run"),
+        ("run 1", "words"),
+        ("run --fuel=1", "words"),
+        ("list", "list"),
+        ("list 1", "words"),
+        ("tree 1", "tree 1"),
+        ("tree 007", "tree 7"),
+        ("tree 4294967295", "tree 4294967295"),
+        ("tree", "words"),
+        ("tree ", "words"),
+        ("tree 0", "words"),
+        ("tree 4294967296", "words"),
+        ("tree +1", "words"),
+        ("tree -1", "words"),
+        ("tree -- -1", "words"),
+        ("tree 1x", "words"),
+        ("tree 1 2", "words"),
+        ("pack", "pack"),
+        ("pack --", "pack"),
+        ("pack f", "words"),
+    ] {
+        let got = shown(rt.alloc(), line)?;
+        assert_eq!(rt; got.as_str(), want);
     }
     Ok(())
 }

@@ -1,4 +1,14 @@
+pub mod Acknowledging
 pub mod Bares
+pub mod Doing
+pub mod Entered
+pub mod Entries
+pub mod Exits
+pub mod Leaving
 pub mod Means
 pub mod Once
+pub mod OnceStored
+pub mod Replied
+pub mod Submitted
+pub mod Turns
 pub mod Valid

@@ -1,5 +1,5 @@
 -- Offsets play no part in what is owed.
-use Rattle.std.proofs.Common.{◌≡◌, ℕ, List, [], Option, Some, None, map, refl, sym, ap, ◌∙◌}
+use Rattle.std.proofs.Common.{◌≡◌, ℕ, List, [], Option, Some, None, map, refl, ap, ◌∙◌}
 use Rattle.std.specs.Prelude.{option_map}
 use Rattle.wc_syntax.specs.Bare.{bare_port, bare_definition, bare_library}
 use Rattle.wc_syntax.specs.Findings.{definition_named}

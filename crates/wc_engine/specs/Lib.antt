@@ -1,3 +1,14 @@
 pub mod Given
 pub mod Texts
+pub mod Files
+pub mod Replies
+pub mod Stored
+pub mod StoreReplies
+pub mod Entering
+pub mod Running
+pub mod Submits
 pub mod Owed
+pub mod Calls
+pub mod Crashes
+pub mod Acknowledged
+pub mod Headline

@@ -1,43 +1,34 @@
 -- What the program owes for its words: a status and a text.
-use Rattle.std.specs.Prelude.{◌≡◌, ℕ, Bool, true, false, List, [], ◌++◌, Option, Some, None, Result, Ok, Err, option_map, IfSome}
-use Rattle.std.specs.Str.{is_utf8}
+use Rattle.std.specs.Prelude.{◌≡◌, ℕ, Bool, IsSome, IsTrue, List, [], ◌++◌, Option, Some, None, option_map}
+use Rattle.wc_disk.specs.declared.disk.Disk as disk
 use Rattle.wc_syntax.specs.declared.definition.Definition.{Definition}
 use Rattle.wc_syntax.specs.declared.definition.Port.{Port}
-use Rattle.wc_syntax.specs.Bare.{bare_library}
 use Rattle.wc_syntax.specs.Findings.{head_of, definition_named}
-use Rattle.wc_parser.specs.Parsing.{Parsed, TextSays}
-use Rattle.wc_check.specs.declared.error.CheckError.{CheckError}
-use Rattle.wc_check.specs.Refusals.{IsFirstFinding}
 use Rattle.wc_run.specs.declared.progress.Answer.{Answer}
 use Rattle.wc_run.specs.declared.progress.Answer.TheVariants.{Gave, TooLittle, Without, Astray}
 use Rattle.wc_run.specs.Tables.{plain, no_kills}
 use Rattle.wc_run.specs.Meaning.{meaning}
 use Rattle.wc_report.specs.Trees.{tree_text}
 use Rattle.wc_cli.specs.declared.command.Command.{Command}
-use Rattle.wc_cli.specs.declared.command.Command.TheVariants.{Dry, Check}
+use Rattle.wc_cli.specs.declared.command.Command.TheVariants.{Dry, Check, Init, Submit, Run, List as Listing, Tree, Pack}
 use Rattle.wc_cli.specs.Words.{command_of}
+use Rattle.wc_engine.specs.declared.reading.Read.{Read}
+use Rattle.wc_engine.specs.declared.reading.Read.TheVariants as read
 use Rattle.wc_engine.specs.declared.reply.Reply.{Reply}
+use Rattle.wc_engine.specs.declared.submission.Prepared.{Prepared}
+use Rattle.wc_engine.specs.declared.submission.Prepared.TheVariants as prepared
 use Rattle.wc_engine.specs.declared.status.Cause.{Cause}
 use Rattle.wc_engine.specs.declared.status.Cause.TheVariants as cause
 use Rattle.wc_engine.specs.declared.status.Status.{Status}
 use Rattle.wc_engine.specs.declared.status.Status.TheVariants as status
+use Rattle.wc_engine.specs.Files.{ReadsFrom}
 use Rattle.wc_engine.specs.Given.{bad_given, fields_of}
-use Rattle.wc_engine.specs.Texts.{definitions_text, refusal_text}
-
-abbrev pub code_of : Status → ℕ
-code_of status.Ok = 0
-code_of (status.Refused cause) = 1
-code_of status.OutOfMemory = 2
-code_of status.ReadFault = 7
-code_of status.WriteFault = 8
-
--- the command is refused, and its line says why
-abbrev pub refuses : Cause → Reply
-refuses c = record { cause = Some c; text = refusal_text c }
-
--- the text is printed
-abbrev pub prints : List ℕ → Reply
-prints text = record { cause = None; text = text }
+use Rattle.wc_engine.specs.Submits.{PreparesFrom}
+use Rattle.wc_engine.specs.Texts.{definitions_text}
+use Rattle.wc_engine.specs.Replies.{refuses, prints, IsReplied}
+use Rattle.wc_engine.specs.Stored.{Images, OnStore, Inits, Lists, Shows, Packs}
+use Rattle.wc_engine.specs.Entering.{Enters}
+use Rattle.wc_engine.specs.Running.{Runs}
 
 -- ---- dry
 
@@ -59,70 +50,107 @@ abbrev pub owed_name : Option Definition → List Definition → List ℕ → Li
 owed_name None library name given fuel = refuses (cause.Name name)
 owed_name (Some d) library name given fuel = owed_inputs (bad_given (head_of d).inputs given) (head_of d).inputs library name given fuel
 
+-- for a file that is read as this
+abbrev pub owed_dry : List ℕ → List (List ℕ × List ℕ) → ℕ → Read → Reply
+owed_dry name given fuel (read.Refused c) = refuses c
+owed_dry name given fuel (read.Library library) = owed_name (definition_named name library) library name given fuel
+
+-- ---- check
+
+-- for a file that is read as this
+abbrev pub owed_check : Read → Reply
+owed_check (read.Refused c) = refuses c
+owed_check (read.Library library) = prints (definitions_text library)
+
 -- ---- a command
 
--- for a checked library
-abbrev pub owed_by : Command → List Definition → Reply
-owed_by (Check file) library = prints (definitions_text library)
-owed_by (Dry file name given fuel) library = owed_name (definition_named name library) library name given fuel
+-- What a call sees of the disks: whether they tell their bytes, and what they read as at entry and at exit.
+pub record Visit : Type 0 where
+  pub tells_one : Bool
+  pub tells_two : Bool
+  pub before : Images
+  pub after : Images
 
-abbrev pub file_of : Command → List ℕ
-file_of (Check file) = file
-file_of (Dry file name given fuel) = file
+abbrev pub visit : {D : Type 0} → disk.Ghosts D → (one two one_new two_new : D) → Visit
+visit g one two one_new two_new = record {
+  tells_one = g.tells one;
+  tells_two = g.tells two;
+  before = (g.seen one, g.seen two);
+  after = (g.seen one_new, g.seen two_new);
+}
 
--- for a library, of which this is the first finding
-abbrev pub owed_found : Command → List Definition → Option CheckError → Reply
-owed_found command library None = owed_by command (bare_library library)
-owed_found command library (Some e) = refuses (cause.Check e)
+-- where both disks tell their bytes, this was done; the reply is one of a command in any case
+abbrev pub Does : (Images → Images → Reply → Type 0) → Visit → Reply → Type 0
+Does done v reply = IsReplied reply.status × (IsTrue v.tells_one → IsTrue v.tells_two → done v.before v.after reply)
 
-abbrev pub OwedLibrary : Command → List Definition → Reply → Type 0
-OwedLibrary command library reply = (found : Option CheckError) × IsFirstFinding library found × (reply ≡ owed_found command library found)
+-- for what the words of `submit` are prepared as; where they are refused, the disks read as before
+abbrev pub OwedPrepared : Visit → Prepared → Reply → Type 0
+OwedPrepared v (prepared.Refused c) reply = (reply ≡ refuses c) × (v.after ≡ v.before)
+OwedPrepared v (prepared.Submits s) reply = Does (OnStore (Enters s)) v reply
 
--- for what the parser answers
-abbrev pub OwedParsed : Command → Parsed → Reply → Type 0
-OwedParsed command (Ok library) reply = OwedLibrary command library reply
-OwedParsed command (Err e) reply = reply ≡ refuses (cause.Parse e)
+-- for words that are a command, or are none, on a shelf that tells this, and on two disks
+abbrev pub OwedCommand : Option (List ℕ → Option (List ℕ)) → Visit → Option Command → Reply → Type 0
+OwedCommand told v None reply = reply ≡ refuses cause.Words
+OwedCommand told v (Some (Check file)) reply = (r : Read) × ReadsFrom told file r × (reply ≡ owed_check r)
+OwedCommand told v (Some (Dry file name given fuel)) reply = (r : Read) × ReadsFrom told file r × (reply ≡ owed_dry name given fuel r)
+OwedCommand told v (Some Init) reply = Does Inits v reply
+OwedCommand told v (Some (Submit file name given)) reply = (p : Prepared) × PreparesFrom told file name given p × OwedPrepared v p reply
+OwedCommand told v (Some Run) reply = Does (OnStore Runs) v reply
+OwedCommand told v (Some Listing) reply = Does (OnStore Lists) v reply
+OwedCommand told v (Some (Tree pid)) reply = Does (OnStore (Shows pid)) v reply
+OwedCommand told v (Some Pack) reply = Does (OnStore Packs) v reply
 
--- for a text
-abbrev pub OwedText : Command → List ℕ → Reply → Type 0
-OwedText command text reply = (parsed : Parsed) × TextSays text parsed × OwedParsed command parsed reply
+-- the reply is the one owed for these words by a shelf that tells this, and by two disks
+abbrev pub IsOwed : Option (List ℕ → Option (List ℕ)) → Visit → List (List ℕ) → Reply → Type 0
+IsOwed told v words reply = OwedCommand told v (command_of words) reply
 
--- for bytes that are a text, or are none
-abbrev pub OwedBytes : Command → Bool → List ℕ → Reply → Type 0
-OwedBytes command true bytes reply = OwedText command bytes reply
-OwedBytes command false bytes reply = reply ≡ refuses (cause.NotUtf8 (file_of command))
+-- a command that no disk is asked for
+abbrev pub IsOfFiles : Option Command → Type 0
+IsOfFiles None = Unit {0}
+IsOfFiles (Some (Check file)) = Unit {0}
+IsOfFiles (Some (Dry file name given fuel)) = Unit {0}
+IsOfFiles (Some Init) = ⊥
+IsOfFiles (Some (Submit file name given)) = ⊥
+IsOfFiles (Some Run) = ⊥
+IsOfFiles (Some Listing) = ⊥
+IsOfFiles (Some (Tree pid)) = ⊥
+IsOfFiles (Some Pack) = ⊥
 
--- for the content of the command's file, none where there is no such file
-abbrev pub OwedContent : Command → Option (List ℕ) → Reply → Type 0
-OwedContent command None reply = reply ≡ refuses (cause.NoFile (file_of command))
-OwedContent command (Some bytes) reply = OwedBytes command (is_utf8 bytes) bytes reply
+-- No disk is asked for the command, or for the words of `submit`, which are refused where the shelf tells this.
+abbrev pub AsksNoDisk : Option (List ℕ → Option (List ℕ)) → Option Command → Type 0
+AsksNoDisk told None = Unit {0}
+AsksNoDisk told (Some (Check file)) = Unit {0}
+AsksNoDisk told (Some (Dry file name given fuel)) = Unit {0}
+AsksNoDisk told (Some Init) = ⊥
+AsksNoDisk told (Some (Submit file name given)) = IsSome told × ((c : Cause) × PreparesFrom told file name given (prepared.Refused c))
+AsksNoDisk told (Some Run) = ⊥
+AsksNoDisk told (Some Listing) = ⊥
+AsksNoDisk told (Some (Tree pid)) = ⊥
+AsksNoDisk told (Some Pack) = ⊥
 
--- for words that are a command, or are none
-abbrev pub OwedCommand : Option Command → Option (List ℕ) → Reply → Type 0
-OwedCommand None content reply = reply ≡ refuses cause.Words
-OwedCommand (Some command) content reply = OwedContent command content reply
+-- A command of which one reply at most is owed for what the disks read as at entry and at exit. `run` is none: any ready process may
+-- be the one for which the store is too full.
+abbrev pub IsCertain : Option Command → Type 0
+IsCertain None = Unit {0}
+IsCertain (Some (Check file)) = Unit {0}
+IsCertain (Some (Dry file name given fuel)) = Unit {0}
+IsCertain (Some Init) = Unit {0}
+IsCertain (Some (Submit file name given)) = Unit {0}
+IsCertain (Some Run) = ⊥
+IsCertain (Some Listing) = Unit {0}
+IsCertain (Some (Tree pid)) = Unit {0}
+IsCertain (Some Pack) = Unit {0}
 
--- the content is that of the command's file, where the shelf tells it
-abbrev pub IsContent : Option Command → Option (List ℕ → Option (List ℕ)) → Option (List ℕ) → Type 0
-IsContent None told content = Unit {0}
-IsContent (Some command) told content = IfSome told (λ contents. content ≡ contents (file_of command))
-
--- the reply is the one owed for these words by a shelf that tells this
-abbrev pub IsOwed : Option (List ℕ → Option (List ℕ)) → List (List ℕ) → Reply → Type 0
-IsOwed told words reply = (content : Option (List ℕ)) × IsContent (command_of words) told content × OwedCommand (command_of words) content reply
-
--- the status of a reply that was written
-abbrev pub status_of : Option Cause → Status
-status_of None = status.Ok
-status_of (Some cause) = status.Refused cause
+-- ---- how a call ends
 
 -- the bytes were written behind what was there, where the sink tells
 abbrev pub Writes : List ℕ → Option (List ℕ) → Option (List ℕ) → Type 0
 Writes bytes old new = new ≡ option_map (λ before. before ++ bytes) old
 
--- the status is that of a reply with this cause, where there was neither want of memory nor a fault
-abbrev pub OwesStatus : Option Cause → Status → Type 0
-OwesStatus cause status.OutOfMemory = Unit {0}
-OwesStatus cause status.ReadFault = Unit {0}
-OwesStatus cause status.WriteFault = Unit {0}
-OwesStatus cause ended = ended ≡ status_of cause
+-- the status is that of a reply, where there was neither want of memory nor a fault of the shelf, a disk or the sink
+abbrev pub OwesStatus : Status → Status → Type 0
+OwesStatus owed status.OutOfMemory = Unit {0}
+OwesStatus owed status.DiskFault = Unit {0}
+OwesStatus owed status.ReadFault = Unit {0}
+OwesStatus owed status.WriteFault = Unit {0}
+OwesStatus owed ended = ended ≡ owed

@@ -1,35 +1,35 @@
 //! What the program owes for its words.
 
-ghost use Rattle.std.specs.Prelude.{◌≡◌, [], IfOk, IfSome, IsErrOf, OnOk};
-ghost use Rattle.std.specs.Str.{is_utf8};
-ghost use Rattle.wc_io.specs.Counts.{Rises};
+ghost use Rattle.std.specs.Prelude.{◌≡◌, [], IfOk};
 ghost use Rattle.wc_syntax.specs.Findings.{definition_named};
-ghost use Rattle.wc_syntax.specs.Writable.{IsWritable};
+ghost use Rattle.wc_engine.specs.Files.{ReadsFrom};
 ghost use Rattle.wc_engine.specs.Given.{bad_given, fields_of};
-ghost use Rattle.wc_engine.specs.Owed.{refuses, prints, owed_answer, owed_inputs, owed_name, owed_by, owed_found, file_of, OwedLibrary, OwedText, OwedBytes, OwedContent, OwedCommand, IsContent, IsOwed};
+ghost use Rattle.wc_engine.specs.Owed.{owed_answer, owed_inputs, owed_name, owed_dry, owed_check};
+ghost use Rattle.wc_engine.specs.Calls.{CountsShelf, IsOfShelf};
+ghost use Rattle.wc_engine.specs.Replies.{refuses, prints};
 ghost use Rattle.wc_run.specs.Tables.{plain, no_kills};
 ghost use Rattle.wc_run.specs.Meaning.{meaning};
 
 use crate::given::{find_bad_given, read_given};
-use crate::status::Cause;
+use crate::reading::{Read, read_content};
+use crate::status::{Cause, Status};
+use crate::storing::StoreReplyError;
 use crate::text::{definitions_line, refusal_line};
 use std::alloc::{AllocError, Global};
 use thiserror::Error;
-use wc_check::{first_finding, rules_are_kept_where_nothing_is_found};
-use wc_cli::{Command, Given, command_of};
+use wc_cli::Given;
 use wc_io::{Shelf, ShelfError};
 use wc_meaning::{find_definition, head, mean};
-use wc_parser::{ParseError, parse};
 use wc_report::tree_lines;
 use wc_run::{Answer, Kills};
-use wc_syntax::{Checked, Library, Port};
-use wc_value::{Bytes, Duplicate, Fields, Rows, Table, Text, Words};
+use wc_syntax::{Library, Port};
+use wc_value::{Duplicate, Fields, Rows, Table, Text};
 
-/// What is to be written, and why the command is refused, if it is.
+/// What is to be written, and the status once it is.
 #[derive(Drop)]
 pub struct Reply {
-    /// The cause of a refusal.
-    pub cause: Option<Cause>,
+    /// The status.
+    pub status: Status,
     /// The text.
     pub text: Text,
 }
@@ -43,6 +43,9 @@ pub enum ReplyError {
     /// The file can't be read.
     #[error("the file can't be read")]
     ReadFault,
+    /// A disk of the store failed.
+    #[error("a disk failed")]
+    DiskFault,
 }
 
 impl From<AllocError> for ReplyError {
@@ -56,15 +59,39 @@ impl From<AllocError> for ReplyError {
     }
 }
 
+impl From<StoreReplyError> for ReplyError {
+    ghost use Rattle.std.specs.Prelude.{◌≡◌};
+    ghost use Rattle.wc_engine.specs.Calls.{of_store};
+
+    ghost from_gives = { λ error e. e ≡ of_store error };
+
+    fn from(error: StoreReplyError) -> ReplyError {
+        match error {
+            StoreReplyError::OutOfMemory => ReplyError::OutOfMemory,
+            StoreReplyError::DiskFault => ReplyError::DiskFault,
+        }
+    }
+}
+
 /// A refusal.
-fn refuse(alloc: Global, cause: Cause) -> Result<Reply, AllocError>
+pub(crate) fn refuse(alloc: Global, cause: Cause) -> Result<Reply, AllocError>
     ensures { IfOk result (λ r. r ≡ refuses cause) }
 {
     let text = refusal_line(alloc, &cause)?;
     Ok(Reply {
-        cause: Some(cause),
+        status: Status::Refused(cause),
         text,
     })
+}
+
+/// A text that is printed.
+pub(crate) fn print(text: Text) -> Reply
+    ensures { result ≡ prints text }
+{
+    Reply {
+        status: Status::Ok,
+        text,
+    }
 }
 
 /// The reply for what a definition means.
@@ -72,10 +99,7 @@ fn reply_for_answer(alloc: Global, answer: Answer) -> Result<Reply, AllocError>
     ensures { IfOk result (λ r. r ≡ owed_answer answer) }
 {
     match answer {
-        Answer::Gave(replayed, _) => Ok(Reply {
-            cause: None,
-            text: tree_lines(alloc, &replayed.tree)?,
-        }),
+        Answer::Gave(replayed, _) => Ok(print(tree_lines(alloc, &replayed.tree)?)),
         Answer::Without(request) => refuse(alloc, Cause::NoAnswer(request.program)),
         Answer::TooLittle => refuse(alloc, Cause::Fuel),
         Answer::Astray => refuse(alloc, Cause::Fuel),
@@ -150,125 +174,47 @@ fn reply_for_name(
     }
 }
 
-/// The reply for a checked library.
+/// The reply of `dry` for a file that is read as this.
 #[tactic(auto, using(crate::proofs::Means::owed_bare))]
-fn reply_for_checked(
+pub(crate) fn reply_to_dry(
     alloc: Global,
-    command: &Command,
-    library: &Checked,
+    read: Read,
+    name: &Text,
+    given: &[Given],
+    fuel: u64,
 ) -> Result<Reply, AllocError>
-    ensures { IfOk result (λ r. r ≡ owed_by command.now library.now) }
+    ensures { IfOk result (λ r. r ≡ owed_dry name.now given.now fuel read) }
 {
-    match command {
-        Command::Check { .. } => Ok(Reply {
-            cause: None,
-            text: definitions_line(alloc, library.library().len())?,
-        }),
-        Command::Dry {
-            name,
-            given,
-            fuel,
-            ..
-        } => { reply_for_name(alloc, library.library(), name, given.as_slice(), *fuel) }
+    match read {
+        Read::Refused(cause) => refuse(alloc, cause),
+        Read::Library(library) => reply_for_name(alloc, library.library(), name, given, fuel),
     }
 }
 
-/// The reply for a library.
-fn reply_for_library(
-    alloc: Global,
-    command: &Command,
-    library: Library,
-) -> Result<Reply, AllocError>
-    requires { IsWritable library }
-    ensures { IfOk result (λ r. OwedLibrary command.now library r) }
+/// The reply of `check` for a file that is read as this.
+pub(crate) fn reply_to_check(alloc: Global, read: Read) -> Result<Reply, AllocError>
+    ensures { IfOk result (λ r. r ≡ owed_check read) }
 {
-    match first_finding(alloc, &library)? {
-        Some(error) => refuse(alloc, Cause::Check(error)),
-        None => {
-            rules_are_kept_where_nothing_is_found();
-            reply_for_checked(alloc, command, &Checked::of(library))
-        }
+    match read {
+        Read::Refused(cause) => refuse(alloc, cause),
+        Read::Library(library) => { Ok(print(definitions_line(alloc, library.library().len())?)) }
     }
 }
 
-/// The reply for a text.
-fn reply_for_text(alloc: Global, command: &Command, text: &Text) -> Result<Reply, AllocError>
-    ensures { IfOk result (λ r. OwedText command.now text.now r) }
-{
-    match parse(alloc, text) {
-        Ok(library) => reply_for_library(alloc, command, library),
-        Err(ParseError::OutOfMemory) => Err(AllocError),
-        Err(error) => refuse(alloc, Cause::Parse(error)),
-    }
-}
-
-/// A copy of the name of the command's file.
-fn file_name(command: &Command) -> Result<Text, AllocError>
-    ensures { IfOk result (λ name. name ≡ file_of command.now) }
-{
-    match command {
-        Command::Check { file } => file.copy(),
-        Command::Dry { file, .. } => file.copy(),
-    }
-}
-
-/// The reply for a file of these bytes.
-fn reply_for_bytes(alloc: Global, command: &Command, bytes: Bytes) -> Result<Reply, AllocError>
-    ensures { IfOk result (λ r. OwedBytes command.now (is_utf8 bytes) bytes r) }
-{
-    match Text::of(bytes) {
-        Some(text) => reply_for_text(alloc, command, &text),
-        None => refuse(alloc, Cause::NotUtf8(file_name(command)?)),
-    }
-}
-
-/// The reply for a file of this content, or for none.
-fn reply_for_content(
-    alloc: Global,
-    command: &Command,
-    content: Option<Bytes>,
-) -> Result<Reply, AllocError>
-    ensures { IfOk result (λ r. OwedContent command.now content r) }
-{
-    match content {
-        None => refuse(alloc, Cause::NoFile(file_name(command)?)),
-        Some(bytes) => reply_for_bytes(alloc, command, bytes),
-    }
-}
-
-/// The content of the command's file, or none where the shelf has no such file.
-fn read_file<R: Shelf>(
+/// What a file of the shelf is read as.
+pub(crate) fn read_from<R: Shelf>(
     alloc: Global,
     shelf: &mut R,
-    command: &Command,
-) -> Result<Option<Bytes>, ReplyError>
-    ensures content { IfOk result (λ content. IfSome (R.contents shelf.old) (λ contents. content ≡ contents (file_of command.now))) }
-    ensures ok { OnOk result (R.faults shelf.new ≡ R.faults shelf.old) }
-    ensures memory { IsErrOf result ReplyError.OutOfMemory → R.faults shelf.new ≡ R.faults shelf.old }
-    ensures fault { IsErrOf result ReplyError.ReadFault → Rises (R.faults shelf.old) (R.faults shelf.new) }
+    file: &Text,
+) -> Result<Read, ReplyError>
+    ensures read { IfOk result (λ r. ReadsFrom (R.contents shelf.old) file.now r) }
+    ensures counts { CountsShelf result (R.faults shelf.old) (R.faults shelf.new) }
+    ensures reading { IsOfShelf result }
     ensures kept { R.contents shelf.new ≡ R.contents shelf.old }
 {
-    let file = file_name(command)?;
-    match shelf.read(alloc, &file) {
-        Ok(content) => Ok(content),
+    match shelf.read(alloc, file) {
+        Ok(content) => Ok(read_content(alloc, file, content)?),
         Err(ShelfError::OutOfMemory) => Err(ReplyError::OutOfMemory),
         Err(ShelfError::Failed) => Err(ReplyError::ReadFault),
-    }
-}
-
-/// The reply that is owed for the words, as the shelf's file makes it.
-pub fn reply_to<R: Shelf>(alloc: Global, words: &Words, shelf: &mut R) -> Result<Reply, ReplyError>
-    ensures owed { IfOk result (λ r. IsOwed (R.contents shelf.old) words.now r) }
-    ensures ok { OnOk result (R.faults shelf.new ≡ R.faults shelf.old) }
-    ensures memory { IsErrOf result ReplyError.OutOfMemory → R.faults shelf.new ≡ R.faults shelf.old }
-    ensures fault { IsErrOf result ReplyError.ReadFault → Rises (R.faults shelf.old) (R.faults shelf.new) }
-    ensures kept { R.contents shelf.new ≡ R.contents shelf.old }
-{
-    match command_of(alloc, words)? {
-        None => Ok(refuse(alloc, Cause::Words)?),
-        Some(command) => {
-            let content = read_file(alloc, shelf, &command)?;
-            Ok(reply_for_content(alloc, &command, content)?)
-        }
     }
 }

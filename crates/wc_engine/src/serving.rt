@@ -1,71 +1,109 @@
 //! The top call.
 
-ghost use Rattle.std.specs.Prelude.{◌≡◌, Some, None, IsSome};
+ghost use Rattle.std.specs.Prelude.{◌≡◌, ◌⊎◌, IsSome, IsTrue};
+ghost use Rattle.wc_cli.specs.Words.{command_of};
 ghost use Rattle.wc_io.specs.Counts.{Rises};
 ghost use Rattle.wc_io.specs.Forms.{TakesPart};
-ghost use Rattle.wc_engine.specs.Owed.{IsOwed, OwesStatus, Writes, status_of};
+ghost use Rattle.wc_engine.specs.Owed.{visit, AsksNoDisk, IsCertain, IsOfFiles, IsOwed, OwesStatus, Writes};
+ghost use Rattle.wc_engine.specs.Crashes.{AreDurable, EachPair, HoldsSound};
+ghost use Rattle.wc_engine.specs.Headline.{Headline};
+ghost use Rattle.wc_engine.specs.Replies.{IsDone, IsReplied};
 ghost use Rattle.wc_engine.specs.declared.reply.Reply.{Reply as AReply};
-ghost use Rattle.wc_engine.specs.declared.status.Cause.{Cause as ACause};
 
-use crate::reply::{Reply, ReplyError, reply_to};
-use crate::status::{Cause, Status};
+use crate::answering::reply_to;
+use crate::laws::worlds_are_kept;
+use crate::reply::{Reply, ReplyError};
+use crate::status::Status;
 use std::alloc::Global;
+use wc_disk::Disk;
 use wc_io::{Shelf, Sink, write_all};
 use wc_value::Words;
 
-/// The status of a reply that was written.
-fn ended(cause: Option<Cause>) -> Status
-    ensures { result ≡ status_of cause }
-{
-    match cause {
-        Some(cause) => Status::Refused(cause),
-        None => Status::Ok,
-    }
-}
-
 /// Writes a reply, and says how that ended.
 fn finish<W: Sink>(sink: &mut W, reply: Reply) -> Status
-    ensures status { OwesStatus reply.cause result }
+    requires { IsReplied reply.status }
+    ensures status { OwesStatus reply.status result }
     ensures memory { result ≡ Status.OutOfMemory → ⊥ }
     ensures reading { result ≡ Status.ReadFault → ⊥ }
+    ensures disks { result ≡ Status.DiskFault → ⊥ }
     ensures fault { result ≡ Status.WriteFault → Rises (W.faults sink.old) (W.faults sink.new) × TakesPart reply.text (W.taken sink.old) (W.taken sink.new) }
     ensures whole { (result ≡ Status.WriteFault → ⊥) → Writes reply.text (W.taken sink.old) (W.taken sink.new) × (W.faults sink.new ≡ W.faults sink.old) }
 {
-    let Reply { cause, text } = reply;
+    let Reply { status, text } = reply;
     match write_all(sink, text.bytes()) {
-        Ok(()) => ended(cause),
+        Ok(()) => status,
         Err(_) => Status::WriteFault,
     }
 }
 
-/// Does what the words say, with the files of the shelf, and writes one text to the sink.
+/// Does what the words say, with the files of the shelf and a store on two disks, and writes one text to the sink.
 ///
-/// What comes first of these is the status, where neither memory runs out nor a file or the sink fails: the words are
-/// no command; the file isn't there, isn't UTF-8, stands for no library, or its library breaks a rule; and for `dry`: the
-/// library doesn't define the name; a port is given badly, of which the least is named; no result is known of a job, or
-/// the fuel doesn't suffice. Else the text of the command is written.
-pub fn serve<R: Shelf, W: Sink>(alloc: Global, words: &Words, shelf: &mut R, sink: &mut W) -> Status
-    // The tree that is owed was written whole.
-    ensures ok { result ≡ Status.Ok → (r : AReply) × IsOwed (R.contents shelf.old) words.now r × (r.cause ≡ None) × Writes r.text (W.taken sink.old) (W.taken sink.new) }
-    // The refusal that is owed was written whole.
-    ensures refused { (cause : ACause) → result ≡ Status.Refused cause
-        → (r : AReply) × IsOwed (R.contents shelf.old) words.now r × (r.cause ≡ Some cause) × Writes r.text (W.taken sink.old) (W.taken sink.new) }
-    // Where the shelf tells its contents, what is owed is the status, unless memory runs out or something fails.
-    ensures exact { IsSome (R.contents shelf.old) → (r : AReply) → IsOwed (R.contents shelf.old) words.now r → OwesStatus r.cause result }
+/// What comes first of these is the status, where the shelf and the disks tell and neither memory runs out nor a file, a disk or
+/// the sink fails: the words are
+/// no command; the file isn't there, isn't UTF-8, stands for no library, or its library breaks a rule; the library doesn't
+/// define the name; for `submit`: the definition is none that it takes yet; a port is given badly, of which the least is named; for
+/// `dry`: no result is known of a job, or the fuel doesn't suffice; for a command of a store: a disk is damaged; there is no
+/// store, or for `init` there is one; there is no such process; for `run`, a process is there that it doesn't run yet; the
+/// store would be too full. Else the text of the command is written, also where `run` took as many turns as it may, or where
+/// each live process rests.
+pub fn serve<R: Shelf, W: Sink, D: Disk>(
+    alloc: Global,
+    words: &Words,
+    shelf: &mut R,
+    sink: &mut W,
+    one: &mut D,
+    two: &mut D,
+) -> Status
+    // The text that is owed was written whole, be it that of the command or a refusal, and this is its status.
+    ensures replied { IsReplied result → (r : AReply) × IsOwed (R.contents shelf.old) (visit D.Disk one.old two.old one.new two.new) words.now r
+        × (r.status ≡ result) × Writes r.text (W.taken sink.old) (W.taken sink.new) }
+    // For each command but `run`, where the shelf tells its contents and the disks their bytes, what is owed is the status, unless
+    // memory runs out or something fails.
+    ensures exact { IsCertain (command_of words.now) → IsSome (R.contents shelf.old) → IsTrue (D.tells one.old) → IsTrue (D.tells two.old)
+        → (r : AReply) → IsOwed (R.contents shelf.old) (visit D.Disk one.old two.old one.new two.new) words.now r → OwesStatus r.status result }
+    // The same where no disk is asked, whether the disks tell their bytes or not.
+    ensures exact_files { IsOfFiles (command_of words.now) → IsSome (R.contents shelf.old)
+        → (r : AReply) → IsOwed (R.contents shelf.old) (visit D.Disk one.old two.old one.new two.new) words.now r → OwesStatus r.status result }
+    // No disk is asked for `check`, `dry`, words that are no command, and a `submit` that is refused for its words or its file.
+    ensures files { AsksNoDisk (R.contents shelf.old) (command_of words.now) → (one.new ≡ one.old) × (two.new ≡ two.old) × (result ≡ Status.DiskFault → ⊥) }
+    // Up to a moment of each disk's clock each image is one that a crash at entry might have left. From then on each pair of images holds
+    // nothing or a sound world of functions that continues what was held: each process that has ended has the tree that its definition
+    // means for its recorded inputs, and each created value has one creator, whose inputs give it. After `submit` with status Ok each
+    // pair holds its process, with library, name, inputs and caching.
+    ensures headline { IsTrue (D.tells one.old) → IsTrue (D.tells two.old) → EachPair D.Disk one.old two.old HoldsSound
+        → Headline D.Disk (record {
+          told = R.contents shelf.old;
+          command = command_of words.now;
+          one = one.old;
+          two = two.old;
+          one_new = one.new;
+          two_new = two.new;
+          taken = W.taken sink.old;
+          taken_new = W.taken sink.new;
+        }) result }
     ensures memory { result ≡ Status.OutOfMemory → W.taken sink.new ≡ W.taken sink.old }
-    // The shelf failed in this call.
-    ensures read_fault { result ≡ Status.ReadFault → Rises (R.faults shelf.old) (R.faults shelf.new) × (W.taken sink.new ≡ W.taken sink.old) }
-    // The sink failed in this call, and took a part of what is owed.
+    // The shelf failed in this call, and no disk was asked.
+    ensures read_fault { result ≡ Status.ReadFault → Rises (R.faults shelf.old) (R.faults shelf.new) × (W.taken sink.new ≡ W.taken sink.old)
+        × (one.new ≡ one.old) × (two.new ≡ two.old) }
+    // A disk failed in this call.
+    ensures disk_fault { result ≡ Status.DiskFault → (Rises (D.faults one.old) (D.faults one.new) ⊎ Rises (D.faults two.old) (D.faults two.new))
+        × (W.taken sink.new ≡ W.taken sink.old) }
+    // The sink failed in this call, and took a part of what is owed. What was done stays.
     ensures write_fault { result ≡ Status.WriteFault → Rises (W.faults sink.old) (W.faults sink.new)
-        × (r : AReply) × IsOwed (R.contents shelf.old) words.now r × TakesPart r.text (W.taken sink.old) (W.taken sink.new) }
+        × (r : AReply) × IsOwed (R.contents shelf.old) (visit D.Disk one.old two.old one.new two.new) words.now r × TakesPart r.text (W.taken sink.old) (W.taken sink.new)
+        × ((IsOfFiles (command_of words.now) → ⊥) → IsDone r.status → IsTrue (D.tells one.old) → IsTrue (D.tells two.old) → AreDurable D.Disk one.new two.new) }
     // No count rose but for these.
     ensures reads { (result ≡ Status.ReadFault → ⊥) → R.faults shelf.new ≡ R.faults shelf.old }
     ensures writes { (result ≡ Status.WriteFault → ⊥) → W.faults sink.new ≡ W.faults sink.old }
+    ensures disks { (result ≡ Status.DiskFault → ⊥) → (D.faults one.new ≡ D.faults one.old) × (D.faults two.new ≡ D.faults two.old) }
     ensures kept { R.contents shelf.new ≡ R.contents shelf.old }
+    ensures tells { (D.tells one.new ≡ D.tells one.old) × (D.tells two.new ≡ D.tells two.old) }
 {
-    match reply_to(alloc, words, shelf) {
+    worlds_are_kept();
+    match reply_to(alloc, words, shelf, one, two) {
         Ok(reply) => finish(sink, reply),
         Err(ReplyError::OutOfMemory) => Status::OutOfMemory,
         Err(ReplyError::ReadFault) => Status::ReadFault,
+        Err(ReplyError::DiskFault) => Status::DiskFault,
     }
 }

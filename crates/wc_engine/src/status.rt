@@ -1,8 +1,9 @@
 ghost use Rattle.std.specs.Prelude.{◌≡◌};
-ghost use Rattle.wc_engine.specs.Owed.{code_of};
+ghost use Rattle.wc_engine.specs.Replies.{code_of};
 
 use wc_check::CheckError;
 use wc_parser::ParseError;
+use wc_state::What;
 use wc_value::Text;
 
 /// Why a command was refused.
@@ -26,6 +27,14 @@ pub enum Cause {
     NoAnswer(Text),
     /// The fuel doesn't suffice.
     Fuel,
+    /// Processes of this definition are neither submitted nor run yet: it is no function, or one may take another's outcome.
+    Later(Text),
+    /// There is no store.
+    NoStore,
+    /// There is a store already.
+    StoreExists,
+    /// The store has no process of this number.
+    UnknownProcess(u32),
 }
 
 /// How a call of the program ended.
@@ -37,10 +46,20 @@ pub enum Status {
     Refused(Cause),
     /// Memory ran out.
     OutOfMemory,
+    /// The turns of this call are used up, and work is left.
+    Spent,
+    /// Processes are live, and each is paused or waits for a paused one.
+    Resting,
+    /// A disk of the store failed.
+    DiskFault,
+    /// A disk of the store is damaged: the disk's number, the offset, and the byte found there, none where the end is.
+    Damaged(u8, u64, Option<u8>),
     /// A file can't be read.
     ReadFault,
     /// The text can't be written.
     WriteFault,
+    /// The store is full: of what, how much of it there would be, and the most that it may have.
+    Full(What, u64, u64),
 }
 
 impl Status {
@@ -52,8 +71,13 @@ impl Status {
             Status::Ok => 0,
             Status::Refused(_) => 1,
             Status::OutOfMemory => 2,
+            Status::Spent => 3,
+            Status::Resting => 4,
+            Status::DiskFault => 5,
+            Status::Damaged(..) => 6,
             Status::ReadFault => 7,
             Status::WriteFault => 8,
+            Status::Full(..) => 9,
         }
     }
 }

@@ -1,10 +1,14 @@
 //! The command `dry`.
 
-use crate::session::{ADD, Sipping, call, numbers, shelf, words};
+use crate::session::{ADD, Sipping, call, call_on, numbers, shelf};
 use std::test::Fail;
-use wc_engine::{Cause, Status, serve};
+use wc_engine::{Cause, Status};
 use wc_io::MemorySink;
+use wc_state::What;
 use wc_value::Text;
+
+/// The line of the first example.
+const DRY: &str = "dry add.wcf add x=2 y=3";
 
 /// A line of words, the file, the exit status, and the text.
 const CASES: [(&str, &str, u8, &str); 35] = [
@@ -158,11 +162,10 @@ fn each_line_has_its_status_and_text(rt: HostRuntime) -> Result<(), Fail> {
 #[test]
 fn a_failing_shelf_or_sink_writes_nothing(rt: HostRuntime) -> Result<(), Fail> {
     let alloc = rt.alloc();
-    let line = words(alloc, "dry add.wcf add x=2 y=3")?;
     for (reading, writing, code) in [(1, 9, 7), (9, 1, 8), (1, 1, 7)] {
         let mut shelf = shelf(alloc, "add.wcf", ADD, &[reading])?;
         let mut sink = MemorySink::new(alloc, numbers(alloc, &[writing])?);
-        let status = serve(alloc, &line, &mut shelf, &mut sink);
+        let status = call_on(alloc, DRY, &mut shelf, &mut sink)?;
         assert_eq!(rt; status.code(), code);
         assert!(rt; sink.bytes().is_empty());
     }
@@ -174,7 +177,7 @@ fn words_that_are_no_command_ask_no_file(rt: HostRuntime) -> Result<(), Fail> {
     let alloc = rt.alloc();
     let mut shelf = shelf(alloc, "add.wcf", ADD, &[1])?;
     let mut sink = MemorySink::new(alloc, numbers(alloc, &[])?);
-    let status = serve(alloc, &words(alloc, "frobnicate")?, &mut shelf, &mut sink);
+    let status = call_on(alloc, "frobnicate", &mut shelf, &mut sink)?;
     assert_eq!(rt; status.code(), 1);
     assert_eq!(rt; sink.bytes(), b"refused: words\n".as_slice());
     Ok(())
@@ -183,13 +186,12 @@ fn words_that_are_no_command_ask_no_file(rt: HostRuntime) -> Result<(), Fail> {
 #[test]
 fn a_sink_that_takes_one_byte_in_a_call(rt: HostRuntime) -> Result<(), Fail> {
     let alloc = rt.alloc();
-    let line = words(alloc, "dry add.wcf add x=2 y=3")?;
     for (failing, code, text) in [(99, 0, "finished 0\nsum int 5\n"), (4, 8, "fin")] {
         let mut shelf = shelf(alloc, "add.wcf", ADD, &[])?;
         let mut sink = Sipping {
             inner: MemorySink::new(alloc, numbers(alloc, &[failing])?),
         };
-        let status = serve(alloc, &line, &mut shelf, &mut sink);
+        let status = call_on(alloc, DRY, &mut shelf, &mut sink)?;
         assert_eq!(rt; status.code(), code);
         let Sipping { inner } = sink;
         assert_eq!(rt; inner.bytes(), text.as_bytes());
@@ -205,7 +207,12 @@ fn statuses_have_their_codes(rt: HostRuntime) -> Result<(), Fail> {
     let port = Text::of_str(rt.alloc(), "x")?;
     assert_eq!(rt; Status::Refused(Cause::BadInput(port)).code(), 1);
     assert_eq!(rt; Status::OutOfMemory.code(), 2);
+    assert_eq!(rt; Status::Spent.code(), 3);
+    assert_eq!(rt; Status::Resting.code(), 4);
+    assert_eq!(rt; Status::DiskFault.code(), 5);
+    assert_eq!(rt; Status::Damaged(1, 21, None).code(), 6);
     assert_eq!(rt; Status::ReadFault.code(), 7);
     assert_eq!(rt; Status::WriteFault.code(), 8);
+    assert_eq!(rt; Status::Full(What::Nodes, 11, 10).code(), 9);
     Ok(())
 }

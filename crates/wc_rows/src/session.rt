@@ -2,8 +2,9 @@
 
 use std::alloc::{AllocError, Global};
 use std::test::Fail;
+use wc_disk::MemoryDisk;
 use wc_engine::{Status, serve};
-use wc_io::{Failed, MemoryShelf, MemorySink, Sink};
+use wc_io::{Failed, MemoryShelf, MemorySink, Shelf, Sink};
 use wc_value::{Bytes, Files, List, Text, Words};
 
 /// The file of the examples.
@@ -14,6 +15,13 @@ pub fn numbers(alloc: Global, numbers: &[u64]) -> Result<List<u64>, AllocError> 
     let mut list = List::new(alloc);
     list.extend(numbers)?;
     Ok(list)
+}
+
+/// A disk with these bytes, of which these calls fail.
+pub fn disk_of(alloc: Global, image: &[u8], failing: &[u64]) -> Result<MemoryDisk, AllocError> {
+    let mut bytes: Bytes = List::new(alloc);
+    bytes.extend(image)?;
+    Ok(MemoryDisk::new(alloc, bytes, numbers(alloc, failing)?))
 }
 
 /// The words of a line, cut at its spaces.
@@ -52,6 +60,7 @@ pub fn shelf(
 }
 
 /// A sink that takes one byte in a call.
+#[derive(Drop)]
 pub struct Sipping {
     /// What takes the bytes.
     pub inner: MemorySink,
@@ -79,11 +88,24 @@ pub struct Ended {
     pub text: Vec<u8>,
 }
 
+/// Calls the program with the words of a line, on a shelf and a sink, with two empty disks.
+pub fn call_on<R: Shelf, W: Sink>(
+    alloc: Global,
+    line: &str,
+    shelf: &mut R,
+    sink: &mut W,
+) -> Result<Status, AllocError> {
+    let mut one = disk_of(alloc, &[], &[])?;
+    let mut two = disk_of(alloc, &[], &[])?;
+    let words = words(alloc, line)?;
+    Ok(serve(alloc, &words, shelf, sink, &mut one, &mut two))
+}
+
 /// Calls the program with the words of a line, on a shelf with one file of these bytes.
 pub fn call_bytes(alloc: Global, line: &str, content: &[u8]) -> Result<Ended, Fail> {
     let mut shelf = shelf_of(alloc, "add.wcf", content, &[])?;
     let mut sink = MemorySink::new(alloc, numbers(alloc, &[])?);
-    let status = serve(alloc, &words(alloc, line)?, &mut shelf, &mut sink);
+    let status = call_on(alloc, line, &mut shelf, &mut sink)?;
     Ok(Ended {
         status,
         text: sink.bytes().to_vec(alloc)?,

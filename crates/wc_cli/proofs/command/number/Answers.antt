@@ -1,5 +1,4 @@
-use Rattle.std.proofs.Common.{◌≡◌, ◌∙◌, ap, List, ℕ, slice_index, subst}
-use Rattle.wc_cli.specs.Words.{limited}
+use Rattle.std.proofs.Common.{◌≡◌, ◌∙◌, List, ℕ, slice_index, subst}
 use Rattle.wc_cli.proofs.Amounts.{reads}
 use Rattle.wc_cli.proofs.command.number.Goals as goal
 
@@ -9,4 +8,4 @@ Other bytes = slice_index bytes 0 ≡ 43 → ⊥
 pub returns : goal.returns
 returns c =
     let other : Other c.args.text.now = subst Other c.as_bytes-bytes.ensures.value c.if-bytes-eq43.false in
-    ap limited c.ok.ensures.value ∙ reads c.args.text.now c.parse.result other c.parse.ensures.value.0
+    c.ok.ensures.value ∙ reads c.args.text.now c.parse.result other c.parse.ensures.value.0

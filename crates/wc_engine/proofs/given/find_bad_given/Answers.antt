@@ -1,4 +1,4 @@
-use Rattle.std.proofs.Common.{◌≡◌, ◌∙◌, ap, sym, None}
+use Rattle.std.proofs.Common.{◌∙◌, ap, sym, None}
 use Rattle.wc_meaning.specs.Inputs.{least_after}
 use Rattle.wc_meaning.proofs.Least.{least_after_append}
 use Rattle.wc_engine.specs.Given.{unread, ill_given}

@@ -1,4 +1,4 @@
-use Rattle.std.proofs.Common.{◌≡◌, List, [], IfOk, ap, subst, ◌∙◌}
+use Rattle.std.proofs.Common.{◌≡◌, [], IfOk, ap, subst, ◌∙◌}
 use Rattle.wc_run.specs.declared.progress.Answer.{Answer}
 use Rattle.wc_run.specs.Tables.{plain, no_kills}
 use Rattle.wc_run.specs.Meaning.{meaning}

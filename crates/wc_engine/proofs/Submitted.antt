@@ -1,0 +1,296 @@
+-- Inputs that are given well are ones that the ports take, in order and within the limits.
+use Rattle.std.proofs.Common.{◌≡◌, ◌⊎◌, inl, inr, ℕ, ℤ, suc, ◌≤◌, List, [], ◌∷◌, ◌++◌, Option, Some, None, Result, Ok, Err, IfOk, Bool, true, false, not, ◌&&◌, ◌||◌, if◌then◌else◌, map, length, refl, sym, ap, subst, ◌∙◌, arith}
+use Rattle.std.specs.Prelude.{option_map, is_none, nat_le, nat_lt, ◌==◌}
+use Rattle.std.specs.List.{AllByRecursion}
+use Rattle.std.specs.List.Sorted.{IsStrictlySortedBy}
+use Rattle.std.specs.Str.{bytes_eq}
+use Rattle.std.proofs.lemmas.Bool.Decides.{nat_tests}
+use Rattle.wc_value.specs.Ascending.{Ascends, before, lookup, put}
+use Rattle.wc_value.specs.Spelling.{spelling, depth}
+use Rattle.wc_value.specs.declared.value.Kind.{Kind}
+use Rattle.wc_value.specs.declared.value.Kind.TheVariants as kind
+use Rattle.wc_value.specs.declared.value.Value.{Value, out-Value}
+use Rattle.wc_value.specs.declared.value.Value.TheVariants as value
+use Rattle.wc_value.proofs.Puts.{ascends_put, same_name}
+use Rattle.wc_syntax.specs.Bare.{bare_port, bare_definition, bare_library}
+use Rattle.wc_syntax.specs.Findings.{definition_named}
+use Rattle.wc_syntax.specs.declared.definition.Definition.{Definition}
+use Rattle.wc_syntax.specs.declared.definition.Definition.TheVariants as definition
+use Rattle.wc_syntax.specs.declared.definition.Port.{Port}
+use Rattle.wc_expression.specs.Val.{is_allowed}
+use Rattle.wc_expression.specs.Contents.{has_kind}
+use Rattle.wc_expression.specs.Whole.{number_of}
+use Rattle.wc_calculation.specs.Rules.{kind_of_port, fits_port}
+use Rattle.wc_run.specs.Meaning.{is_good}
+use Rattle.wc_run.proofs.Bare.{named_bare}
+use Rattle.wc_meaning.specs.Inputs.{least, wrong_inputs, missing_inputs, bad_input}
+use Rattle.wc_meaning.proofs.Least.{no_least}
+use Rattle.wc_engine.specs.declared.reading.Read.{Read}
+use Rattle.wc_engine.specs.declared.reading.Read.TheVariants as read
+use Rattle.wc_engine.specs.declared.submission.Prepared.{Prepared}
+use Rattle.wc_engine.specs.Given.{bool_in_words, value_in_words, allowed, value_of_kind, given_value, unread, times_given, is_ill, ill_given, bad_given, with_field, fields_of}
+use Rattle.wc_engine.specs.Submits.{inputs_of, inputs_for, prepared_with, prepared_of, IsWithinLimits, SubmitsReady}
+use Rattle.wc_engine.proofs.Bares.{bad_given_bare, fields_bare}
+
+-- ---- offsets play no part
+
+with_bare : (bad : Option (List ℕ)) (ports : List Port) (given : List (List ℕ × List ℕ)) → inputs_of bad (map bare_port ports) given ≡ inputs_of bad ports given
+with_bare None ports given = ap Ok (fields_bare ports given [])
+with_bare (Some port) ports given = refl
+
+definition_bare : (d : Option Definition) (name : List ℕ) (given : List (List ℕ × List ℕ)) → inputs_for (option_map bare_definition d) name given ≡ inputs_for d name given
+definition_bare None name given = refl
+definition_bare (Some (definition.Function f)) name given =
+    ap (λ (bad : Option (List ℕ)). inputs_of bad (map bare_port f.head.inputs) given) (bad_given_bare f.head.inputs given) ∙ with_bare (bad_given f.head.inputs given) f.head.inputs given
+definition_bare (Some (definition.Job j)) name given = refl
+definition_bare (Some (definition.Chain c)) name given = refl
+
+pub inputs_bare : (ds : List Definition) (name : List ℕ) (given : List (List ℕ × List ℕ)) → inputs_for (definition_named name (bare_library ds)) name given ≡ inputs_for (definition_named name ds) name given
+inputs_bare ds name given = ap (λ (d : Option Definition). inputs_for d name given) (named_bare name ds) ∙ definition_bare (definition_named name ds) name given
+
+-- ---- a value in words is of its port's kind, and within the limits
+
+allowed_value : (o : Option Value) (v : Value) → allowed o ≡ Some v → (o ≡ Some v) × (is_allowed v ≡ true)
+allowed_value None v h = absurd (cc)
+allowed_value (Some w) v h = at (is_allowed w) refl h
+  where
+    at : (b : Bool) → is_allowed w ≡ b → (if b then Some w else None) ≡ Some v → (Some w ≡ Some v) × (is_allowed v ≡ true)
+    at true p e = let same : w ≡ v = cc in (e, subst (λ (x : Value). is_allowed x ≡ true) same p)
+    at false p e = absurd (cc)
+
+number_kind : (o : Option ℤ) (v : Value) → option_map value.Int o ≡ Some v → has_kind kind.Int (out-Value v) ≡ true
+unfolding out-Value denote.Hole.Carrier.out
+number_kind None v h = absurd (cc)
+number_kind (Some n) v h = let same : value.Int n ≡ v = cc in subst (λ (x : Value). has_kind kind.Int (out-Value x) ≡ true) same refl
+
+bool_kind : (o : Option Bool) (v : Value) → option_map value.Bool o ≡ Some v → has_kind kind.Bool (out-Value v) ≡ true
+unfolding out-Value denote.Hole.Carrier.out
+bool_kind None v h = absurd (cc)
+bool_kind (Some b) v h = let same : value.Bool b ≡ v = cc in subst (λ (x : Value). has_kind kind.Bool (out-Value x) ≡ true) same refl
+
+words_kind : (k : Kind) (text : List ℕ) (v : Value) → value_in_words k text ≡ Some v → has_kind k (out-Value v) ≡ true
+unfolding out-Value denote.Hole.Carrier.out
+words_kind kind.Int text v h = number_kind (number_of text) v h
+words_kind kind.Bool text v h = bool_kind (bool_in_words text) v h
+words_kind kind.Text text v h = let same : value.Text text ≡ v = cc in subst (λ (x : Value). has_kind kind.Text (out-Value x) ≡ true) same refl
+words_kind kind.List text v h = absurd (cc)
+words_kind kind.Dict text v h = absurd (cc)
+words_kind kind.Folder text v h = absurd (cc)
+
+limits : (v : Value) (name : List ℕ) → is_allowed v ≡ true → IsWithinLimits (name, v)
+unfolding is_allowed
+limits v name h = both (length (spelling v)) (depth v) h
+  where
+    both : (m n : ℕ) → (nat_le m 4194304 && nat_le n 32) ≡ true → (m ≤ 4194304) × (n ≤ 32)
+    both m n h = grind (arith, nat_tests)
+
+-- what is held of each input
+abbrev Takes : List Port → List ℕ × Value → Type 0
+Takes ports i = (is_good ports i ≡ true) × IsWithinLimits i
+
+kind_taken : (o : Option Kind) (name text : List ℕ) (v : Value) → value_of_kind o text ≡ Some v → (fits_port o v ≡ true) × IsWithinLimits (name, v)
+kind_taken None name text v h = absurd (cc)
+kind_taken (Some k) name text v h = let a = allowed_value (value_in_words k text) v h in (words_kind k text v a.0, limits v name a.1)
+
+value_taken : (ports : List Port) (g : List ℕ × List ℕ) (v : Value) → given_value ports g ≡ Some v → Takes ports (g.0, v)
+value_taken ports g v h = kind_taken (kind_of_port g.0 ports) g.0 g.1 v h
+
+-- ---- the inputs are held so, in order
+
+all_put : (P : List ℕ × Value → Type 0) (name : List ℕ) (v : Value) (es : List (List ℕ × Value)) → AllByRecursion P es → P (name, v) → AllByRecursion P (put name v es)
+all_put P name v [] a p = (p, tt)
+all_put P name v (e ∷ es) a p = at (before e.0 name) (bytes_eq e.0 name) (all_put P name v es a.1 p)
+  where
+    at : (b c : Bool) → AllByRecursion P (put name v es) → AllByRecursion P (if b then e ∷ put name v es else if c then (name, v) ∷ es else (name, v) ∷ e ∷ es)
+    at true c rest = (a.0, rest)
+    at false true rest = (p, a.1)
+    at false false rest = (p, a)
+
+-- what is held of inputs
+abbrev Holds : List Port → List (List ℕ × Value) → Type 0
+Holds ports fields = AllByRecursion (Takes ports) fields × Ascends fields
+
+field_holds : (ports : List Port) (name : List ℕ) (o : Option Value) (fields : List (List ℕ × Value)) → ((v : Value) → o ≡ Some v → Takes ports (name, v))
+    → Holds ports fields → Holds ports (with_field name o fields)
+field_holds ports name None fields takes h = h
+field_holds ports name (Some v) fields takes h = (all_put (Takes ports) name v fields h.0 (takes v refl), ascends_put name v fields h.1)
+
+fields_hold : (ports : List Port) (given : List (List ℕ × List ℕ)) (fields : List (List ℕ × Value)) → Holds ports fields → Holds ports (fields_of ports given fields)
+fields_hold ports [] fields h = h
+fields_hold ports (g ∷ gs) fields h =
+    fields_hold ports gs (with_field g.0 (given_value ports g) fields) (field_holds ports g.0 (given_value ports g) fields (value_taken ports g) h)
+
+none_ascends : Ascends {T = Value} []
+unfolding IsStrictlySortedBy
+none_ascends = tt
+
+-- so no input is wrong
+none_wrong : (ports : List Port) (is : List (List ℕ × Value)) → AllByRecursion (Takes ports) is → wrong_inputs ports is ≡ []
+none_wrong ports [] h = refl
+none_wrong ports (i ∷ is) h =
+    subst (λ (b : Bool). (if b then wrong_inputs ports is else i.0 ∷ wrong_inputs ports is) ≡ []) (sym h.0.0) (none_wrong ports is h.1)
+
+all_within : (ports : List Port) (is : List (List ℕ × Value)) → AllByRecursion (Takes ports) is → AllByRecursion IsWithinLimits is
+all_within ports [] h = tt
+all_within ports (i ∷ is) h = (h.0.1, all_within ports is h.1)
+
+-- ---- a name that is given has an input
+
+-- there is an input of this name
+abbrev IsThere : List ℕ → List (List ℕ × Value) → Type 0
+IsThere name fields = is_none (lookup name fields) ≡ false
+
+there_or : (name : List ℕ) (e : List ℕ × Value) (es : List (List ℕ × Value)) → IsThere name es → IsThere name (e ∷ es)
+there_or name e es h = at (bytes_eq e.0 name)
+  where
+    at : (b : Bool) → is_none (if b then Some e.1 else lookup name es) ≡ false
+    at true = refl
+    at false = h
+
+there_first : (name : List ℕ) (e : List ℕ × Value) (es : List (List ℕ × Value)) → bytes_eq e.0 name ≡ true → IsThere name (e ∷ es)
+there_first name e es h = subst (λ (b : Bool). is_none (if b then Some e.1 else lookup name es) ≡ false) (sym h) refl
+
+there_behind : (name : List ℕ) (e : List ℕ × Value) (es fs : List (List ℕ × Value)) → (IsThere name es → IsThere name fs) → IsThere name (e ∷ es) → IsThere name (e ∷ fs)
+there_behind name e es fs f h = at (bytes_eq e.0 name) h
+  where
+    at : (b : Bool) → is_none (if b then Some e.1 else lookup name es) ≡ false → is_none (if b then Some e.1 else lookup name fs) ≡ false
+    at true p = refl
+    at false p = f p
+
+-- with another value
+there_again : (name : List ℕ) (e : List ℕ × Value) (v : Value) (es : List (List ℕ × Value)) → IsThere name (e ∷ es) → IsThere name ((e.0, v) ∷ es)
+there_again name e v es h = at (bytes_eq e.0 name) h
+  where
+    at : (b : Bool) → is_none (if b then Some e.1 else lookup name es) ≡ false → is_none (if b then Some v else lookup name es) ≡ false
+    at true p = refl
+    at false p = p
+
+put_there : (name : List ℕ) (v : Value) (other : List ℕ) (es : List (List ℕ × Value)) → bytes_eq other name ≡ true → IsThere name (put other v es)
+put_there name v other [] h = there_first name (other, v) [] h
+put_there name v other (e ∷ es) h = at (before e.0 other) (bytes_eq e.0 other) (put_there name v other es h)
+  where
+    at : (b c : Bool) → IsThere name (put other v es) → IsThere name (if b then e ∷ put other v es else if c then (other, v) ∷ es else (other, v) ∷ e ∷ es)
+    at true c rest = there_or name e (put other v es) rest
+    at false true rest = there_first name (other, v) es h
+    at false false rest = there_first name (other, v) (e ∷ es) h
+
+put_keeps : (name : List ℕ) (v : Value) (other : List ℕ) (es : List (List ℕ × Value)) → IsThere name es → IsThere name (put other v es)
+put_keeps name v other [] h = absurd (cc)
+put_keeps name v other (e ∷ es) h = at (before e.0 other) (bytes_eq e.0 other) refl (put_keeps name v other es)
+  where
+    at : (b c : Bool) → bytes_eq e.0 other ≡ c → (IsThere name es → IsThere name (put other v es))
+        → IsThere name (if b then e ∷ put other v es else if c then (other, v) ∷ es else (other, v) ∷ e ∷ es)
+    at true c p rest = there_behind name e es (put other v es) rest h
+    at false true p rest = subst (λ (k : List ℕ). IsThere name ((k, v) ∷ es)) (same_name e.0 other p) (there_again name e v es h)
+    at false false p rest = there_or name (other, v) (e ∷ es) h
+
+field_keeps : (name : List ℕ) (o : Option Value) (other : List ℕ) (fields : List (List ℕ × Value)) → IsThere name fields → IsThere name (with_field other o fields)
+field_keeps name None other fields h = h
+field_keeps name (Some v) other fields h = put_keeps name v other fields h
+
+fields_keep : (name : List ℕ) (ports : List Port) (given : List (List ℕ × List ℕ)) (fields : List (List ℕ × Value)) → IsThere name fields → IsThere name (fields_of ports given fields)
+fields_keep name ports [] fields h = h
+fields_keep name ports (g ∷ gs) fields h =
+    fields_keep name ports gs (with_field g.0 (given_value ports g) fields) (field_keeps name (given_value ports g) g.0 fields h)
+
+field_there : (name : List ℕ) (o : Option Value) (other : List ℕ) (fields : List (List ℕ × Value)) → is_none o ≡ false → bytes_eq other name ≡ true
+    → IsThere name (with_field other o fields)
+field_there name None other fields h e = absurd (cc)
+field_there name (Some v) other fields h e = put_there name v other fields e
+
+-- none unread: the first is read, and none of the others is unread
+all_read : (ports : List Port) (g : List ℕ × List ℕ) (gs : List (List ℕ × List ℕ)) → unread ports (g ∷ gs) ≡ [] → (is_none (given_value ports g) ≡ false) × (unread ports gs ≡ [])
+all_read ports g gs h = at (is_none (given_value ports g)) h
+  where
+    at : (b : Bool) → (if b then g.0 ∷ unread ports gs else unread ports gs) ≡ [] → (b ≡ false) × (unread ports gs ≡ [])
+    at true p = absurd (cc)
+    at false p = (refl, p)
+
+given_there : (name : List ℕ) (ports : List Port) (given : List (List ℕ × List ℕ)) (fields : List (List ℕ × Value)) → unread ports given ≡ []
+    → (times_given name given == 0) ≡ false → IsThere name (fields_of ports given fields)
+given_there name ports [] fields r h = absurd (cc)
+given_there name ports (g ∷ gs) fields r h = at (bytes_eq g.0 name) refl h (λ k. given_there name ports gs (with_field g.0 (given_value ports g) fields) (all_read ports g gs r).1 k)
+  where
+    at : (b : Bool) → bytes_eq g.0 name ≡ b → ((if b then suc (times_given name gs) else times_given name gs) == 0) ≡ false
+        → ((times_given name gs == 0) ≡ false → IsThere name (fields_of ports gs (with_field g.0 (given_value ports g) fields)))
+        → IsThere name (fields_of ports gs (with_field g.0 (given_value ports g) fields))
+    at true p k rest =
+        fields_keep name ports gs (with_field g.0 (given_value ports g) fields) (field_there name (given_value ports g) g.0 fields (all_read ports g gs r).0 p)
+    at false p k rest = rest k
+
+-- ---- so no input is missing
+
+well : (p : Port) (n : ℕ) → is_ill p n ≡ false → (not p.optional ≡ false) ⊎ ((n == 0) ≡ false)
+well p n h = at (nat_lt 1 n) (n == 0) (not p.optional) h
+  where
+    at : (a b c : Bool) → (a || (b && c)) ≡ false → (c ≡ false) ⊎ (b ≡ false)
+    at true b c q = absurd (cc)
+    at false true true q = absurd (cc)
+    at false true false q = inl refl
+    at false false c q = inr refl
+
+none_ill : (p : Port) (ps : List Port) (given : List (List ℕ × List ℕ)) → ill_given (p ∷ ps) given ≡ []
+    → (is_ill p (times_given p.name.text given) ≡ false) × (ill_given ps given ≡ [])
+none_ill p ps given h = at (is_ill p (times_given p.name.text given)) h
+  where
+    at : (b : Bool) → (if b then p.name.text ∷ ill_given ps given else ill_given ps given) ≡ [] → (b ≡ false) × (ill_given ps given ≡ [])
+    at true q = absurd (cc)
+    at false q = (refl, q)
+
+not_missing : (b c : Bool) → (b ≡ false) ⊎ (c ≡ false) → (b && c) ≡ false
+not_missing true true (inl h) = absurd (cc)
+not_missing true true (inr h) = absurd (cc)
+not_missing true false h = refl
+not_missing false c h = refl
+
+none_missing : (all ps : List Port) (given : List (List ℕ × List ℕ)) → unread all given ≡ [] → ill_given ps given ≡ [] → missing_inputs ps (fields_of all given []) ≡ []
+none_missing all [] given r h = refl
+none_missing all (p ∷ ps) given r h =
+    let rest = none_missing all ps given r (none_ill p ps given h).1 in
+    subst (λ (b : Bool). (if b then p.name.text ∷ missing_inputs ps (fields_of all given []) else missing_inputs ps (fields_of all given [])) ≡ [])
+    (sym (not_missing (not p.optional) (is_none (lookup p.name.text (fields_of all given []))) (either (well p (times_given p.name.text given) (none_ill p ps given h).0)))) rest
+  where
+    either : (not p.optional ≡ false) ⊎ ((times_given p.name.text given == 0) ≡ false) → (not p.optional ≡ false) ⊎ (is_none (lookup p.name.text (fields_of all given [])) ≡ false)
+    either (inl q) = inl q
+    either (inr q) = inr (given_there p.name.text all given [] r q)
+
+-- ---- a submission is ready
+
+two_empty : (xs ys : List (List ℕ)) → xs ++ ys ≡ [] → (xs ≡ []) × (ys ≡ [])
+two_empty [] ys h = (refl, h)
+two_empty (x ∷ xs) ys h = absurd (cc)
+
+-- what the ports take, where nothing is given badly
+pub given_fits : (ports : List Port) (given : List (List ℕ × List ℕ)) → bad_given ports given ≡ None → bad_input ports (fields_of ports given []) ≡ None
+given_fits ports given h =
+    let e = two_empty (unread ports given) (ill_given ports given) (no_least (unread ports given ++ ill_given ports given) h) in
+    let held = fields_hold ports given [] (tt, none_ascends) in
+    (λ i. least (none_wrong ports (fields_of ports given []) held.0 i ++ none_missing ports ports given e.0 e.1 i))
+
+inputs_ready : (library : List Definition) (name : List ℕ) (given : List (List ℕ × List ℕ)) (d : Option Definition) → definition_named name library ≡ d
+    → SubmitsReady (prepared_with library name (inputs_for d name given))
+inputs_ready library name given None p = tt
+inputs_ready library name given (Some (definition.Function f)) p = at (bad_given f.head.inputs given) refl
+  where
+    at : (bad : Option (List ℕ)) → bad_given f.head.inputs given ≡ bad → SubmitsReady (prepared_with library name (inputs_of bad f.head.inputs given))
+    at (Some port) q = tt
+    at None q =
+        let held = fields_hold f.head.inputs given [] (tt, none_ascends) in
+        record {
+          function = f;
+          named = p;
+          fits = given_fits f.head.inputs given q;
+          ascends = held.1;
+          within = all_within f.head.inputs (fields_of f.head.inputs given []) held.0;
+        }
+inputs_ready library name given (Some (definition.Job j)) p = tt
+inputs_ready library name given (Some (definition.Chain c)) p = tt
+
+read_ready : (name : List ℕ) (given : List (List ℕ × List ℕ)) (r : Read) → SubmitsReady (prepared_of name given r)
+read_ready name given (read.Refused c) = tt
+read_ready name given (read.Library library) = inputs_ready library name given (definition_named name library) refl
+
+-- what is made of a file that is read as this
+pub result_ready : {E : Type 0} (name : List ℕ) (given : List (List ℕ × List ℕ)) (r : Read) (result : Result Prepared E) → IfOk result (λ p. p ≡ prepared_of name given r) → IfOk result (λ p. SubmitsReady p)
+result_ready name given r (Ok p) h = subst SubmitsReady (sym h) (read_ready name given r)
+result_ready name given r (Err e) h = h

@@ -1,0 +1,49 @@
+-- What is written, and the status once it is.
+use Rattle.std.specs.Prelude.{ℕ, List}
+use Rattle.wc_engine.specs.declared.reply.Reply.{Reply}
+use Rattle.wc_engine.specs.declared.status.Cause.{Cause}
+use Rattle.wc_engine.specs.declared.status.Status.{Status}
+use Rattle.wc_engine.specs.declared.status.Status.TheVariants as status
+use Rattle.wc_engine.specs.Texts.{refusal_text}
+
+abbrev pub code_of : Status → ℕ
+code_of status.Ok = 0
+code_of (status.Refused cause) = 1
+code_of status.OutOfMemory = 2
+code_of status.Spent = 3
+code_of status.Resting = 4
+code_of status.DiskFault = 5
+code_of (status.Damaged disk at found) = 6
+code_of status.ReadFault = 7
+code_of status.WriteFault = 8
+code_of (status.Full what count most) = 9
+
+-- the command is refused, and its line says why
+abbrev pub refuses : Cause → Reply
+refuses c = record { status = status.Refused c; text = refusal_text c }
+
+-- the work was done, and the text is printed
+abbrev pub prints : List ℕ → Reply
+prints text = record { status = status.Ok; text = text }
+
+-- a status that a reply has: neither want of memory nor a fault
+abbrev pub IsReplied : Status → Type 0
+IsReplied status.OutOfMemory = ⊥
+IsReplied status.DiskFault = ⊥
+IsReplied status.ReadFault = ⊥
+IsReplied status.WriteFault = ⊥
+IsReplied _ = Unit {0}
+
+-- the work was done, all of it or as much as it could be
+abbrev pub IsDone : Status → Type 0
+IsDone status.Ok = Unit {0}
+IsDone status.Spent = Unit {0}
+IsDone status.Resting = Unit {0}
+IsDone _ = ⊥
+
+-- a refusal, damage or fullness is told
+abbrev pub IsRefused : Status → Type 0
+IsRefused (status.Refused c) = Unit {0}
+IsRefused (status.Damaged disk at found) = Unit {0}
+IsRefused (status.Full what count limit) = Unit {0}
+IsRefused _ = ⊥

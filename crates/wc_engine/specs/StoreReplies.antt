@@ -1,0 +1,82 @@
+-- What is told of a store's refusals, and what is counted.
+use Rattle.std.specs.Prelude.{◌≡◌, ◌⊎◌, ℕ, true, Option, Some, None, Result, Ok, Err}
+use Rattle.wc_io.specs.Counts.{Rises}
+use Rattle.wc_disk.specs.declared.disk.Disk as disk
+use Rattle.wc_core.specs.declared.error.TurnError.{TurnError}
+use Rattle.wc_core.specs.declared.error.TurnError.TheVariants as turn_error
+use Rattle.wc_store.specs.declared.error.StoreError.{StoreError}
+use Rattle.wc_store.specs.declared.error.StoreError.TheVariants as store_error
+use Rattle.wc_store.specs.Held.{Standing, nothing, damage, a_world}
+use Rattle.wc_store.specs.declared.store.Store.{Store}
+use Rattle.wc_store.specs.Stores.{StandsFor}
+use Rattle.wc_engine.specs.declared.reply.Reply.{Reply}
+use Rattle.wc_engine.specs.declared.status.Cause.TheVariants as cause
+use Rattle.wc_engine.specs.declared.storing.Opened.{Opened}
+use Rattle.wc_engine.specs.declared.storing.Opened.TheVariants as opened
+use Rattle.wc_engine.specs.declared.storing.StoreReplyError.{StoreReplyError}
+use Rattle.wc_engine.specs.declared.storing.StoreReplyError.TheVariants.{DiskFault, OutOfMemory}
+use Rattle.wc_engine.specs.Replies.{refuses, IsRefused}
+use Rattle.wc_engine.specs.Stored.{Images, Hold, is_damaged, is_full}
+
+-- what is told of a refusal, if anything is
+abbrev pub store_reply : StoreError → Option Reply
+store_reply store_error.DiskFault = None
+store_reply (store_error.Damaged disk at found) = Some (is_damaged disk at found)
+store_reply (store_error.Full what count limit) = Some (is_full what count limit)
+store_reply store_error.AlreadyThere = Some (refuses cause.StoreExists)
+store_reply store_error.OutOfMemory = None
+
+-- what is told where a submission has no changes, if anything is
+abbrev pub turn_reply : TurnError → Option Reply
+turn_reply turn_error.NotReady = None
+turn_reply (turn_error.Full what count limit) = Some (is_full what count limit)
+turn_reply turn_error.UnknownProcess = None
+turn_reply (turn_error.Ended state) = None
+turn_reply turn_error.UnknownName = None
+turn_reply (turn_error.BadInputs port) = None
+turn_reply turn_error.OutOfMemory = None
+
+-- `DiskFault` comes only where the count of one of the disks rose, and each other answer leaves both counts
+abbrev pub Counts : {T : Type 0} → Result T StoreReplyError → (one one' two two' : ℕ) → Type 0
+Counts (Ok answer) one one' two two' = (one' ≡ one) × (two' ≡ two)
+Counts (Err DiskFault) one one' two two' = Rises one one' ⊎ Rises two two'
+Counts (Err OutOfMemory) one one' two two' = (one' ≡ one) × (two' ≡ two)
+
+-- what is told where the disks hold no world
+abbrev pub TellsAt : Standing → Reply → Type 0
+TellsAt nothing r = r ≡ refuses cause.NoStore
+TellsAt (damage disk at found) r = r ≡ is_damaged disk at found
+TellsAt (a_world w) r = ⊥
+
+-- The disks hold no world, and read as before.
+pub record HasNoWorld (before after : Images) (r : Reply) : Type 0 where
+  pub standing : Standing
+  pub held : Hold before standing
+  pub still : after ≡ before
+  pub tells : TellsAt standing r
+
+-- The store stands for the disks, and holds the world that they held before.
+pub record HasOpened {D : Type 0} (g : disk.Ghosts D) (store : Store) (one two one_new two_new : D) : Type 0 where
+  pub stands : StandsFor g store one_new two_new
+  pub seen_one : g.seen one_new ≡ g.seen one
+  pub seen_two : g.seen two_new ≡ g.seen two
+
+abbrev pub Opens : {D : Type 0} → disk.Ghosts D → (one two one_new two_new : D) → Opened → Type 0
+Opens g one two one_new two_new (opened.Told r) = HasNoWorld (g.seen one, g.seen two) (g.seen one_new, g.seen two_new) r
+Opens g one two one_new two_new (opened.Held store) = HasOpened g store one two one_new two_new
+
+-- a store that was opened is live
+abbrev pub IsHeldLive : Opened → Type 0
+IsHeldLive (opened.Told r) = Unit {0}
+IsHeldLive (opened.Held store) = store.live ≡ true
+
+-- what is told is told with the status of a reply
+abbrev pub IsToldReplied : Opened → Type 0
+IsToldReplied (opened.Told r) = IsRefused r.status
+IsToldReplied (opened.Held store) = Unit {0}
+
+-- no disk failed
+abbrev pub NoDiskFailed : {T : Type 0} → Result T StoreReplyError → Type 0
+NoDiskFailed (Ok answer) = Unit {0}
+NoDiskFailed (Err DiskFault) = ⊥
+NoDiskFailed (Err OutOfMemory) = Unit {0}

@@ -1,0 +1,67 @@
+//! Files that hold libraries.
+
+ghost use Rattle.std.specs.Prelude.{◌≡◌, IfOk};
+ghost use Rattle.std.specs.Str.{is_utf8};
+ghost use Rattle.wc_syntax.specs.Writable.{IsWritable};
+ghost use Rattle.wc_engine.specs.Files.{ReadsLibrary, ReadsText, ReadsBytes, Reads};
+
+use crate::status::Cause;
+use std::alloc::{AllocError, Global};
+use wc_check::{first_finding, rules_are_kept_where_nothing_is_found};
+use wc_parser::{ParseError, parse};
+use wc_syntax::{Checked, Library};
+use wc_value::{Bytes, Duplicate, Text};
+
+/// What a file is read as.
+#[derive(Drop)]
+pub enum Read {
+    /// It holds no checked library, for this cause.
+    Refused(Cause),
+    /// The library that it holds.
+    Library(Checked),
+}
+
+/// What a library is read as.
+fn read_library(alloc: Global, library: Library) -> Result<Read, AllocError>
+    requires { IsWritable library }
+    ensures { IfOk result (λ r. ReadsLibrary library r) }
+{
+    match first_finding(alloc, &library)? {
+        Some(error) => Ok(Read::Refused(Cause::Check(error))),
+        None => {
+            rules_are_kept_where_nothing_is_found();
+            Ok(Read::Library(Checked::of(library)))
+        }
+    }
+}
+
+/// What a text is read as.
+fn read_text(alloc: Global, text: &Text) -> Result<Read, AllocError>
+    ensures { IfOk result (λ r. ReadsText text.now r) }
+{
+    match parse(alloc, text) {
+        Ok(library) => read_library(alloc, library),
+        Err(ParseError::OutOfMemory) => Err(AllocError),
+        Err(error) => Ok(Read::Refused(Cause::Parse(error))),
+    }
+}
+
+/// What a file of this name with these bytes is read as.
+fn read_bytes(alloc: Global, file: &Text, bytes: Bytes) -> Result<Read, AllocError>
+    ensures { IfOk result (λ r. ReadsBytes file.now (is_utf8 bytes) bytes r) }
+{
+    match Text::of(bytes) {
+        Some(text) => read_text(alloc, &text),
+        None => Ok(Read::Refused(Cause::NotUtf8(file.copy()?))),
+    }
+}
+
+/// What the file of this name is read as, where this is its content, none where there is no such file.
+pub fn read_content(alloc: Global, file: &Text, content: Option<Bytes>) -> Result<Read, AllocError>
+    ensures { IfOk result (λ r. Reads file.now content r) }
+{
+    match content {
+        None => Ok(Read::Refused(Cause::NoFile(file.copy()?))),
+        Some(bytes) => read_bytes(alloc, file, bytes),
+    }
+}

@@ -1,6 +1,6 @@
 //! Images that are cut, changed, or gone on with by a batch that doesn't fit.
 
-use crate::images::{NEW, OPEN, SHUT, added_image, joined};
+use crate::images::{NEW, OLD, OPEN, SHUT, added_image, joined};
 use crate::machine::{End, Machine};
 use std::test::Fail;
 
@@ -11,6 +11,30 @@ pub const OLD_FIVE: &[u8] = &[0, 0, 0, 0x0E, 0, 0, 0, 1, 2, 1, 0, 0, 0, 0, 0, 0,
 pub const NEW_FIVE: &[u8] = &[
     1, 0, 0, 0, 0, 0, 0, 0, 0x0E, 0, 0, 0, 1, 2, 1, 0, 0, 0, 0, 0, 0, 0, 5, 0,
 ];
+
+#[test]
+fn an_image_of_version_1_is_cut(rt: HostRuntime) -> Result<(), Fail> {
+    let alloc = rt.alloc();
+    let shut = joined(alloc, &[OLD, SHUT, OLD_FIVE])?;
+    let open = joined(alloc, &[OLD, OPEN, OLD_FIVE])?;
+    assert!(rt; shut.len() == 36);
+    assert!(rt; open.len() == 36);
+    assert_eq!(rt;
+        Machine::new(alloc, &open, &[])?.call("list")?.told(),
+        (End::Ok, "")
+    );
+    for len in 17..37 {
+        let mut machine = Machine::new(alloc, &shut[..len], &[])?;
+        assert_eq!(rt; machine.call("list")?.told(), (End::Ok, ""), "at {len}");
+    }
+    for len in 17..36 {
+        let mut machine = Machine::new(alloc, &open[..len], &[])?;
+        let text = format!(in alloc; "damaged: disk 1 at {len} end\n")?;
+        let told = (End::Damaged(1, len as u64, None), text.as_str());
+        assert_eq!(rt; machine.call("list")?.told(), told, "at {len}");
+    }
+    Ok(())
+}
 
 #[test]
 fn an_image_of_version_2_is_cut(rt: HostRuntime) -> Result<(), Fail> {

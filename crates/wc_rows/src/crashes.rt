@@ -186,44 +186,6 @@ fn a_crash_of_what_only_tells_changes_nothing(rt: HostRuntime) -> Result<(), Fai
 }
 
 #[test]
-fn a_crash_of_the_second_packing_loses_nothing(rt: HostRuntime) -> Result<(), Fail> {
-    let alloc = rt.alloc();
-    for side in [Side::One, Side::Two] {
-        let mut whole = false;
-        for calls in 0..MANY {
-            let mut machine = added(alloc)?;
-            assert_eq!(rt; machine.call("pack")?.told(), (End::Ok, "packed 2\n"));
-            machine.fuse(side, calls);
-            whole = goes_well(alloc, &mut machine, ("pack", "packed 3\n"))?;
-            for (one, two) in PICKS {
-                let mut left = machine.crashed(one, two)?;
-                assert_eq!(rt;
-                    left.call("tree 3")?.told(),
-                    TREE,
-                    "{side:?} {calls} {one:?} {two:?}"
-                );
-                let packed = (End::Ok, next_packed(&left));
-                assert_eq!(rt;
-                    left.call("pack")?.told(),
-                    packed,
-                    "{side:?} {calls} {one:?} {two:?}"
-                );
-                assert_eq!(rt;
-                    left.call("tree 3")?.told(),
-                    TREE,
-                    "{side:?} {calls} {one:?} {two:?}"
-                );
-            }
-            if whole {
-                break;
-            }
-        }
-        assert!(rt; whole, "{side:?}");
-    }
-    Ok(())
-}
-
-#[test]
 fn one_fault_without_a_crash_leads_to_the_same_end(rt: HostRuntime) -> Result<(), Fail> {
     let alloc = rt.alloc();
     let empty = Machine::empty(alloc)?;

@@ -79,11 +79,6 @@ const SNAPSHOT: [&[u8]; 13] = [
     SHUT,
 ];
 
-/// What stands in front of the two payloads: in version 1 the length, in version 2 a kind and the length.
-const OLD_FIRST: &[u8] = &[0, 0, 0, 0x9D];
-
-const OLD_NEXT: &[u8] = &[0, 0, 0, 0x38];
-
 const NEW_FIRST: &[u8] = &[1, 0, 0, 0, 0, 0, 0, 0, 0x9D];
 
 const NEW_NEXT: &[u8] = &[1, 0, 0, 0, 0, 0, 0, 0, 0x38];
@@ -136,67 +131,6 @@ fn packing_writes_these_bytes(rt: HostRuntime) -> Result<(), Fail> {
     assert_eq!(rt; machine.call("pack")?.told(), (End::Ok, "packed 3\n"));
     assert_eq!(rt; machine.one(), packed(alloc, THIRD)?.as_slice());
     assert_eq!(rt; machine.two(), packed(alloc, SECOND)?.as_slice());
-    Ok(())
-}
-
-/// The turns of processes 3 and 6 behind those of two submissions, which make the data 7 and 8.
-const BOTH: [&[u8]; 12] = [
-    NEW_NEXT,
-    &[0, 0, 0, 3],
-    FIVE,
-    b"\x04\x00\x00\x00\x03\x00\x00\x00\x07\x03\x00\x00\x00\x03sum",
-    FINISHED,
-    OPEN,
-    NEW_NEXT,
-    &[0, 0, 0, 3],
-    FIVE,
-    b"\x04\x00\x00\x00\x06\x00\x00\x00\x08\x03\x00\x00\x00\x03sum",
-    &[
-        5, 0, 0, 0, 6, 4, 0, 0, 0, 0, 0, 0, 0, 0, 0, 0, 0, 0, 0, 0, 0, 0, 0, 0, 3,
-    ],
-    SHUT,
-];
-
-#[test]
-fn the_lowest_process_takes_its_turn_first(rt: HostRuntime) -> Result<(), Fail> {
-    let alloc = rt.alloc();
-    let mut machine = Machine::empty(alloc)?;
-    assert_eq!(rt; machine.call("init")?.end, End::Ok);
-    for text in ["submitted 3\n", "submitted 6\n"] {
-        let called = machine.call("submit add.wcf add x=2 y=3")?;
-        assert_eq!(rt; called.told(), (End::Ok, text));
-    }
-    let told = (End::Ok, "committed 2 live 0 paused 0\n");
-    assert_eq!(rt; machine.call("run")?.told(), told);
-    assert!(rt; machine.one().ends_with(&joined(alloc, &BOTH)?));
-    Ok(())
-}
-
-#[test]
-fn a_store_of_version_1_is_gone_on_with(rt: HostRuntime) -> Result<(), Fail> {
-    let alloc = rt.alloc();
-    let mut machine = Machine::new(alloc, &joined(alloc, &[OLD, SHUT])?, &[])?;
-    for (line, text) in [
-        ("list", ""),
-        ("submit add.wcf add x=2 y=3", "submitted 3\n"),
-        ("list", "3 calcfunction add created\n"),
-        ("run", "committed 1 live 0 paused 0\n"),
-        ("list", "3 calcfunction add finished 0\n"),
-        ("tree 3", "finished 0\nsum int 5\n"),
-    ] {
-        assert_eq!(rt; machine.call(line)?.told(), (End::Ok, text), "at {line}");
-    }
-    let mut image = turned(alloc, OLD, OLD_FIRST, OLD_NEXT)?;
-    image.extend_from_slice(SHUT)?;
-    assert_eq!(rt; machine.one(), image.as_slice());
-    assert!(rt; machine.two().is_empty());
-    assert_eq!(rt; machine.call("pack")?.told(), (End::Ok, "packed 2\n"));
-    assert_eq!(rt; machine.one(), image.as_slice());
-    assert_eq!(rt; machine.two(), packed(alloc, SECOND)?.as_slice());
-    assert_eq!(rt;
-        machine.call("tree 3")?.told(),
-        (End::Ok, "finished 0\nsum int 5\n")
-    );
     Ok(())
 }
 
@@ -302,31 +236,5 @@ fn the_last_generation_is_packed(rt: HostRuntime) -> Result<(), Fail> {
     let what = End::Full(What::Generations, 4_000_000_001, 4_000_000_000);
     let text = "full: generations 4000000001 of 4000000000\n";
     assert_eq!(rt; machine.call("pack")?.told(), (what, text));
-    Ok(())
-}
-
-#[test]
-fn batches_have_their_limit(rt: HostRuntime) -> Result<(), Fail> {
-    let alloc = rt.alloc();
-    let mut image = SNAPSHOT_FIVE.to_vec(alloc)?;
-    assert!(rt; image.len() == 46);
-    // 3999999999 batches.
-    for (at, byte) in [(41, 0xEE), (42, 0x6B), (43, 0x27), (44, 0xFF)] {
-        image[at] = byte;
-    }
-    let mut machine = Machine::new(alloc, &[], &image)?;
-    let first = machine.call("submit add.wcf add x=2 y=3")?;
-    assert_eq!(rt; first.told(), (End::Ok, "submitted 4\n"));
-    let before = machine.images()?;
-    let what = End::Full(What::Batches, 4_000_000_001, 4_000_000_000);
-    for line in ["submit add.wcf add x=2 y=3", "run"] {
-        let text = "full: batches 4000000001 of 4000000000\n";
-        assert_eq!(rt; machine.call(line)?.told(), (what, text), "at {line}");
-        assert_eq!(rt; machine.images()?, before, "at {line}");
-    }
-    assert_eq!(rt;
-        machine.call("list")?.told(),
-        (End::Ok, "4 calcfunction add created\n")
-    );
     Ok(())
 }

@@ -25,8 +25,6 @@ mod limits;
 #[cfg(test)]
 mod machine;
 #[cfg(test)]
-mod pairs;
-#[cfg(test)]
 mod refusals;
 #[cfg(test)]
 mod session;

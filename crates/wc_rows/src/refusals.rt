@@ -3,64 +3,6 @@
 use crate::machine::{End, Machine, Row, added};
 use std::test::Fail;
 
-/// What the words and the files are refused for, whatever the disks hold.
-const OF_WORDS: [Row; 22] = [
-    ("submit fan.wcf fan a=1", End::Later, "refused: later fan\n"),
-    (
-        "submit fan.wcf double x=1",
-        End::Later,
-        "refused: later double\n",
-    ),
-    (
-        "submit eos.wcf eos v=34",
-        End::Later,
-        "refused: later eos\n",
-    ),
-    (
-        "submit add.wcf sub x=2 y=3",
-        End::Name,
-        "refused: unknown name sub\n",
-    ),
-    (
-        "submit add.wcf add x=2",
-        End::BadInput,
-        "refused: bad input y\n",
-    ),
-    (
-        "submit add.wcf add x=2 y=3 y=3",
-        End::BadInput,
-        "refused: bad input y\n",
-    ),
-    (
-        "submit add.wcf add x=9223372036854775808 y=1",
-        End::BadInput,
-        "refused: bad input x\n",
-    ),
-    (
-        "submit add.wcf add x=2 y=3 a=1",
-        End::BadInput,
-        "refused: bad input a\n",
-    ),
-    (
-        "submit no.wcf add x=2 y=3",
-        End::NoFile,
-        "refused: no file no.wcf\n",
-    ),
-    ("submit add.wcf", End::Words, "refused: words\n"),
-    ("submit add.wcf add x", End::Words, "refused: words\n"),
-    ("init now", End::Words, "refused: words\n"),
-    ("list 3", End::Words, "refused: words\n"),
-    ("run 3", End::Words, "refused: words\n"),
-    ("pack 2", End::Words, "refused: words\n"),
-    ("tree", End::Words, "refused: words\n"),
-    ("tree 0", End::Words, "refused: words\n"),
-    ("tree 4294967296", End::Words, "refused: words\n"),
-    ("tree -3", End::Words, "refused: words\n"),
-    ("tree +3", End::Words, "refused: words\n"),
-    ("tree 3 3", End::Words, "refused: words\n"),
-    ("tree three", End::Words, "refused: words\n"),
-];
-
 /// What each command of a store is refused for where there is none.
 const OF_NO_STORE: [Row; 5] = [
     ("list", End::NoStore, "refused: no store\n"),
@@ -134,24 +76,6 @@ fn a_store_refuses_and_stays(rt: HostRuntime) -> Result<(), Fail> {
         let called = machine.call(line)?;
         assert_eq!(rt; called.told(), (end, text), "at {line}");
         assert_eq!(rt; machine.images()?, before, "at {line}");
-    }
-    Ok(())
-}
-
-#[test]
-fn words_are_judged_before_the_store(rt: HostRuntime) -> Result<(), Fail> {
-    let alloc = rt.alloc();
-    for mut machine in [
-        Machine::empty(alloc)?,
-        added(alloc)?,
-        Machine::new(alloc, &DAMAGED, &[])?,
-    ] {
-        let before = machine.images()?;
-        for (line, end, text) in OF_WORDS {
-            let called = machine.call(line)?;
-            assert_eq!(rt; called.told(), (end, text), "at {line}");
-        }
-        assert_eq!(rt; machine.images()?, before);
     }
     Ok(())
 }

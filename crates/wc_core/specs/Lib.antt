@@ -1,5 +1,4 @@
 pub mod Ready
-pub mod Ranges
 pub mod Ended
 pub mod Submitted
 pub mod Refusals

@@ -13,7 +13,7 @@ ghost use Rattle.wc_machine.specs.Continues.{Continues};
 ghost use Rattle.wc_machine.specs.Laws.{OnlyFunctions, IsPlainFunction};
 ghost use Rattle.wc_machine.specs.Sound.{IsSound};
 ghost use Rattle.wc_machine.specs.Submitting.{data_change, input_link, links_from, submitted_number, submission, Submits};
-ghost use Rattle.wc_core.specs.Ranges.{AreLimits};
+ghost use Rattle.wc_state.specs.Ranges.{AreLimits};
 ghost use Rattle.wc_core.specs.Refusals.{HasRoom, NoneHolds, RefusesSubmission, RefusesName};
 ghost use Rattle.wc_core.specs.Submitted.{root, Takes};
 

@@ -11,7 +11,7 @@ ghost use Rattle.wc_machine.specs.Laws.{OnlyFunctions};
 ghost use Rattle.wc_machine.specs.Machine.{Leads, turn};
 ghost use Rattle.wc_machine.specs.Sound.{IsSound};
 ghost use Rattle.wc_core.specs.Ended.{EndsFunction};
-ghost use Rattle.wc_core.specs.Ranges.{AreLimits};
+ghost use Rattle.wc_state.specs.Ranges.{AreLimits};
 ghost use Rattle.wc_core.specs.Refusals.{HasRoom, NoneHolds, RefusesTurn};
 
 use crate::ending::ends;

@@ -17,7 +17,7 @@ use Rattle.wc_machine.specs.Continues.{Continues}
 use Rattle.wc_machine.specs.Laws.{OnlyFunctions, IsPlainFunction}
 use Rattle.wc_machine.specs.Sound.{IsSound}
 use Rattle.wc_machine.specs.Submitting.{data_change, links_from, Submits, submitted_number}
-use Rattle.wc_core.specs.Ranges.{AreLimits}
+use Rattle.wc_state.specs.Ranges.{AreLimits}
 use Rattle.wc_core.specs.Refusals.{HasRoom, RefusesSubmission}
 use Rattle.wc_core.specs.declared.error.TurnError.{TurnError}
 use Rattle.wc_core.specs.declared.error.TurnError.TheVariants as turn_error
@@ -40,8 +40,8 @@ use Rattle.wc_engine.proofs.Doing.{journal_held, goes_on_journal, some_is}
 
 -- ---- what a submission asks
 
-pub core_limits : AreLimits usual_limits
-core_limits = record { some_nodes = lit≤ tt; few_nodes = lit≤ tt; some_bytes = lit≤ tt; few_bytes = lit≤ tt; later = lit≤ tt; soon = lit≤ tt }
+pub usual_ranges : AreLimits usual_limits
+usual_ranges = record { some_nodes = lit≤ tt; few_nodes = lit≤ tt; some_bytes = lit≤ tt; few_bytes = lit≤ tt; later = lit≤ tt; soon = lit≤ tt }
 
 pub all_shallow : (is : Values) → AllByRecursion IsWithinLimits is → All (λ i. depth i.1 ≤ 32) is
 all_shallow [] h = All-nil (λ i. depth i.1 ≤ 32)

@@ -24,7 +24,8 @@ missing_bare [] inputs = refl
 missing_bare (p ∷ ps) inputs =
     λ i. if not p.optional && is_none (lookup p.name.text inputs) then p.name.text ∷ missing_bare ps inputs i else missing_bare ps inputs i
 
-bad_bare : (ports : List Port) (inputs : Values) → bad_input (map bare_port ports) inputs ≡ bad_input ports inputs
+-- offsets play no part in which input is bad
+pub bad_bare : (ports : List Port) (inputs : Values) → bad_input (map bare_port ports) inputs ≡ bad_input ports inputs
 bad_bare ports inputs = λ i. least (wrong_bare ports inputs i ++ missing_bare ports inputs i)
 
 -- the least bad port of a definition

@@ -378,7 +378,8 @@ bracketed : {P : ℕ → Type 0} {a : Tokens} {v : Expr} → ((n : ℕ) → P (s
 bracketed k h = nested (λ n p. right_makes (right_makes (left_makes p))) (positive k h)
 
 -- the alternatives behind the first, where paths begin
-behind_four : {N R1 R2 R3 R4 R : Rule Expr} {a : Tokens} {P : Expr → Type 0} → Makes R a P → Makes (Either N (Either R1 (Either R2 (Either R3 (Either R4 R))))) a P
+behind_four : {Before First Second Third Fourth Last : Rule Expr} {a : Tokens} {P : Expr → Type 0} → Makes Last a P
+    → Makes (Either Before (Either First (Either Second (Either Third (Either Fourth Last))))) a P
 behind_four h = right_makes (right_makes (right_makes (right_makes (right_makes h))))
 
 items_map : {X : Type 0} (first : Bool) (g : X → Tokens) (xs : List X) → separated first (λ t. t) (map g xs) ≡ separated first g xs

@@ -2,7 +2,7 @@
 
 ghost use Rattle.std.specs.Prelude.{◌≡◌, true, IsTrue, IfOk, IfErr};
 ghost use Rattle.wc_machine.specs.Laws.{OnlyFunctions};
-ghost use Rattle.wc_core.specs.Ranges.{AreLimits};
+ghost use Rattle.wc_state.specs.Ranges.{AreLimits};
 ghost use Rattle.wc_store.specs.Stores.{StandsFor};
 ghost use Rattle.wc_runner.specs.Leaves.{LeavesWorlds, SomeTurns};
 ghost use Rattle.wc_runner.specs.Refusals.{Counts, RefusesRun, is_live_after};

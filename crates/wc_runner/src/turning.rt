@@ -2,7 +2,7 @@
 
 ghost use Rattle.std.specs.Prelude.{◌≡◌, ◌≤◌, ◌+◌, true, length, IsTrue, IfOk, IfErr, OnOk, OnErr};
 ghost use Rattle.wc_machine.specs.Laws.{OnlyFunctions};
-ghost use Rattle.wc_core.specs.Ranges.{AreLimits};
+ghost use Rattle.wc_state.specs.Ranges.{AreLimits};
 ghost use Rattle.wc_core.specs.Ready.{is_ready_at};
 ghost use Rattle.wc_store.specs.Refusals.{byte_limit};
 ghost use Rattle.wc_store.specs.Stores.{StandsFor};

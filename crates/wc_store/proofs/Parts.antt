@@ -157,21 +157,6 @@ module _ {D : Type 0} (g : disk.Ghosts D) (at_now : (d : D) (image : List ℕ) �
     since_two = λ t b le left. ⊎_elim (λ was. inl was) (λ beside. inr (λ a there. weaker a b (beside a there))) (parts.since_two t b le left);
   }
 
-  -- each image since entry is one that a crash at entry might have left, or is as P says beside each of the other disk since the middle
-  pub since_entry : (one two one_new two_new : D) (P : List ℕ → List ℕ → Type 0) (parts : InTwoParts g one two one_new two_new P) (a : List ℕ) → g.left_since one_new (g.moment one) a
-      → g.may_leave one a ⊎ ((b : List ℕ) → g.left_since two_new (g.moment parts.two_between) b → P a b)
-  since_entry one two one_new two_new P parts a left =
-      ⊎_elim (λ was. inl (parts.first_one.each a was)) (λ beside. inr beside) (parts.since_one (g.moment one) a parts.first_one.later left)
-
-  -- the disks read as what a store stands for
-  pub loaded_parts : (store : Store) (one two one_new two_new : D) → InTwoParts g one two one_new two_new (AreImages (g.seen one) (g.seen two))
-      → g.seen one_new ≡ g.seen one → g.seen two_new ≡ g.seen two → StandsFor g store one_new two_new
-      → InTwoParts g one two one_new two_new (λ a b. IsHeld a b (a_world store.world.world))
-  loaded_parts store one two one_new two_new parts same_one same_two stands =
-      weaker_parts one two one_new two_new _ _ parts (λ a b are.
-      subst (λ (c : List ℕ). IsHeld c b (a_world store.world.world)) (same_one ∙ sym are.0)
-      (subst (λ (c : List ℕ). IsHeld (g.seen one_new) c (a_world store.world.world)) (same_two ∙ sym are.1) stands.held))
-
   module _ (counts : (d : D) (t : ℕ) (image : List ℕ) → t ≤ g.moment d → g.may_leave d image → g.left_since d t image) where
     -- a call that only reads has its middle at its end
     pub one_part : (one two one_new two_new : D) → InOnePart g one two one_new two_new → InTwoParts g one two one_new two_new (λ a b. g.may_leave one a × g.may_leave two b)

@@ -126,10 +126,3 @@ IsUnchanged (Err OutOfMemory) old new = new ≡ old
 abbrev pub is_live_after : {T : Type 0} → Result T StoreError → Bool → Bool
 is_live_after (Err DiskFault) live = false
 is_live_after _ live = live
-
--- Limits within their ranges.
-pub record AreLimits (limits : Limits) : Type 0 where
-  pub some_nodes : 1 ≤ limits.max_nodes
-  pub nodes : limits.max_nodes ≤ 8000000
-  pub some_bytes : 1024 ≤ limits.max_bytes
-  pub bytes : limits.max_bytes ≤ 2147483648

@@ -9,7 +9,8 @@ ghost use Rattle.wc_store.specs.Places.{number_of, opposite};
 ghost use Rattle.wc_store.specs.Held.{is_plain};
 ghost use Rattle.wc_store.specs.Preparing.{HasGeneration};
 ghost use Rattle.wc_store.specs.Stores.{StandsFor, CommitLeaves, PackLeaves, other};
-ghost use Rattle.wc_store.specs.Refusals.{Counts, RefusesCommit, RefusesPack, IsUnchanged, AreLimits, is_live_after, byte_limit, committed_bytes};
+ghost use Rattle.wc_state.specs.Ranges.{AreLimits};
+ghost use Rattle.wc_store.specs.Refusals.{Counts, RefusesCommit, RefusesPack, IsUnchanged, is_live_after, byte_limit, committed_bytes};
 
 use crate::error::StoreError;
 use crate::placing::{append_at, replace_beside};

@@ -4,7 +4,8 @@ ghost use Rattle.wc_world.specs.Applied.{applied};
 ghost use Rattle.wc_world.specs.Accepted.{IsAccepted, IsReached};
 ghost use Rattle.wc_world.specs.Room.{HasRoom, needed};
 ghost use Rattle.wc_world.specs.Snapshot.{snapshot};
-ghost use Rattle.wc_store.specs.Refusals.{AreLimits, byte_limit};
+ghost use Rattle.wc_state.specs.Ranges.{AreLimits};
+ghost use Rattle.wc_store.specs.Refusals.{byte_limit};
 ghost use Rattle.wc_store.specs.Preparing.{IsBatchOf, RefusesChanges, RefusesSnapshot, HasGeneration};
 
 use crate::error::StoreError;

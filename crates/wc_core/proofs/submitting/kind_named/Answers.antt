@@ -2,7 +2,7 @@ use Rattle.std.proofs.Common.{List, Some, ap, sym, ◌∙◌}
 use Rattle.wc_syntax.specs.Bare.{bare_definition}
 use Rattle.wc_syntax.specs.declared.definition.Port.{Port}
 use Rattle.wc_meaning.specs.Inputs.{bad_input}
-use Rattle.wc_core.proofs.Bare.{named_in, bad_bare}
+use Rattle.wc_core.proofs.Bare.{named_in, same_bad}
 use Rattle.wc_core.proofs.submitting.kind_named.Goals as goal
 
 pub returns-in_default-clause-refused : goal.returns-in_default-clause-refused
@@ -16,7 +16,7 @@ returns-in_ok-copy-in-Some-find_bad_input-clause-refused c =
     let inputs = c.args.inputs.now in (
       bare_definition d,
       named_in c.args.name.now c.library.result.now c.args.library.now _ c.library.ensures.same (sym c.in-Some.ensures),
-      bad_bare d inputs ∙ ap (λ (ps : List Port). bad_input ps inputs) (sym (c.as_slice.ensures ∙ ap (λ h. h.inputs) c.head.ensures))
+      same_bad d inputs ∙ ap (λ (ps : List Port). bad_input ps inputs) (sym (c.as_slice.ensures ∙ ap (λ h. h.inputs) c.head.ensures))
           ∙ sym c.in-Some-find_bad_input.ensures ∙ ap Some (sym c.in_ok-copy-in-Some-find_bad_input.ensures),
     )
 
@@ -27,7 +27,7 @@ returns-in-None-clause-ok c =
     record {
       definition = bare_definition d;
       is_there = named_in c.args.name.now c.library.result.now c.args.library.now _ c.library.ensures.same (sym c.in-Some.ensures);
-      takes = bad_bare d inputs ∙ ap (λ (ps : List Port). bad_input ps inputs) (sym (c.as_slice.ensures ∙ ap (λ h. h.inputs) c.head.ensures))
+      takes = same_bad d inputs ∙ ap (λ (ps : List Port). bad_input ps inputs) (sym (c.as_slice.ensures ∙ ap (λ h. h.inputs) c.head.ensures))
           ∙ sym c.in-None.ensures;
       is_kind = c.kind_of.ensures;
     }

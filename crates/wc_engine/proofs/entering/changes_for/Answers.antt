@@ -1,17 +1,17 @@
 use Rattle.std.proofs.Common.{List, ℕ, [], IfOk, IfErr, ap, sym, subst}
-use Rattle.wc_core.specs.Ranges.{AreLimits}
+use Rattle.wc_state.specs.Ranges.{AreLimits}
 use Rattle.wc_core.specs.Refusals.{HasRoom, RefusesSubmission}
 use Rattle.wc_machine.specs.Laws.{IsPlainFunction}
 use Rattle.wc_machine.specs.Submitting.{Submits}
 use Rattle.wc_state.specs.declared.record.Limits.{Limits}
 use Rattle.wc_world.specs.Applied.{applied}
 use Rattle.wc_world.specs.Fits.{names_ascend}
-use Rattle.wc_engine.proofs.Entries.{core_limits, all_shallow, plain_function, result_plain, result_keeps}
+use Rattle.wc_engine.proofs.Entries.{usual_ranges, all_shallow, plain_function, result_plain, result_keeps}
 use Rattle.wc_engine.proofs.entering.changes_for.Goals as goal
 
 pub submit_changes-requires : goal.submit_changes-requires
 submit_changes-requires c = record {
-  limits = subst AreLimits (sym c.requires.limits) core_limits;
+  limits = subst AreLimits (sym c.requires.limits) usual_ranges;
   ascending = ap names_ascend c.new-caching.ensures;
   shallow = all_shallow c.args.submission.inputs c.requires.ready.within;
 }

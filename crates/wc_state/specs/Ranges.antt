@@ -2,7 +2,7 @@
 use Rattle.std.specs.Prelude.{◌≤◌}
 use Rattle.wc_state.specs.declared.record.Limits.{Limits}
 
--- each limit is within its range
+-- each limit is within its range (nodes and bytes by count, `poll_ms` in milliseconds)
 pub record AreLimits (l : Limits) : Type 0 where
   pub some_nodes : 1 ≤ l.max_nodes
   pub few_nodes : l.max_nodes ≤ 8000000

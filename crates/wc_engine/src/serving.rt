@@ -39,13 +39,12 @@ fn finish<W: Sink>(sink: &mut W, reply: Reply) -> Status
 /// Does what the words say, with the files of the shelf and a store on two disks, and writes one text to the sink.
 ///
 /// What comes first of these is the status, where the shelf and the disks tell and neither memory runs out nor a file, a disk or
-/// the sink fails: the words are
-/// no command; the file isn't there, isn't UTF-8, stands for no library, or its library breaks a rule; the library doesn't
-/// define the name; for `submit`: the definition is none that it takes yet; a port is given badly, of which the least is named; for
-/// `dry`: no result is known of a job, or the fuel doesn't suffice; for a command of a store: a disk is damaged; there is no
-/// store, or for `init` there is one; there is no such process; for `run`, a process is there that it doesn't run yet; the
-/// store would be too full. Else the text of the command is written, also where `run` took as many turns as it may, or where
-/// each live process rests.
+/// the sink fails: the words are no command; the file isn't there, isn't UTF-8, stands for no library, or its library breaks a
+/// rule; the library doesn't define the name; for `submit`: the definition is none that it takes yet; a port is given badly, of
+/// which the least is named; for `dry`: no result is known of a job, or the fuel doesn't suffice; for a command of a store: a disk
+/// is damaged; there is no store, or for `init` there is one; there is no such process; for `run`, a process is there that it
+/// doesn't run yet; the store would be too full. Else the text of the command is written, also where `run` took as many turns as it
+/// may, or where each live process rests.
 pub fn serve<R: Shelf, W: Sink, D: Disk>(
     alloc: Global,
     words: &Words,

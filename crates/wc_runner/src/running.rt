@@ -1,6 +1,6 @@
 //! Turns one after another.
 
-ghost use Rattle.std.specs.Prelude.{◌≡◌, true, IsTrue, IfOk, IfErr};
+ghost use Rattle.std.specs.Prelude.{◌≡◌, ◌<◌, ◌+◌, true, IsTrue, IfOk, IfErr, OnErr};
 ghost use Rattle.wc_machine.specs.Laws.{OnlyFunctions};
 ghost use Rattle.wc_state.specs.Ranges.{AreLimits};
 ghost use Rattle.wc_store.specs.Stores.{StandsFor};
@@ -42,6 +42,8 @@ pub fn run<D: Disk>(
     requires functions { OnlyFunctions store.old.world.world }
     ensures takes { TakesTurns limits.now.poll_ms turns store.old.world.world store.new.world.world }
     ensures ends { IfOk result (EndsAs limits.now.poll_ms turns store.old.world.world store.new.world.world) }
+    // A run breaks off before it has taken as many turns as are given, each of which is one batch.
+    ensures early { OnErr result (store.new.world.world.batches < store.old.world.world.batches + turns) }
     ensures fits { FitsAfter limits.now store.old.world.world store.new }
     ensures functions { OnlyFunctions store.new.world.world }
     ensures live { store.new.live ≡ is_live_after result }

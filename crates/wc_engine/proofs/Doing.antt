@@ -19,24 +19,11 @@ use Rattle.wc_store.specs.Stores.{StandsFor, other}
 use Rattle.wc_report.specs.Lines.{initialised_text, packed_text}
 use Rattle.wc_engine.specs.declared.reply.Reply.{Reply}
 use Rattle.wc_engine.specs.declared.status.Cause.TheVariants as cause
-use Rattle.wc_engine.specs.declared.status.Status.{Status}
-use Rattle.wc_engine.specs.declared.status.Status.TheVariants as status
 use Rattle.wc_engine.specs.Owed.{visit, Does}
-use Rattle.wc_engine.specs.Replies.{refuses, prints, IsReplied, IsRefused}
+use Rattle.wc_engine.specs.Replies.{refuses, prints}
+use Rattle.wc_engine.specs.Shapes.{MayInit}
 use Rattle.wc_engine.specs.Stored.{Images, Hold, HasJournal, GoesOn, is_damaged, is_full, Inits, AtStore, OnStore, Packs}
 use Rattle.wc_engine.specs.StoreReplies.{store_reply, TellsAt, HasNoWorld, HasOpened}
-
-pub refused_replied : (s : Status) → IsRefused s → IsReplied s
-refused_replied status.Ok h = absurd h
-refused_replied (status.Refused c) h = tt
-refused_replied status.OutOfMemory h = absurd h
-refused_replied status.Spent h = absurd h
-refused_replied status.Resting h = absurd h
-refused_replied status.DiskFault h = absurd h
-refused_replied (status.Damaged disk at found) h = tt
-refused_replied status.ReadFault h = absurd h
-refused_replied status.WriteFault h = absurd h
-refused_replied (status.Full what count limit) h = tt
 
 pub some_is : (r s : Reply) → Some r ≡ Some s → r ≡ s
 some_is r s h = cc
@@ -74,14 +61,14 @@ module _ {D : Type 0} (g : disk.Ghosts D) where
       (a_world store.world.world, held_before store one two one_mid two_mid o, subst (λ (b : Images). does b store.world.world after r) same done)
 
   -- what was done on a store that was opened
-  pub goes_does : {E : Type 0} (does : Images → World → Images → Reply → Type 0) (store : Store) (one two one_mid two_mid one_new two_new : D) (result : Result Reply E)
+  pub goes_does : {E : Type 0} (may : Reply → Type 0) (does : Images → World → Images → Reply → Type 0) (store : Store) (one two one_mid two_mid one_new two_new : D) (result : Result Reply E)
       → (IsTrue (g.tells one) → IsTrue (g.tells two) → HasOpened g store one two one_mid two_mid)
-      → g.tells one_mid ≡ g.tells one → g.tells two_mid ≡ g.tells two → IfOk result (λ r. IsReplied r.status)
+      → g.tells one_mid ≡ g.tells one → g.tells two_mid ≡ g.tells two → IfOk result (λ r. may r)
       → IfOk result (λ r. IsTrue (g.tells one_mid) → IsTrue (g.tells two_mid) → does (g.seen one_mid, g.seen two_mid) store.world.world (g.seen one_new, g.seen two_new) r)
-      → IfOk result (λ r. Does (OnStore does) (visit g one two one_new two_new) r)
-  goes_does does store one two one_mid two_mid one_new two_new (Err e) o tells tells_too replied done = done
-  goes_does does store one two one_mid two_mid one_new two_new (Ok r) o tells tells_too replied done = (
-    replied,
+      → IfOk result (λ r. Does may (OnStore does) (visit g one two one_new two_new) r)
+  goes_does may does store one two one_mid two_mid one_new two_new (Err e) o tells tells_too shape done = done
+  goes_does may does store one two one_mid two_mid one_new two_new (Ok r) o tells tells_too shape done = (
+    shape,
     λ told told_too.
         on_world does store one two one_mid two_mid (g.seen one_new, g.seen two_new) r (o told told_too)
         (done (subst (λ (b : Bool). IsTrue b) (sym tells) told) (subst (λ (b : Bool). IsTrue b) (sym tells_too) told_too)),
@@ -163,9 +150,9 @@ module _ {D : Type 0} (g : disk.Ghosts D) where
   -- ---- init
 
   pub has_begun : (store : Store) (one two one_new two_new : D) (r : Reply) → IsHeld (g.seen one) (g.seen two) nothing → StandsFor g store one_new two_new → store.world.world ≡ empty
-      → (store.place ≡ One) × (store.journal.generation ≡ 1) × (store.journal.version ≡ 2) → r ≡ prints initialised_text
+      → (store.place ≡ One) × (store.journal.generation ≡ 1) × (store.journal.version ≡ 2) → g.seen two_new ≡ g.seen two → r ≡ prints initialised_text
       → Inits (g.seen one, g.seen two) (g.seen one_new, g.seen two_new) r
-  has_begun store one two one_new two_new r none stands bare made reply = (
+  has_begun store one two one_new two_new r none stands bare made rest reply = (
     nothing,
     none,
     (
@@ -177,6 +164,7 @@ module _ {D : Type 0} (g : disk.Ghosts D) where
         version = made.2;
         generation = made.1;
       },
+      rest,
       reply,
     ),
   )
@@ -184,19 +172,19 @@ module _ {D : Type 0} (g : disk.Ghosts D) where
   pub refused_init : {E : Type 0} (e : StoreError) (one two one_new two_new : D) (result : Result Reply E)
       → RefusesInit (IsTrue (g.tells one) × IsTrue (g.tells two)) (IsHeld (g.seen one) (g.seen two)) e
       → IsUnchanged {T = Store} (Err e) (g.seen one) (g.seen one_new) → g.seen two_new ≡ g.seen two
-      → IfOk result (λ r. store_reply e ≡ Some r) → IfOk result (λ r. IsRefused r.status) → IfOk result (λ r. Does Inits (visit g one two one_new two_new) r)
-  refused_init e one two one_new two_new (Err x) refused same same_too reply replied = reply
-  refused_init error.DiskFault one two one_new two_new (Ok r) refused same same_too reply replied = absurd (cc)
-  refused_init (error.Damaged disk at found) one two one_new two_new (Ok r) refused same same_too reply replied = (
-    refused_replied r.status replied,
+      → IfOk result (λ r. store_reply e ≡ Some r) → IfOk result (λ r. Does MayInit Inits (visit g one two one_new two_new) r)
+  refused_init e one two one_new two_new (Err x) refused same same_too reply = reply
+  refused_init error.DiskFault one two one_new two_new (Ok r) refused same same_too reply = absurd (cc)
+  refused_init (error.Damaged disk at found) one two one_new two_new (Ok r) refused same same_too reply = (
+    inr (inr (disk, at, found, some_is r (is_damaged disk at found) (sym reply))),
     λ told told_too.
         (damage disk at found, refused (told, told_too), ((λ i. (same i, same_too i)), some_is r (is_damaged disk at found) (sym reply))),
   )
-  refused_init (error.Full what count limit) one two one_new two_new (Ok r) refused same same_too reply replied = absurd refused
-  refused_init error.AlreadyThere one two one_new two_new (Ok r) refused same same_too reply replied = (
-    refused_replied r.status replied,
+  refused_init (error.Full what count limit) one two one_new two_new (Ok r) refused same same_too reply = absurd refused
+  refused_init error.AlreadyThere one two one_new two_new (Ok r) refused same same_too reply = (
+    inr (inl (some_is r (refuses cause.StoreExists) (sym reply))),
     λ told told_too.
         let h = refused (told, told_too) in
         (a_world h.0, h.1, ((λ i. (same i, same_too i)), some_is r (refuses cause.StoreExists) (sym reply))),
   )
-  refused_init error.OutOfMemory one two one_new two_new (Ok r) refused same same_too reply replied = absurd (cc)
+  refused_init error.OutOfMemory one two one_new two_new (Ok r) refused same same_too reply = absurd (cc)

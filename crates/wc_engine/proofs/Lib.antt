@@ -9,6 +9,8 @@ pub mod Means
 pub mod Once
 pub mod OnceStored
 pub mod Replied
+pub mod Shaping
 pub mod Submitted
 pub mod Turns
+pub mod Unwriting
 pub mod Valid

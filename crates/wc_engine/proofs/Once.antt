@@ -16,6 +16,7 @@ use Rattle.wc_engine.specs.Files.{read_found, ReadsLibrary, ReadsParsed, ReadsTe
 use Rattle.wc_engine.specs.declared.submission.Prepared.TheVariants as prepared
 use Rattle.wc_engine.specs.Entering.{Enters}
 use Rattle.wc_engine.specs.Owed.{Visit, owed_check, owed_dry, Does, OwedPrepared, IsCertain, IsOfFiles, OwedCommand, IsOwed}
+use Rattle.wc_engine.specs.Shapes.{MayInit, MayList, MayShow, MaySubmit, MayPack}
 use Rattle.wc_engine.specs.Stored.{Images, Inits, OnStore, Lists, Shows, Packs}
 use Rattle.wc_engine.specs.Submits.{prepared_of, Prepares, PreparesFrom}
 use Rattle.wc_engine.proofs.OnceStored.{one_init, one_on, one_list, one_tree, one_pack, one_entry}
@@ -63,9 +64,9 @@ one_follows : (told : Option (List ℕ → Option (List ℕ))) (file : List ℕ)
 one_follows told file owed r s h p q = p.2 ∙ ap owed (one_from told file p.0 q.0 h p.1 q.1) ∙ sym q.2
 
 -- what was done, where both disks tell their bytes
-one_done : (done : Images → Images → Reply → Type 0) (v : Visit) (r s : Reply) → IsTrue v.tells_one → IsTrue v.tells_two
-    → (done v.before v.after r → done v.before v.after s → r ≡ s) → Does done v r → Does done v s → r ≡ s
-one_done done v r s told told_too one p q = one (p.1 told told_too) (q.1 told told_too)
+one_done : (may : Reply → Type 0) (done : Images → Images → Reply → Type 0) (v : Visit) (r s : Reply) → IsTrue v.tells_one → IsTrue v.tells_two
+    → (done v.before v.after r → done v.before v.after s → r ≡ s) → Does may done v r → Does may done v s → r ≡ s
+one_done may done v r s told told_too one p q = one (p.1 told told_too) (q.1 told told_too)
 
 pub prepared_from : (told : Option (List ℕ → Option (List ℕ))) (file name : List ℕ) (given : List (List ℕ × List ℕ)) (a b : Prepared) → IsSome told
     → PreparesFrom told file name given a → PreparesFrom told file name given b → a ≡ b
@@ -76,21 +77,21 @@ prepared_from (Some contents) file name given a b h p q =
 one_owed_prepared : HeldIsOne → (v : Visit) (p : Prepared) (r s : Reply) → IsTrue v.tells_one → IsTrue v.tells_two → OwedPrepared v p r → OwedPrepared v p s → r ≡ s
 one_owed_prepared law v (prepared.Refused c) r s told told_too p q = p.0 ∙ sym q.0
 one_owed_prepared law v (prepared.Submits x) r s told told_too p q =
-    one_done (OnStore (Enters x)) v r s told told_too (one_on law (Enters x) v.before v.after r s (one_entry law x v.before v.after r s)) p q
+    one_done MaySubmit (OnStore (Enters x)) v r s told told_too (one_on law (Enters x) v.before v.after r s (one_entry law x v.before v.after r s)) p q
 
 one_command : HeldIsOne → (told : Option (List ℕ → Option (List ℕ))) (v : Visit) (command : Option Command) (r s : Reply) → IsCertain command → IsSome told
     → IsTrue v.tells_one → IsTrue v.tells_two → OwedCommand told v command r → OwedCommand told v command s → r ≡ s
 one_command law told v (Some (Check file)) r s of h t u p q = one_follows told file owed_check r s h p q
 one_command law told v (Some (Dry file name given fuel)) r s of h t u p q = one_follows told file (owed_dry name given fuel) r s h p q
 one_command law told v None r s of h t u p q = p ∙ sym q
-one_command law told v (Some Init) r s of h t u p q = one_done Inits v r s t u (one_init law v.before v.after r s) p q
+one_command law told v (Some Init) r s of h t u p q = one_done MayInit Inits v r s t u (one_init law v.before v.after r s) p q
 one_command law told v (Some (Submit file name given)) r s of h t u p q =
     one_owed_prepared law v p.0 r s t u p.2 (subst (λ (x : Prepared). OwedPrepared v x s) (prepared_from told file name given q.0 p.0 h q.1 p.1) q.2)
 one_command law told v (Some Run) r s of h t u p q = absurd of
-one_command law told v (Some Listing) r s of h t u p q = one_done (OnStore Lists) v r s t u (one_on law Lists v.before v.after r s (one_list v.before v.after r s)) p q
+one_command law told v (Some Listing) r s of h t u p q = one_done MayList (OnStore Lists) v r s t u (one_on law Lists v.before v.after r s (one_list v.before v.after r s)) p q
 one_command law told v (Some (Tree pid)) r s of h t u p q =
-    one_done (OnStore (Shows pid)) v r s t u (one_on law (Shows pid) v.before v.after r s (one_tree pid v.before v.after r s)) p q
-one_command law told v (Some Pack) r s of h t u p q = one_done (OnStore Packs) v r s t u (one_on law Packs v.before v.after r s (one_pack v.before v.after r s)) p q
+    one_done (MayShow pid) (OnStore (Shows pid)) v r s t u (one_on law (Shows pid) v.before v.after r s (one_tree pid v.before v.after r s)) p q
+one_command law told v (Some Pack) r s of h t u p q = one_done MayPack (OnStore Packs) v r s t u (one_on law Packs v.before v.after r s (one_pack v.before v.after r s)) p q
 
 pub owed_once : HeldIsOne → (told : Option (List ℕ → Option (List ℕ))) (v : Visit) (words : List (List ℕ)) (r s : Reply) → IsCertain (command_of words) → IsSome told
     → IsTrue v.tells_one → IsTrue v.tells_two → IsOwed told v words r → IsOwed told v words s → r ≡ s

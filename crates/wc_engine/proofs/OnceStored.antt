@@ -48,7 +48,7 @@ module _ (law : HeldIsOne) where
   one_world images v w p q = the_world v w (law images.0 images.1 (a_world v) (a_world w) p q)
 
   init_at : (before : Images) (h : Standing) (after : Images) (r s : Reply) → InitAt before h after r → InitAt before h after s → r ≡ s
-  init_at before nothing after r s p q = p.1 ∙ sym q.1
+  init_at before nothing after r s p q = p.2 ∙ sym q.2
   init_at before (damage disk at found) after r s p q = p.1 ∙ sym q.1
   init_at before (a_world w) after r s p q = p.1 ∙ sym q.1
 

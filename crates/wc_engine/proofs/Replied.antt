@@ -18,6 +18,7 @@ use Rattle.wc_engine.specs.declared.status.Status.TheVariants as status
 use Rattle.wc_engine.specs.Given.{bad_given, fields_of}
 use Rattle.wc_engine.specs.Owed.{Visit, owed_answer, owed_inputs, owed_name, owed_check, owed_dry, OwedPrepared, OwedCommand, IsOwed, OwesStatus}
 use Rattle.wc_engine.specs.Replies.{IsReplied, IsDone}
+use Rattle.wc_engine.proofs.Shaping.{init_replied, list_replied, show_replied, submit_replied, pack_replied, running_replied}
 use Rattle.wc_engine.specs.declared.submission.Prepared.{Prepared}
 use Rattle.wc_engine.specs.declared.submission.Prepared.TheVariants as prepared
 
@@ -50,18 +51,18 @@ check_replied (read.Library library) = tt
 
 prepared_replied : (v : Visit) (p : Prepared) (r : Reply) → OwedPrepared v p r → HasReplied r
 prepared_replied v (prepared.Refused c) r h = subst HasReplied (sym h.0) tt
-prepared_replied v (prepared.Submits s) r h = h.0
+prepared_replied v (prepared.Submits s) r h = submit_replied r h.0
 
 command_replied : (told : Option (List ℕ → Option (List ℕ))) (v : Visit) (command : Option Command) (r : Reply) → OwedCommand told v command r → HasReplied r
 command_replied told v (Some (Check file)) r p = subst HasReplied (sym p.2) (check_replied p.0)
 command_replied told v (Some (Dry file name given fuel)) r p = subst HasReplied (sym p.2) (dry_replied name given fuel p.0)
 command_replied told v None r p = subst HasReplied (sym p) tt
-command_replied told v (Some Init) r p = p.0
+command_replied told v (Some Init) r p = init_replied r p.0
 command_replied told v (Some (Submit file name given)) r p = prepared_replied v p.0 r p.2
-command_replied told v (Some Run) r p = p.0
-command_replied told v (Some Listing) r p = p.0
-command_replied told v (Some (Tree pid)) r p = p.0
-command_replied told v (Some Pack) r p = p.0
+command_replied told v (Some Run) r p = running_replied r p.0
+command_replied told v (Some Listing) r p = list_replied r p.0
+command_replied told v (Some (Tree pid)) r p = show_replied pid r p.0
+command_replied told v (Some Pack) r p = pack_replied r p.0
 
 -- a reply that is owed has a status of a reply
 pub owed_replied : (told : Option (List ℕ → Option (List ℕ))) (v : Visit) (words : List (List ℕ)) (r : Reply) → IsOwed told v words r → IsReplied r.status

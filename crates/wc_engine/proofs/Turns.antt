@@ -1,5 +1,5 @@
 -- What turns make of a store.
-use Rattle.std.proofs.Common.{◌≡◌, ◌⊎◌, inl, inr, refl, ℕ, not, Some, None, sym, ◌∙◌}
+use Rattle.std.proofs.Common.{◌≡◌, ◌⊎◌, ◌<◌, ◌+◌, inl, inr, refl, ℕ, not, Some, None, sym, ◌∙◌}
 use Rattle.std.specs.List.{find}
 use Rattle.wc_disk.specs.declared.disk.Disk as disk
 use Rattle.wc_journal.specs.declared.journal.Journal.{Journal}
@@ -22,6 +22,7 @@ use Rattle.wc_engine.specs.declared.reply.Reply.{Reply}
 use Rattle.wc_engine.specs.declared.status.Cause.TheVariants as cause
 use Rattle.wc_engine.specs.Replies.{refuses, IsReplied}
 use Rattle.wc_engine.specs.Running.{status_of, usual_turns, has_run, Runs}
+use Rattle.wc_engine.specs.Unwritten.{IsBeforeTurns}
 use Rattle.wc_engine.proofs.Doing.{journal_held}
 use Rattle.wc_engine.specs.Stored.{HasJournal, GoesOn, usual_limits, Fits, is_full}
 
@@ -29,6 +30,12 @@ pub run_replied : (e : RunEnd) → IsReplied (status_of e)
 run_replied AllEnded = tt
 run_replied Spent = tt
 run_replied Resting = tt
+
+-- a run that came to its end isn't refused
+pub run_written : (e : RunEnd) → IsBeforeTurns (status_of e) → ⊥
+run_written AllEnded h = h
+run_written Spent h = h
+run_written Resting h = h
 
 module _ {D : Type 0} (g : disk.Ghosts D) where
   -- a journal of a store's version that stands for the store's disk is of its generation
@@ -82,8 +89,8 @@ module _ {D : Type 0} (g : disk.Ghosts D) where
     -- or found the store full
     pub has_filled : (told : Type 0) (what : What) (count limit : ℕ) → told → find (λ p. not (is_plain p)) store.world.world.records ≡ None → StandsFor g new one_new two_new
         → TakesTurns usual_limits.poll_ms usual_turns store.world.world new.world.world → FitsAfter usual_limits store.world.world new → GoesOn (g.seen one, g.seen two) (g.seen one_new, g.seen two_new) store.journal new.journal → IsFullAt g told usual_limits new one_new two_new (Full what count limit)
-        → r ≡ is_full what count limit → Runs (g.seen one, g.seen two) store.world.world (g.seen one_new, g.seen two_new) r
-    has_filled told what count limit here none stands takes fits goes full reply = inr (
+        → new.world.world.batches < store.world.world.batches + usual_turns → r ≡ is_full what count limit → Runs (g.seen one, g.seen two) store.world.world (g.seen one_new, g.seen two_new) r
+    has_filled told what count limit here none stands takes fits goes full left reply = inr (
       none,
       record {
         later = new.world.world;
@@ -94,6 +101,7 @@ module _ {D : Type 0} (g : disk.Ghosts D) where
         next = new.journal;
         goes = goes;
         ends = inr (record {
+          left = left;
           what = what;
           count = count;
           limit = limit;

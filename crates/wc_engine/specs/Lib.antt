@@ -6,9 +6,11 @@ pub mod Stored
 pub mod StoreReplies
 pub mod Entering
 pub mod Running
+pub mod Shapes
 pub mod Submits
 pub mod Owed
 pub mod Calls
+pub mod Unwritten
 pub mod Crashes
 pub mod Acknowledged
 pub mod Headline

@@ -25,10 +25,11 @@ use Rattle.wc_engine.specs.Files.{ReadsFrom}
 use Rattle.wc_engine.specs.Given.{bad_given, fields_of}
 use Rattle.wc_engine.specs.Submits.{PreparesFrom}
 use Rattle.wc_engine.specs.Texts.{definitions_text}
-use Rattle.wc_engine.specs.Replies.{refuses, prints, IsReplied}
+use Rattle.wc_engine.specs.Replies.{refuses, prints}
 use Rattle.wc_engine.specs.Stored.{Images, OnStore, Inits, Lists, Shows, Packs}
 use Rattle.wc_engine.specs.Entering.{Enters}
 use Rattle.wc_engine.specs.Running.{Runs}
+use Rattle.wc_engine.specs.Shapes.{MayInit, MayList, MayShow, MaySubmit, MayPack, MayRun}
 
 -- ---- dry
 
@@ -79,26 +80,26 @@ visit g one two one_new two_new = record {
   after = (g.seen one_new, g.seen two_new);
 }
 
--- where both disks tell their bytes, this was done; the reply is one of a command in any case
-abbrev pub Does : (Images → Images → Reply → Type 0) → Visit → Reply → Type 0
-Does done v reply = IsReplied reply.status × (IsTrue v.tells_one → IsTrue v.tells_two → done v.before v.after reply)
+-- the command may reply so in any case; where both disks tell their bytes, this was done
+abbrev pub Does : (Reply → Type 0) → (Images → Images → Reply → Type 0) → Visit → Reply → Type 0
+Does may done v reply = may reply × (IsTrue v.tells_one → IsTrue v.tells_two → done v.before v.after reply)
 
 -- for what the words of `submit` are prepared as; where they are refused, the disks read as before
 abbrev pub OwedPrepared : Visit → Prepared → Reply → Type 0
 OwedPrepared v (prepared.Refused c) reply = (reply ≡ refuses c) × (v.after ≡ v.before)
-OwedPrepared v (prepared.Submits s) reply = Does (OnStore (Enters s)) v reply
+OwedPrepared v (prepared.Submits s) reply = Does MaySubmit (OnStore (Enters s)) v reply
 
 -- for words that are a command, or are none, on a shelf that tells this, and on two disks
 abbrev pub OwedCommand : Option (List ℕ → Option (List ℕ)) → Visit → Option Command → Reply → Type 0
 OwedCommand told v None reply = reply ≡ refuses cause.Words
 OwedCommand told v (Some (Check file)) reply = (r : Read) × ReadsFrom told file r × (reply ≡ owed_check r)
 OwedCommand told v (Some (Dry file name given fuel)) reply = (r : Read) × ReadsFrom told file r × (reply ≡ owed_dry name given fuel r)
-OwedCommand told v (Some Init) reply = Does Inits v reply
+OwedCommand told v (Some Init) reply = Does MayInit Inits v reply
 OwedCommand told v (Some (Submit file name given)) reply = (p : Prepared) × PreparesFrom told file name given p × OwedPrepared v p reply
-OwedCommand told v (Some Run) reply = Does (OnStore Runs) v reply
-OwedCommand told v (Some Listing) reply = Does (OnStore Lists) v reply
-OwedCommand told v (Some (Tree pid)) reply = Does (OnStore (Shows pid)) v reply
-OwedCommand told v (Some Pack) reply = Does (OnStore Packs) v reply
+OwedCommand told v (Some Run) reply = Does MayRun (OnStore Runs) v reply
+OwedCommand told v (Some Listing) reply = Does MayList (OnStore Lists) v reply
+OwedCommand told v (Some (Tree pid)) reply = Does (MayShow pid) (OnStore (Shows pid)) v reply
+OwedCommand told v (Some Pack) reply = Does MayPack (OnStore Packs) v reply
 
 -- the reply is the one owed for these words by a shelf that tells this, and by two disks
 abbrev pub IsOwed : Option (List ℕ → Option (List ℕ)) → Visit → List (List ℕ) → Reply → Type 0
@@ -115,6 +116,17 @@ IsOfFiles (Some Run) = ⊥
 IsOfFiles (Some Listing) = ⊥
 IsOfFiles (Some (Tree pid)) = ⊥
 IsOfFiles (Some Pack) = ⊥
+
+abbrev pub IsSubmit : Option Command → Type 0
+IsSubmit None = ⊥
+IsSubmit (Some (Check file)) = ⊥
+IsSubmit (Some (Dry file name given fuel)) = ⊥
+IsSubmit (Some Init) = ⊥
+IsSubmit (Some (Submit file name given)) = Unit {0}
+IsSubmit (Some Run) = ⊥
+IsSubmit (Some Listing) = ⊥
+IsSubmit (Some (Tree pid)) = ⊥
+IsSubmit (Some Pack) = ⊥
 
 -- No disk is asked for the command, or for the words of `submit`, which are refused where the shelf tells this.
 abbrev pub AsksNoDisk : Option (List ℕ → Option (List ℕ)) → Option Command → Type 0

@@ -1,5 +1,5 @@
 -- What `run` does to a store.
-use Rattle.std.specs.Prelude.{◌≡◌, ◌⊎◌, ℕ, ◌-◌, true, not, Some, None}
+use Rattle.std.specs.Prelude.{◌≡◌, ◌⊎◌, ◌<◌, ℕ, ◌+◌, ◌-◌, true, not, Some, None}
 use Rattle.std.specs.List.{find}
 use Rattle.wc_journal.specs.declared.journal.Journal.{Journal}
 use Rattle.wc_state.specs.declared.record.ProcessRecord.{ProcessRecord}
@@ -40,8 +40,9 @@ pub record HasRun (w v : World) (r : Reply) : Type 0 where
   pub ends : EndsAs usual_limits.poll_ms usual_turns w v end
   pub reply : r ≡ has_run end w v
 
--- The store would be too full with the turn of a ready process.
-pub record IsRunFull (v : World) (after : Images) (r : Reply) : Type 0 where
+-- Before all turns were taken, the store would be too full with the turn of a ready process.
+pub record IsRunFull (w v : World) (after : Images) (r : Reply) : Type 0 where
+  pub left : v.batches < w.batches + usual_turns
   pub what : What
   pub count : ℕ
   pub limit : ℕ
@@ -62,7 +63,7 @@ pub record RunsTo (before : Images) (w : World) (after : Images) (r : Reply) : T
   pub journal : Journal
   pub next : Journal
   pub goes : GoesOn before after journal next
-  pub ends : HasRun w later r ⊎ IsRunFull later after r
+  pub ends : HasRun w later r ⊎ IsRunFull w later after r
 
 -- The definition of the first process that is no function, or may take another's outcome, is told.
 pub record IsForLater (before : Images) (w : World) (after : Images) (r : Reply) : Type 0 where

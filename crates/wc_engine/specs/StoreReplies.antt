@@ -16,6 +16,7 @@ use Rattle.wc_engine.specs.declared.storing.Opened.TheVariants as opened
 use Rattle.wc_engine.specs.declared.storing.StoreReplyError.{StoreReplyError}
 use Rattle.wc_engine.specs.declared.storing.StoreReplyError.TheVariants.{DiskFault, OutOfMemory}
 use Rattle.wc_engine.specs.Replies.{refuses, IsRefused}
+use Rattle.wc_engine.specs.Shapes.{NoWorld}
 use Rattle.wc_engine.specs.Stored.{Images, Hold, is_damaged, is_full}
 
 -- what is told of a refusal, if anything is
@@ -25,6 +26,14 @@ store_reply (store_error.Damaged disk at found) = Some (is_damaged disk at found
 store_reply (store_error.Full what count limit) = Some (is_full what count limit)
 store_reply store_error.AlreadyThere = Some (refuses cause.StoreExists)
 store_reply store_error.OutOfMemory = None
+
+-- a fault of a disk is told as one
+abbrev pub TellsFault : {T : Type 0} → StoreError → Result T StoreReplyError → Type 0
+TellsFault store_error.DiskFault result = result ≡ Err DiskFault
+TellsFault (store_error.Damaged disk at found) result = Unit {0}
+TellsFault (store_error.Full what count limit) result = Unit {0}
+TellsFault store_error.AlreadyThere result = Unit {0}
+TellsFault store_error.OutOfMemory result = Unit {0}
 
 -- what is told where a submission has no changes, if anything is
 abbrev pub turn_reply : TurnError → Option Reply
@@ -74,6 +83,11 @@ IsHeldLive (opened.Held store) = store.live ≡ true
 abbrev pub IsToldReplied : Opened → Type 0
 IsToldReplied (opened.Told r) = IsRefused r.status
 IsToldReplied (opened.Held store) = Unit {0}
+
+-- and is that there is no store, or damage
+abbrev pub IsToldNoWorld : Opened → Type 0
+IsToldNoWorld (opened.Told r) = NoWorld r
+IsToldNoWorld (opened.Held store) = Unit {0}
 
 -- no disk failed
 abbrev pub NoDiskFailed : {T : Type 0} → Result T StoreReplyError → Type 0

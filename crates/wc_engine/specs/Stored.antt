@@ -93,8 +93,9 @@ pub record IsBegun (after : Images) : Type 0 where
   pub version : journal.version ≡ 2
   pub generation : journal.generation ≡ 1
 
+-- a store is made on disk one, and disk two reads as before
 abbrev pub InitAt : Images → Standing → Images → Reply → Type 0
-InitAt before nothing after r = IsBegun after × (r ≡ prints initialised_text)
+InitAt before nothing after r = IsBegun after × (after.1 ≡ before.1) × (r ≡ prints initialised_text)
 InitAt before (damage disk at found) after r = (after ≡ before) × (r ≡ is_damaged disk at found)
 InitAt before (a_world w) after r = (after ≡ before) × (r ≡ refuses cause.StoreExists)
 

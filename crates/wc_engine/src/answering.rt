@@ -4,11 +4,13 @@ ghost use Rattle.std.specs.Prelude.{◌≡◌, Some, IsTrue, IfOk};
 ghost use Rattle.wc_cli.specs.Words.{command_of};
 ghost use Rattle.wc_engine.specs.Calls.{CountsDisks, CountsShelf, IsOfShelf, IsReadFirst};
 ghost use Rattle.wc_engine.specs.Crashes.{AreDurable, LeavesKept};
-ghost use Rattle.wc_engine.specs.Owed.{visit, AsksNoDisk, IsOfFiles, IsOwed, OwedCommand, OwedPrepared};
+ghost use Rattle.wc_engine.specs.Owed.{visit, AsksNoDisk, IsOfFiles, IsOwed, IsSubmit, OwedCommand, OwedPrepared};
 ghost use Rattle.wc_cli.specs.declared.command.Command.TheVariants.{Submit};
 ghost use Rattle.wc_engine.specs.Replies.{IsDone};
+ghost use Rattle.wc_engine.specs.Shapes.{IsRefusedForFile};
 ghost use Rattle.wc_engine.specs.StoreReplies.{Counts, NoDiskFailed};
 ghost use Rattle.wc_engine.specs.Submits.{PreparesFrom, SubmitsNothing, SubmitsReady};
+ghost use Rattle.wc_engine.specs.Unwritten.{EndsWith, IsBeforeStoring, IsUnwritten, LeavesUnwritten, ended_by, store_ended_by};
 
 use crate::entering::enter_reply;
 use crate::reply::{Reply, ReplyError, read_from, refuse, reply_to_check, reply_to_dry};
@@ -55,6 +57,8 @@ fn reply_to_prepared<D: Disk>(
     ensures kept { IsTrue (D.tells one.old) → IsTrue (D.tells two.old) → LeavesKept D.Disk one.old two.old one.new two.new }
     ensures durable { IfOk result (λ r. IsDone r.status → IsTrue (D.tells one.old) → IsTrue (D.tells two.old) → AreDurable D.Disk one.new two.new) }
     ensures tells { (D.tells one.new ≡ D.tells one.old) × (D.tells two.new ≡ D.tells two.old) }
+    ensures early { IfOk result (λ r. IsRefusedForFile r.status → (one.new ≡ one.old) × (two.new ≡ two.old)) }
+    ensures unwritten { EndsWith store_ended_by IsBeforeStoring result → IsTrue (D.tells one.old) → IsTrue (D.tells two.old) → LeavesUnwritten D.Disk one.old two.old one.new two.new }
     ensures untouched { SubmitsNothing prepared → (one.new ≡ one.old) × (two.new ≡ two.old) × NoDiskFailed result }
     ensures cause { Counts result (D.faults one.old) (D.faults one.new) (D.faults two.old) (D.faults two.new) }
 {
@@ -79,6 +83,8 @@ fn submit_reply<R: Shelf, D: Disk>(
     ensures contents { R.contents shelf.new ≡ R.contents shelf.old }
     ensures disks { CountsDisks result (D.faults one.old) (D.faults one.new) (D.faults two.old) (D.faults two.new) }
     ensures tells { (D.tells one.new ≡ D.tells one.old) × (D.tells two.new ≡ D.tells two.old) }
+    ensures early { IfOk result (λ r. IsRefusedForFile r.status → (one.new ≡ one.old) × (two.new ≡ two.old)) }
+    ensures unwritten { EndsWith ended_by IsBeforeStoring result → IsTrue (D.tells one.old) → IsTrue (D.tells two.old) → LeavesUnwritten D.Disk one.old two.old one.new two.new }
     ensures untouched { AsksNoDisk (R.contents shelf.old) (Some (Submit file.now name.now given.now)) → (one.new ≡ one.old) × (two.new ≡ two.old) × IsOfShelf result }
     ensures unread { IsReadFirst result one.old one.new two.old two.new }
     ensures kept { IsTrue (D.tells one.old) → IsTrue (D.tells two.old) → LeavesKept D.Disk one.old two.old one.new two.new }
@@ -105,6 +111,8 @@ pub fn reply_to<R: Shelf, D: Disk>(
     ensures contents { R.contents shelf.new ≡ R.contents shelf.old }
     ensures disks { CountsDisks result (D.faults one.old) (D.faults one.new) (D.faults two.old) (D.faults two.new) }
     ensures tells { (D.tells one.new ≡ D.tells one.old) × (D.tells two.new ≡ D.tells two.old) }
+    ensures early { IfOk result (λ r. IsSubmit (command_of words.now) → IsRefusedForFile r.status → (one.new ≡ one.old) × (two.new ≡ two.old)) }
+    ensures unwritten { EndsWith ended_by (IsUnwritten (command_of words.now)) result → IsTrue (D.tells one.old) → IsTrue (D.tells two.old) → LeavesUnwritten D.Disk one.old two.old one.new two.new }
     ensures untouched { AsksNoDisk (R.contents shelf.old) (command_of words.now) → (one.new ≡ one.old) × (two.new ≡ two.old) × IsOfShelf result }
     ensures unread { IsReadFirst result one.old one.new two.old two.new }
     ensures kept { IsTrue (D.tells one.old) → IsTrue (D.tells two.old) → LeavesKept D.Disk one.old two.old one.new two.new }

@@ -10,10 +10,12 @@ ghost use Rattle.wc_store.specs.Stores.{InTwoParts, StandsFor};
 ghost use Rattle.wc_engine.specs.Crashes.{AreDurable, Keeps, LeavesKept, HoldsKeeping};
 ghost use Rattle.wc_engine.specs.Entering.{Changes, Enters};
 ghost use Rattle.wc_engine.specs.Owed.{visit, Does};
-ghost use Rattle.wc_engine.specs.Replies.{IsDone, IsReplied};
+ghost use Rattle.wc_engine.specs.Replies.{IsDone};
+ghost use Rattle.wc_engine.specs.Shapes.{MaySubmit};
 ghost use Rattle.wc_engine.specs.Stored.{OnStore, usual_limits};
 ghost use Rattle.wc_engine.specs.StoreReplies.{Counts, turn_reply};
 ghost use Rattle.wc_engine.specs.Submits.{IsReady};
+ghost use Rattle.wc_engine.specs.Unwritten.{EndsWith, IsBeforeStoring, LeavesUnwritten, store_ended_by};
 
 use crate::laws::worlds_are_kept;
 use crate::reply::{Reply, print};
@@ -80,7 +82,6 @@ fn changes_for(
 /// What is told where there are no changes that make a process of what is submitted.
 fn crowded(alloc: Global, error: TurnError) -> Result<Reply, StoreReplyError>
     ensures reply { IfOk result (λ r. turn_reply error ≡ Some r) }
-    ensures replied { IfOk result (λ r. IsReplied r.status) }
     ensures cause { (one two : ℕ) → Counts result one one two two }
 {
     match error {
@@ -102,10 +103,11 @@ fn entered<D: Disk>(
     requires stands { IsTrue (D.tells one.old) → IsTrue (D.tells two.old) → StandsFor D.Disk store one.old two.old }
     ensures does { IfOk result (λ r. IsTrue (D.tells one.old) → IsTrue (D.tells two.old)
         → Enters submission (D.seen one.old, D.seen two.old) store.world.world (D.seen one.new, D.seen two.new) r) }
-    ensures replied { IfOk result (λ r. IsReplied r.status) }
+    ensures may { IfOk result (λ r. MaySubmit r) }
     ensures kept { IsTrue (D.tells one.old) → IsTrue (D.tells two.old) → InTwoParts D.Disk one.old two.old one.new two.new (HoldsKeeping store.world.world) }
     ensures durable { IfOk result (λ r. IsTrue (D.tells one.old) → IsTrue (D.tells two.old) → AreDurable D.Disk one.new two.new) }
     ensures tells { (D.tells one.new ≡ D.tells one.old) × (D.tells two.new ≡ D.tells two.old) }
+    ensures untouched { EndsWith store_ended_by IsBeforeStoring result → (one.new ≡ one.old) × (two.new ≡ two.old) }
     ensures cause { Counts result (D.faults one.old) (D.faults one.new) (D.faults two.old) (D.faults two.new) }
 {
     worlds_are_kept();
@@ -129,10 +131,11 @@ pub fn enter_reply<D: Disk>(
     two: &mut D,
 ) -> Result<Reply, StoreReplyError>
     requires ready { IsReady submission }
-    ensures does { IfOk result (λ r. Does (OnStore (Enters submission)) (visit D.Disk one.old two.old one.new two.new) r) }
+    ensures does { IfOk result (λ r. Does MaySubmit (OnStore (Enters submission)) (visit D.Disk one.old two.old one.new two.new) r) }
     ensures kept { IsTrue (D.tells one.old) → IsTrue (D.tells two.old) → LeavesKept D.Disk one.old two.old one.new two.new }
     ensures durable { IfOk result (λ r. IsDone r.status → IsTrue (D.tells one.old) → IsTrue (D.tells two.old) → AreDurable D.Disk one.new two.new) }
     ensures tells { (D.tells one.new ≡ D.tells one.old) × (D.tells two.new ≡ D.tells two.old) }
+    ensures unwritten { EndsWith store_ended_by IsBeforeStoring result → IsTrue (D.tells one.old) → IsTrue (D.tells two.old) → LeavesUnwritten D.Disk one.old two.old one.new two.new }
     ensures cause { Counts result (D.faults one.old) (D.faults one.new) (D.faults two.old) (D.faults two.new) }
 {
     match open_store(alloc, one, two)? {

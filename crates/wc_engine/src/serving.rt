@@ -4,10 +4,12 @@ ghost use Rattle.std.specs.Prelude.{◌≡◌, ◌⊎◌, IsSome, IsTrue};
 ghost use Rattle.wc_cli.specs.Words.{command_of};
 ghost use Rattle.wc_io.specs.Counts.{Rises};
 ghost use Rattle.wc_io.specs.Forms.{TakesPart};
-ghost use Rattle.wc_engine.specs.Owed.{visit, AsksNoDisk, IsCertain, IsOfFiles, IsOwed, OwesStatus, Writes};
+ghost use Rattle.wc_engine.specs.Owed.{visit, AsksNoDisk, IsCertain, IsOfFiles, IsOwed, IsSubmit, OwesStatus, Writes};
 ghost use Rattle.wc_engine.specs.Crashes.{AreDurable, EachPair, HoldsSound};
 ghost use Rattle.wc_engine.specs.Headline.{Headline};
 ghost use Rattle.wc_engine.specs.Replies.{IsDone, IsReplied};
+ghost use Rattle.wc_engine.specs.Shapes.{IsRefusedForFile};
+ghost use Rattle.wc_engine.specs.Unwritten.{IsUnwritten, LeavesUnwritten};
 ghost use Rattle.wc_engine.specs.declared.reply.Reply.{Reply as AReply};
 
 use crate::answering::reply_to;
@@ -63,8 +65,15 @@ pub fn serve<R: Shelf, W: Sink, D: Disk>(
     // The same where no disk is asked, whether the disks tell their bytes or not.
     ensures exact_files { IsOfFiles (command_of words.now) → IsSome (R.contents shelf.old)
         → (r : AReply) → IsOwed (R.contents shelf.old) (visit D.Disk one.old two.old one.new two.new) words.now r → OwesStatus r.status result }
+    // Nothing is written by a command that only reads or asks no disk, however it ends; by none that ends with Refused, Damaged or
+    // ReadFault; by `init`, `submit` and `pack` that end with Full; nor by `init` and `submit` that end with OutOfMemory. Then each image
+    // at any moment of the call is one that a crash at entry might have left, and the disks read as before.
+    ensures unwritten { IsUnwritten (command_of words.now) result → IsTrue (D.tells one.old) → IsTrue (D.tells two.old)
+        → LeavesUnwritten D.Disk one.old two.old one.new two.new }
     // No disk is asked for `check`, `dry`, words that are no command, and a `submit` that is refused for its words or its file.
     ensures files { AsksNoDisk (R.contents shelf.old) (command_of words.now) → (one.new ≡ one.old) × (two.new ≡ two.old) × (result ≡ Status.DiskFault → ⊥) }
+    // Nor is one asked where `submit` is refused for what is in its words or its file, whether the shelf tells its contents or not.
+    ensures early { IsSubmit (command_of words.now) → IsRefusedForFile result → (one.new ≡ one.old) × (two.new ≡ two.old) }
     // Up to a moment of each disk's clock each image is one that a crash at entry might have left. From then on each pair of images holds
     // nothing or a sound world of functions that continues what was held: each process that has ended has the tree that its definition
     // means for its recorded inputs, and each created value has one creator, whose inputs give it. After `submit` with status Ok each

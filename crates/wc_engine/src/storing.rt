@@ -6,9 +6,11 @@ ghost use Rattle.wc_store.specs.Refusals.{Counts as StoreCounts};
 ghost use Rattle.wc_store.specs.Stores.{InTwoParts, StandsFor};
 ghost use Rattle.wc_engine.specs.Crashes.{AreDurable, LeavesKept, HoldsKeeping};
 ghost use Rattle.wc_engine.specs.Owed.{visit, Does};
-ghost use Rattle.wc_engine.specs.Replies.{IsDone, IsRefused, IsReplied};
+ghost use Rattle.wc_engine.specs.Replies.{IsDone, IsRefused};
+ghost use Rattle.wc_engine.specs.Shapes.{MayInit, MayList, MayPack, MayShow};
 ghost use Rattle.wc_engine.specs.Stored.{byte_of, is_damaged, is_full, Inits, OnStore, Lists, Shows, ShowsTree, Packs};
-ghost use Rattle.wc_engine.specs.StoreReplies.{store_reply, Counts, Opens, IsHeldLive, IsToldReplied};
+ghost use Rattle.wc_engine.specs.StoreReplies.{store_reply, Counts, Opens, IsHeldLive, IsToldNoWorld, IsToldReplied, TellsFault};
+ghost use Rattle.wc_engine.specs.Unwritten.{EndsWith, IsBeforePacking, IsBeforeStoring, LeavesUnwritten, store_ended_by};
 
 use crate::laws::worlds_are_kept;
 use crate::reply::{Reply, print, refuse};
@@ -88,6 +90,7 @@ pub(crate) fn full(alloc: Global, what: What, count: u64, limit: u64) -> Result<
 pub(crate) fn refused(alloc: Global, error: StoreError) -> Result<Reply, StoreReplyError>
     ensures reply { IfOk result (λ r. store_reply error ≡ Some r) }
     ensures replied { IfOk result (λ r. IsRefused r.status) }
+    ensures fault { TellsFault error result }
     ensures cause { (one one' two two' : ℕ) → StoreCounts {T = Store} (Err error) one one' two two' → Counts result one one' two two' }
 {
     match error {
@@ -108,9 +111,11 @@ pub(crate) fn open_store<D: Disk>(
     ensures opens { IfOk result (λ o. IsTrue (D.tells one.old) → IsTrue (D.tells two.old) → Opens D.Disk one.old two.old one.new two.new o) }
     ensures live { IfOk result (λ o. IsHeldLive o) }
     ensures replied { IfOk result (λ o. IsToldReplied o) }
+    ensures told { IfOk result (λ o. IsToldNoWorld o) }
     ensures any_moment_one { LeavesOnly D.Disk one.old one.new (D.may_leave one.old) }
     ensures any_moment_two { LeavesOnly D.Disk two.old two.new (D.may_leave two.old) }
     ensures tells { (D.tells one.new ≡ D.tells one.old) × (D.tells two.new ≡ D.tells two.old) }
+    ensures unwritten { LeavesUnwritten D.Disk one.old two.old one.new two.new }
     ensures cause { Counts result (D.faults one.old) (D.faults one.new) (D.faults two.old) (D.faults two.new) }
 {
     match Store::load(alloc, one, two) {
@@ -126,10 +131,11 @@ pub fn init_reply<D: Disk>(
     one: &mut D,
     two: &mut D,
 ) -> Result<Reply, StoreReplyError>
-    ensures does { IfOk result (λ r. Does Inits (visit D.Disk one.old two.old one.new two.new) r) }
+    ensures does { IfOk result (λ r. Does MayInit Inits (visit D.Disk one.old two.old one.new two.new) r) }
     ensures kept { IsTrue (D.tells one.old) → IsTrue (D.tells two.old) → LeavesKept D.Disk one.old two.old one.new two.new }
     ensures durable { IfOk result (λ r. IsDone r.status → IsTrue (D.tells one.old) → IsTrue (D.tells two.old) → AreDurable D.Disk one.new two.new) }
     ensures tells { (D.tells one.new ≡ D.tells one.old) × (D.tells two.new ≡ D.tells two.old) }
+    ensures unwritten { EndsWith store_ended_by IsBeforeStoring result → IsTrue (D.tells one.old) → IsTrue (D.tells two.old) → LeavesUnwritten D.Disk one.old two.old one.new two.new }
     ensures cause { Counts result (D.faults one.old) (D.faults one.new) (D.faults two.old) (D.faults two.new) }
 {
     let text = initialised_text(alloc)?;
@@ -145,10 +151,11 @@ pub fn list_reply<D: Disk>(
     one: &mut D,
     two: &mut D,
 ) -> Result<Reply, StoreReplyError>
-    ensures does { IfOk result (λ r. Does (OnStore Lists) (visit D.Disk one.old two.old one.new two.new) r) }
+    ensures does { IfOk result (λ r. Does MayList (OnStore Lists) (visit D.Disk one.old two.old one.new two.new) r) }
     ensures kept { IsTrue (D.tells one.old) → IsTrue (D.tells two.old) → LeavesKept D.Disk one.old two.old one.new two.new }
     ensures durable { IfOk result (λ r. IsDone r.status → IsTrue (D.tells one.old) → IsTrue (D.tells two.old) → AreDurable D.Disk one.new two.new) }
     ensures tells { (D.tells one.new ≡ D.tells one.old) × (D.tells two.new ≡ D.tells two.old) }
+    ensures unwritten { LeavesUnwritten D.Disk one.old two.old one.new two.new }
     ensures cause { Counts result (D.faults one.old) (D.faults one.new) (D.faults two.old) (D.faults two.new) }
 {
     match open_store(alloc, one, two)? {
@@ -159,8 +166,7 @@ pub fn list_reply<D: Disk>(
 
 /// The tree of a process, or that there is no such process.
 fn shown(alloc: Global, world: &World, pid: u32) -> Result<Reply, AllocError>
-    ensures shows { IfOk result (λ r. ShowsTree pid world.now.world r) }
-    ensures replied { IfOk result (λ r. IsReplied r.status) }
+    ensures { IfOk result (λ r. ShowsTree pid world.now.world r) }
 {
     match tree_of(alloc, world, pid) {
         Ok(tree) => Ok(print(tree_lines(alloc, &tree)?)),
@@ -176,10 +182,11 @@ pub fn tree_reply<D: Disk>(
     two: &mut D,
     pid: u32,
 ) -> Result<Reply, StoreReplyError>
-    ensures does { IfOk result (λ r. Does (OnStore (Shows pid)) (visit D.Disk one.old two.old one.new two.new) r) }
+    ensures does { IfOk result (λ r. Does (MayShow pid) (OnStore (Shows pid)) (visit D.Disk one.old two.old one.new two.new) r) }
     ensures kept { IsTrue (D.tells one.old) → IsTrue (D.tells two.old) → LeavesKept D.Disk one.old two.old one.new two.new }
     ensures durable { IfOk result (λ r. IsDone r.status → IsTrue (D.tells one.old) → IsTrue (D.tells two.old) → AreDurable D.Disk one.new two.new) }
     ensures tells { (D.tells one.new ≡ D.tells one.old) × (D.tells two.new ≡ D.tells two.old) }
+    ensures unwritten { LeavesUnwritten D.Disk one.old two.old one.new two.new }
     ensures cause { Counts result (D.faults one.old) (D.faults one.new) (D.faults two.old) (D.faults two.new) }
 {
     match open_store(alloc, one, two)? {
@@ -199,10 +206,11 @@ fn packed<D: Disk>(
     requires stands { IsTrue (D.tells one.old) → IsTrue (D.tells two.old) → StandsFor D.Disk store one.old two.old }
     ensures does { IfOk result (λ r. IsTrue (D.tells one.old) → IsTrue (D.tells two.old)
         → Packs (D.seen one.old, D.seen two.old) store.world.world (D.seen one.new, D.seen two.new) r) }
-    ensures replied { IfOk result (λ r. IsReplied r.status) }
+    ensures may { IfOk result (λ r. MayPack r) }
     ensures kept { IsTrue (D.tells one.old) → IsTrue (D.tells two.old) → InTwoParts D.Disk one.old two.old one.new two.new (HoldsKeeping store.world.world) }
     ensures durable { IfOk result (λ r. IsTrue (D.tells one.old) → IsTrue (D.tells two.old) → AreDurable D.Disk one.new two.new) }
     ensures tells { (D.tells one.new ≡ D.tells one.old) × (D.tells two.new ≡ D.tells two.old) }
+    ensures untouched { EndsWith store_ended_by IsBeforePacking result → (one.new ≡ one.old) × (two.new ≡ two.old) }
     ensures cause { Counts result (D.faults one.old) (D.faults one.new) (D.faults two.old) (D.faults two.new) }
 {
     worlds_are_kept();
@@ -218,10 +226,11 @@ pub fn pack_reply<D: Disk>(
     one: &mut D,
     two: &mut D,
 ) -> Result<Reply, StoreReplyError>
-    ensures does { IfOk result (λ r. Does (OnStore Packs) (visit D.Disk one.old two.old one.new two.new) r) }
+    ensures does { IfOk result (λ r. Does MayPack (OnStore Packs) (visit D.Disk one.old two.old one.new two.new) r) }
     ensures kept { IsTrue (D.tells one.old) → IsTrue (D.tells two.old) → LeavesKept D.Disk one.old two.old one.new two.new }
     ensures durable { IfOk result (λ r. IsDone r.status → IsTrue (D.tells one.old) → IsTrue (D.tells two.old) → AreDurable D.Disk one.new two.new) }
     ensures tells { (D.tells one.new ≡ D.tells one.old) × (D.tells two.new ≡ D.tells two.old) }
+    ensures unwritten { EndsWith store_ended_by IsBeforePacking result → IsTrue (D.tells one.old) → IsTrue (D.tells two.old) → LeavesUnwritten D.Disk one.old two.old one.new two.new }
     ensures cause { Counts result (D.faults one.old) (D.faults one.new) (D.faults two.old) (D.faults two.new) }
 {
     match open_store(alloc, one, two)? {

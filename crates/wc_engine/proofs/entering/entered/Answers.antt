@@ -1,4 +1,4 @@
-use Rattle.std.proofs.Common.{◌≡◌, ◌≤◌, [], length, IsTrue, refl, ap, subst, ◌∙◌}
+use Rattle.std.proofs.Common.{◌≡◌, ◌≤◌, inl, inr, [], length, IsTrue, refl, ap, subst, ◌∙◌}
 use Rattle.wc_core.specs.Refusals.{HasRoom, RefusesSubmission}
 use Rattle.wc_state.specs.declared.record.Limits.{Limits}
 use Rattle.wc_world.specs.World.{World}
@@ -12,6 +12,10 @@ use Rattle.wc_engine.specs.Entering.{Changes}
 use Rattle.wc_engine.specs.Stored.{usual_limits}
 use Rattle.wc_engine.proofs.Entries.{crowded_entry, has_entered, standing_durable, refused_entry, refused_durable}
 use Rattle.wc_engine.proofs.Leaving.{standing, committed}
+use Rattle.wc_engine.specs.declared.reply.Reply.{Reply}
+use Rattle.wc_engine.specs.Unwritten.{IsBeforeStoring}
+use Rattle.wc_engine.proofs.Shaping.{refused_commit, refused_changes}
+use Rattle.wc_engine.proofs.Unwriting.{refused_untouched}
 use Rattle.wc_engine.proofs.entering.entered.Goals as goal
 
 pub returns-in_err-text-clause-kept : goal.returns-in_err-text-clause-kept
@@ -77,11 +81,28 @@ returns g c =
     record {
       does = crowded_entry g.D.Disk s c.args.store c.in-Err.error c.args.one.now c.args.two.now c.crowded.result c.requires.stands
           (subst (λ (v : World). RefusesSubmission v s.library [] s.name s.inputs usual_limits.max_nodes c.in-Err.error) w c.in-Err.ensures.refused) c.crowded.ensures.reply;
-      replied = c.crowded.ensures.replied;
+      may = refused_changes c.in-Err.error c.crowded.result c.crowded.ensures.reply;
       kept = λ told told_too.
           standing g.D.Disk g.met.D.Disk.only_now c.worlds_are_kept.ensures.reached c.worlds_are_kept.ensures.same c.args.store c.args.one.now c.args.two.now (c.requires.stands told told_too);
       durable = standing_durable g.D.Disk c.args.store c.args.one.now c.args.two.now (IsTrue (g.D.Disk.tells c.args.one.now)) (IsTrue (g.D.Disk.tells c.args.two.now)) c.crowded.result
           c.requires.stands;
       tells = (refl, refl);
+      untouched = λ ends. (refl, refl);
       cause = c.crowded.ensures.cause (g.D.Disk.faults c.args.one.now) (g.D.Disk.faults c.args.two.now);
     }
+
+pub returns-in-Ok-commit-clause-may : goal.returns-in-Ok-commit-clause-may
+returns-in-Ok-commit-clause-may g c = inr (inl (c.in_ok-pid.pid, c.print.ensures ∙ ap prints c.in_ok-text.ensures))
+
+pub returns-in-Ok-clause-may : goal.returns-in-Ok-clause-may
+returns-in-Ok-clause-may g c =
+    refused_commit c.args.store.journal c.usual_limits-limits.result c.args.store.world.world c.in-Ok.changes c.in-Err-commit.error c.refused.result c.in-Err-commit.ensures.refused
+    c.refused.ensures.reply
+
+pub returns-in-Ok-commit-clause-untouched : goal.returns-in-Ok-commit-clause-untouched
+returns-in-Ok-commit-clause-untouched g c = λ ends. absurd (subst (λ (r : Reply). IsBeforeStoring r.status) c.print.ensures ends)
+
+pub returns-in-Ok-clause-untouched : goal.returns-in-Ok-clause-untouched
+returns-in-Ok-clause-untouched g c =
+    refused_untouched g.D.Disk (Unit {0}) IsBeforeStoring (λ never. never) c.in-Err-commit.error c.args.one.now c.args.two.now c.commit.new.one c.commit.new.two c.in-Err-commit.ensures.untouched_one
+    c.in-Err-commit.ensures.untouched_two c.refused.result c.refused.ensures.fault

@@ -1,9 +1,11 @@
 use Rattle.std.proofs.Common.{Bool, IsTrue, sym, subst}
 use Rattle.wc_engine.specs.Running.{Runs}
+use Rattle.wc_engine.specs.Shapes.{MayRun}
 use Rattle.wc_engine.specs.StoreReplies.{Opens}
 use Rattle.wc_engine.specs.declared.storing.Opened.{Opened}
 use Rattle.wc_engine.proofs.Doing.{held_before, goes_does}
 use Rattle.wc_engine.proofs.Leaving.{goes_on}
+use Rattle.wc_engine.proofs.Unwriting.{then_untouched}
 use Rattle.wc_engine.proofs.running.run_reply.Goals as goal
 
 pub returns-in-Held-clause-does : goal.returns-in-Held-clause-does
@@ -11,8 +13,8 @@ returns-in-Held-clause-does g c =
     let one = c.args.one.now in
     let two = c.args.two.now in
     let P : Opened → Type 0 = λ o. IsTrue (g.D.Disk.tells one) → IsTrue (g.D.Disk.tells two) → Opens g.D.Disk one two c.open_store.new.one c.open_store.new.two o in
-    goes_does g.D.Disk Runs c.in-Held.store one two c.open_store.new.one c.open_store.new.two c.taken.new.one c.taken.new.two c.taken.result
-    (subst P c.in-Held.is c.in_ok-reply.ensures.opens) c.open_store.ensures.tells.0 c.open_store.ensures.tells.1 c.taken.ensures.replied c.taken.ensures.does
+    goes_does g.D.Disk MayRun Runs c.in-Held.store one two c.open_store.new.one c.open_store.new.two c.taken.new.one c.taken.new.two c.taken.result
+    (subst P c.in-Held.is c.in_ok-reply.ensures.opens) c.open_store.ensures.tells.0 c.open_store.ensures.tells.1 c.taken.ensures.may c.taken.ensures.does
 
 pub returns-in-Held-clause-kept : goal.returns-in-Held-clause-kept
 returns-in-Held-clause-kept g c =
@@ -26,3 +28,9 @@ returns-in-Held-clause-kept g c =
     goes_on g.D.Disk g.met.D.Disk.only_now g.met.D.Disk.counts_now store.world.world one two c.open_store.new.one c.open_store.new.two c.taken.new.one c.taken.new.two
     (held_before g.D.Disk store one two c.open_store.new.one c.open_store.new.two opens) c.open_store.ensures.any_moment_one c.open_store.ensures.any_moment_two
     (c.taken.ensures.kept (subst (λ (b : Bool). IsTrue b) (sym tells.0) told) (subst (λ (b : Bool). IsTrue b) (sym tells.1) told_too))
+
+pub returns-in-Held-clause-unwritten : goal.returns-in-Held-clause-unwritten
+returns-in-Held-clause-unwritten g c =
+    λ ends told told_too.
+    then_untouched g.D.Disk c.args.one.now c.args.two.now c.open_store.new.one c.open_store.new.two c.taken.new.one c.taken.new.two c.open_store.ensures.unwritten
+    (c.taken.ensures.untouched ends)

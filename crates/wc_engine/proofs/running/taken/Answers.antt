@@ -1,4 +1,4 @@
-use Rattle.std.proofs.Common.{◌≡◌, not, None, Err, IsTrue, sym, subst, ◌∙◌}
+use Rattle.std.proofs.Common.{◌≡◌, inl, inr, not, None, Err, IsTrue, sym, subst, ◌∙◌}
 use Rattle.std.specs.List.{find}
 use Rattle.wc_state.specs.declared.record.Limits.{Limits}
 use Rattle.wc_world.specs.World.{World}
@@ -8,12 +8,12 @@ use Rattle.wc_runner.specs.declared.running.RunEnd.{RunEnd}
 use Rattle.wc_runner.specs.Functions.{is_plain}
 use Rattle.wc_runner.specs.Refusals.{IsFullAt, RefusesRun, is_live_after}
 use Rattle.wc_runner.specs.Running.{TakesTurns, FitsAfter, EndsAs}
-use Rattle.wc_engine.specs.declared.reply.Reply.{Reply}
 use Rattle.wc_engine.specs.Running.{usual_turns, has_run}
-use Rattle.wc_engine.specs.Replies.{IsReplied}
 use Rattle.wc_engine.proofs.Leaving.{standing, taken}
 use Rattle.wc_engine.proofs.Doing.{goes_on_journal}
-use Rattle.wc_engine.proofs.Turns.{run_replied, has_come, has_filled}
+use Rattle.wc_engine.proofs.Turns.{run_written, has_come, has_filled}
+use Rattle.wc_engine.specs.declared.reply.Reply.{Reply}
+use Rattle.wc_engine.specs.Unwritten.{IsBeforeTurns}
 use Rattle.wc_engine.proofs.running.taken.Goals as goal
 
 pub returns-in-Some-clause-kept : goal.returns-in-Some-clause-kept
@@ -57,10 +57,36 @@ returns-clause-kept g c =
     taken g.D.Disk g.met.D.Disk.only_now c.worlds_are_kept.ensures.reached c.worlds_are_kept.ensures.same c.args.store c.args.one.now c.args.two.now (c.requires.stands told told_too)
     c.worlds_are_kept.ensures.turns c.usual_limits.result.poll_ms c.run.new.one c.run.new.two (c.run.ensures.any_moment told told_too)
 
-pub returns-in-Ok-clause-replied : goal.returns-in-Ok-clause-replied
-returns-in-Ok-clause-replied g c =
-    let begun : c.args.store.world.world.batches ≡ c.batches-begun.result = sym (c.batches-begun.ensures ∙ (λ i. (c.world-2.ensures i).world.batches)) in
-    subst (λ (r : Reply). IsReplied r.status) (sym (c.in_ok-has_run-in-Ok.ensures c.args.store.world.world begun)) (run_replied c.in-Ok.end)
+pub returns-in-Some-clause-may : goal.returns-in-Some-clause-may
+returns-in-Some-clause-may g c = inr (inl (_, c.in_ok-refuse.ensures))
+
+pub returns-in-Ok-clause-may : goal.returns-in-Ok-clause-may
+returns-in-Ok-clause-may g c =
+    let w = c.args.store.world.world in
+    let v = c.run.new.store.world.world in
+    let begun : w.batches ≡ c.batches-begun.result = sym (c.batches-begun.ensures ∙ (λ i. (c.world-2.ensures i).world.batches)) in
+    inr (inr (
+      w,
+      v,
+      subst (λ (l : Limits). TakesTurns l.poll_ms usual_turns w v) c.usual_limits.ensures c.run.ensures.takes,
+      inl (record {
+        end = c.in-Ok.end;
+        ends = subst (λ (l : Limits). EndsAs l.poll_ms usual_turns w v c.in-Ok.end) c.usual_limits.ensures c.in-Ok.ensures.ends;
+        reply = c.in_ok-has_run-in-Ok.ensures w begun ∙ (λ i. has_run c.in-Ok.end w (c.world-in-Ok.ensures i).world);
+      }),
+    ))
+
+pub returns-in-Err-Full-clause-may : goal.returns-in-Err-Full-clause-may
+returns-in-Err-Full-clause-may g c =
+    let w = c.args.store.world.world in
+    let v = c.run.new.store.world.world in
+    let f = c.in-Err-Full in
+    inr (inr (
+      w,
+      v,
+      subst (λ (l : Limits). TakesTurns l.poll_ms usual_turns w v) c.usual_limits.ensures c.run.ensures.takes,
+      inr (f.what, f.count, f.limit, c.in_ok-full-in-Err-Full.ensures),
+    ))
 
 pub returns-in-Ok-clause-does : goal.returns-in-Ok-clause-does
 returns-in-Ok-clause-does g c =
@@ -92,4 +118,14 @@ returns-in-Err-Full-clause-does g c =
     (c.run.ensures.any_moment told told_too).untouched)
     (subst (λ (l : Limits). IsFullAt g.D.Disk T l c.run.new.store c.run.new.one c.run.new.two (Full f.what f.count f.limit)) c.usual_limits.ensures
     (subst (λ (e : RunError). RefusesRun g.D.Disk T c.usual_limits.result c.run.new.store c.run.new.one c.run.new.two e) f.field-0-is f.ensures.refused))
-    c.in_ok-full-in-Err-Full.ensures
+    f.ensures.early c.in_ok-full-in-Err-Full.ensures
+
+pub returns-in-Ok-clause-untouched : goal.returns-in-Ok-clause-untouched
+returns-in-Ok-clause-untouched g c =
+    λ ends.
+    let w = c.args.store.world.world in
+    let begun : w.batches ≡ c.batches-begun.result = sym (c.batches-begun.ensures ∙ (λ i. (c.world-2.ensures i).world.batches)) in
+    absurd (run_written c.in-Ok.end (subst (λ (r : Reply). IsBeforeTurns r.status) (c.in_ok-has_run-in-Ok.ensures w begun) ends))
+
+pub returns-in-Err-Full-clause-untouched : goal.returns-in-Err-Full-clause-untouched
+returns-in-Err-Full-clause-untouched g c = λ ends. absurd (subst (λ (r : Reply). IsBeforeTurns r.status) c.in_ok-full-in-Err-Full.ensures ends)

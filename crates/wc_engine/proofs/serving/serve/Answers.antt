@@ -9,6 +9,8 @@ use Rattle.wc_engine.specs.declared.status.Status.TheVariants as status
 use Rattle.wc_engine.proofs.Exits.{headline}
 use Rattle.wc_engine.proofs.Once.{owed_once, file_once}
 use Rattle.wc_engine.proofs.Replied.{owed_replied, done_owed}
+use Rattle.wc_engine.proofs.Unwriting.{said_of_reply, unwritten_reply}
+use Rattle.wc_engine.specs.Shapes.{IsRefusedForFile}
 use Rattle.wc_engine.proofs.serving.serve.Goals as goal
 
 pub finish-requires : goal.finish-requires
@@ -83,3 +85,15 @@ returns-in-Err-DiskFault-clause-headline g c =
     status.DiskFault entry (g.met.D.Disk.reads_as c.args.one.now told) (g.met.D.Disk.reads_as c.args.two.now told_too) (c.reply_to.ensures.kept told told_too) (λ of done. absurd done)
     (unacknowledged g.D.Disk (g.R.Shelf.contents c.args.shelf.now) (command_of c.args.words.now) c.reply_to.new.one c.reply_to.new.two (g.W.Sink.taken c.args.sink.now)
     (g.W.Sink.taken c.args.sink.now) status.DiskFault (λ ok. cc))
+
+pub returns-in-Ok-clause-unwritten : goal.returns-in-Ok-clause-unwritten
+returns-in-Ok-clause-unwritten g c =
+    λ ends.
+    let f = c.finish.ensures in
+    c.in-Ok.ensures.unwritten (unwritten_reply (command_of c.args.words.now) c.in-Ok.reply.status c.finish.result f.status f.memory f.reading f.disks ends)
+
+pub returns-in-Ok-clause-early : goal.returns-in-Ok-clause-early
+returns-in-Ok-clause-early g c =
+    λ of refused.
+    let f = c.finish.ensures in
+    c.in-Ok.ensures.early of (said_of_reply IsRefusedForFile (λ never. never) c.in-Ok.reply.status c.finish.result f.status f.memory f.reading f.disks refused)

@@ -1,4 +1,4 @@
-use Rattle.std.proofs.Common.{IsTrue, refl, subst}
+use Rattle.std.proofs.Common.{inr, IsTrue, refl, subst}
 use Rattle.wc_world.specs.World.{World}
 use Rattle.wc_engine.specs.Stored.{Shows, ShowsTree}
 use Rattle.wc_engine.specs.StoreReplies.{Opens}
@@ -14,8 +14,8 @@ returns-in_ok-shown-in-Held-clause-does g c =
     let P : Opened → Type 0 = λ o. IsTrue (g.D.Disk.tells one) → IsTrue (g.D.Disk.tells two) → Opens g.D.Disk one two c.open_store.new.one c.open_store.new.two o in
     let o : P (opened.Held c.in-Held.store) = subst P c.in-Held.is c.in_ok-reply.ensures.opens in
     let r = c.in_ok-shown-in-Held.field-0 in (
-      c.in_ok-shown-in-Held.ensures.replied,
+      inr (c.world.result.now.world, c.in_ok-shown-in-Held.ensures),
       λ told told_too.
           on_world g.D.Disk (Shows c.args.pid) c.in-Held.store one two c.open_store.new.one c.open_store.new.two (g.D.Disk.seen c.open_store.new.one, g.D.Disk.seen c.open_store.new.two) r
-          (o told told_too) (refl, subst (λ (w : World). ShowsTree c.args.pid w r) (λ i. (c.world.ensures i).world) c.in_ok-shown-in-Held.ensures.shows),
+          (o told told_too) (refl, subst (λ (w : World). ShowsTree c.args.pid w r) (λ i. (c.world.ensures i).world) c.in_ok-shown-in-Held.ensures),
     )

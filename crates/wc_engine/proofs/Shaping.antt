@@ -1,7 +1,6 @@
 -- What the commands of a store may reply.
 use Rattle.std.proofs.Common.{◌≡◌, inl, inr, ℕ, List, Some, Result, Ok, Err, IfOk, sym, subst}
 use Rattle.wc_state.specs.declared.record.Limits.{Limits}
-use Rattle.wc_state.specs.declared.record.What.{What}
 use Rattle.wc_journal.specs.declared.journal.Journal.{Journal}
 use Rattle.wc_world.specs.World.{World}
 use Rattle.wc_world.specs.declared.change.Change.{Change}

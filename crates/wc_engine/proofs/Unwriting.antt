@@ -1,5 +1,5 @@
 -- Calls that write no disk.
-use Rattle.std.proofs.Common.{◌≡◌, ◌⊎◌, ◌≤◌, inl, inr, ⊎_elim, ℕ, List, Option, Some, None, Result, Ok, Err, refl, sym, subst, arith}
+use Rattle.std.proofs.Common.{◌≡◌, ◌⊎◌, ◌≤◌, inl, inr, ⊎_elim, ℕ, List, Option, Some, None, Result, Err, refl, sym, subst, arith}
 use Rattle.wc_disk.specs.declared.disk.Disk as disk
 use Rattle.wc_disk.specs.Images.{LeavesOnly}
 use Rattle.wc_disk.proofs.Runs.{no_call}
@@ -75,9 +75,6 @@ module _ {D : Type 0} (g : disk.Ghosts D) where
     pub none_asked : (one two : D) → LeavesUnwritten g one two one two
     none_asked one two = only_read one two one two (no_call g one (g.may_leave one) (at_now one)) (no_call g two (g.may_leave two) (at_now two)) refl refl
 
-    pub untouched : (one two one_new two_new : D) → (one_new ≡ one) × (two_new ≡ two) → LeavesUnwritten g one two one_new two_new
-    untouched one two one_new two_new same = then_untouched one two one two one_new two_new (none_asked one two) same
-
   -- a disk has the image that it read as, where it has another than those before
   reads_again : (old mid new : D) → g.may_leave old (g.seen old) → LeavesOnly g old mid (g.may_leave old) → g.moment mid ≤ g.moment new
       → ((t : ℕ) (image : List ℕ) → t ≤ g.moment mid → g.left_since new t image → g.left_since mid t image ⊎ (image ≡ g.seen old)) → LeavesOnly g old new (g.may_leave old)
@@ -97,12 +94,12 @@ module _ {D : Type 0} (g : disk.Ghosts D) where
     images_again parts = record {
       only_one = reads_again one parts.one_between one_new reads parts.first_one parts.later_one
           (λ t a le left.
-              ⊎_elim (λ was. inl was) (λ are. inr ((are (g.seen two_new) (counts two_new (g.moment parts.two_between) (g.seen two_new) parts.later_two reads_new_too)).0))
-              (parts.since_one t a le left));
+          ⊎_elim (λ was. inl was) (λ are. inr ((are (g.seen two_new) (counts two_new (g.moment parts.two_between) (g.seen two_new) parts.later_two reads_new_too)).0))
+          (parts.since_one t a le left));
       only_two = reads_again two parts.two_between two_new reads_too parts.first_two parts.later_two
           (λ t b le left.
-              ⊎_elim (λ was. inl was) (λ are. inr ((are (g.seen one_new) (counts one_new (g.moment parts.one_between) (g.seen one_new) parts.later_one reads_new)).1))
-              (parts.since_two t b le left));
+          ⊎_elim (λ was. inl was) (λ are. inr ((are (g.seen one_new) (counts one_new (g.moment parts.one_between) (g.seen one_new) parts.later_one reads_new)).1))
+          (parts.since_two t b le left));
     }
 
     -- `init` that is refused

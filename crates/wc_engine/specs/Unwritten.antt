@@ -1,5 +1,5 @@
 -- Which ends of a call say that no disk was written, and what is left then.
-use Rattle.std.specs.Prelude.{◌≡◌, ℕ, List, Option, Some, None, Result, Ok, Err}
+use Rattle.std.specs.Prelude.{◌≡◌, Option, Some, None, Result, Ok, Err}
 use Rattle.wc_disk.specs.declared.disk.Disk as disk
 use Rattle.wc_store.specs.Stores.{InOnePart}
 use Rattle.wc_cli.specs.declared.command.Command.{Command}

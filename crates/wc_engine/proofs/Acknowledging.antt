@@ -22,7 +22,7 @@ use Rattle.wc_engine.specs.Acknowledged.{IsAcknowledged, OfSubmit}
 use Rattle.wc_engine.specs.Crashes.{AreDurable}
 use Rattle.wc_engine.specs.Entering.{Enters, IsEntered}
 use Rattle.wc_engine.specs.Owed.{visit, Writes, OwedPrepared, OwedCommand, OwesStatus, IsOfFiles}
-use Rattle.wc_engine.specs.Replies.{refuses, IsDone}
+use Rattle.wc_engine.specs.Replies.{refuses, IsDoneOrFull}
 use Rattle.wc_engine.specs.Stored.{AtStore, is_damaged, is_full}
 use Rattle.wc_engine.specs.Submits.{PreparesFrom, IsReady}
 use Rattle.wc_engine.proofs.Entered.{has_process}
@@ -81,13 +81,13 @@ owed_ok owed ended h is = sym (subst (OwesStatus owed) is h)
 no_fault : (ended : Status) → ended ≡ status.Ok → ended ≡ status.WriteFault → ⊥
 no_fault ended is fault = cc
 
-done_ok : (ended : Status) → ended ≡ status.Ok → IsDone ended
-done_ok ended is = subst IsDone (sym is) tt
+done_ok : (ended : Status) → ended ≡ status.Ok → IsDoneOrFull ended
+done_ok ended is = subst IsDoneOrFull (sym is) tt
 
 -- after `submit` was done
 pub acknowledged : {D : Type 0} (g : disk.Ghosts D) → HeldIsReached → (told : Option (List ℕ → Option (List ℕ))) (command : Option Command) (one two one_new two_new : D)
     (old new : Option (List ℕ)) (r : Reply) (ended : Status) → IsTrue (g.tells one) → IsTrue (g.tells two) → OwedCommand told (visit g one two one_new two_new) command r
-    → OwesStatus r.status ended → ((ended ≡ status.WriteFault → ⊥) → Writes r.text old new) → ((IsOfFiles command → ⊥) → IsDone ended → AreDurable g one_new two_new)
+    → OwesStatus r.status ended → ((ended ≡ status.WriteFault → ⊥) → Writes r.text old new) → ((IsOfFiles command → ⊥) → IsDoneOrFull ended → AreDurable g one_new two_new)
     → OfSubmit command (λ file name given. ended ≡ status.Ok → IsAcknowledged g told file name given one_new two_new old new)
 acknowledged g law told None one two one_new two_new old new r ended tells tells_too owed owes writes durable = tt
 acknowledged g law told (Some (Check file)) one two one_new two_new old new r ended tells tells_too owed owes writes durable = tt

@@ -1,5 +1,5 @@
 -- What each pair of images holds at exit.
-use Rattle.std.proofs.Common.{◌≡◌, ◌≤◌, inl, inr, ⊎_elim, ℕ, List, sym, subst}
+use Rattle.std.proofs.Common.{◌≡◌, ◌≤◌, inl, inr, ⊎_elim, ℕ, List, Option, sym, subst}
 use Rattle.std.proofs.lemmas.List.Elements.{All-nil}
 use Rattle.std.specs.Prelude.{false}
 use Rattle.wc_disk.specs.declared.disk.Disk as disk
@@ -17,8 +17,9 @@ use Rattle.wc_engine.specs.Crashes.{EachPair, HoldsSound, HoldsTheSame, AreDurab
 use Rattle.wc_engine.specs.declared.status.Status.TheVariants as status
 use Rattle.wc_engine.specs.Acknowledged.{OfSubmit, IsAcknowledged}
 use Rattle.wc_engine.specs.Headline.{Call, Headline}
+use Rattle.wc_engine.specs.Makes.{MayBegin, Makes}
 use Rattle.wc_engine.specs.Owed.{IsOfFiles}
-use Rattle.wc_engine.specs.Replies.{IsDone}
+use Rattle.wc_engine.specs.Replies.{IsDoneOrFull}
 
 only_functions : OnlyFunctions empty
 only_functions = All-nil (λ (r : ProcessRecord). (r.kind ≡ kind.Function) × (r.caching ≡ false))
@@ -30,21 +31,22 @@ same_world : (v w : World) → a_world v ≡ a_world w → v ≡ w
 same_world v w h = cc
 
 -- a sound world is kept
-keeping_sound : HeldIsOne → (one two a b : List ℕ) (w : World) → HoldsSound one two → IsHeld one two (a_world w) → HoldsKeeping w a b → HoldsSound a b
-keeping_sound law one two a b w (inl none) held keeping = absurd (no_world w (law one two nothing (a_world w) none held))
-keeping_sound law one two a b w (inr sound) held keeping =
+keeping_sound : HeldIsOne → (makes : World → World → Type 0) (one two a b : List ℕ) (w : World) → HoldsSound one two → IsHeld one two (a_world w) → HoldsKeeping makes w a b
+    → HoldsSound a b
+keeping_sound law makes one two a b w (inl none) held keeping = absurd (no_world w (law one two nothing (a_world w) none held))
+keeping_sound law makes one two a b w (inr sound) held keeping =
     let same : sound.0 ≡ w = same_world sound.0 w (law one two (a_world sound.0) (a_world w) sound.1 held) in
-    let stays : StaysSound w keeping.0 = keeping.2 (subst IsSound same sound.2) (subst OnlyFunctions same sound.3) in
+    let stays : StaysSound w keeping.0 = keeping.3 (subst IsSound same sound.2) (subst OnlyFunctions same sound.3) in
     inr (keeping.0, keeping.1, stays.sound, stays.functions)
 
 module _ {D : Type 0} (g : disk.Ghosts D) where
-  kept_sound : HeldIsOne → EmptyIsSound → (one two : D) (a b : List ℕ) → EachPair g one two HoldsSound → g.may_leave one (g.seen one) → g.may_leave two (g.seen two)
-      → Kept g one two a b → HoldsSound a b
-  kept_sound law sound one two a b entry reads reads_too (inl was) = entry a b was.0 was.1
-  kept_sound law sound one two a b entry reads reads_too (inr (inl begins)) =
-      ⊎_elim (λ none. inl none) (λ held. inr (empty, held, sound, only_functions)) begins.held
-  kept_sound law sound one two a b entry reads reads_too (inr (inr h)) =
-      keeping_sound law (g.seen one) (g.seen two) a b h.0 (entry (g.seen one) (g.seen two) reads reads_too) h.1 h.2
+  kept_sound : HeldIsOne → EmptyIsSound → (begins : Type 0) (makes : World → World → Type 0) (one two : D) (a b : List ℕ) → EachPair g one two HoldsSound
+      → g.may_leave one (g.seen one) → g.may_leave two (g.seen two) → Kept g begins makes one two a b → HoldsSound a b
+  kept_sound law sound begins makes one two a b entry reads reads_too (inl was) = entry a b was.0 was.1
+  kept_sound law sound begins makes one two a b entry reads reads_too (inr (inl begun)) =
+      ⊎_elim (λ none. inl none) (λ held. inr (empty, held, sound, only_functions)) begun.1.held
+  kept_sound law sound begins makes one two a b entry reads reads_too (inr (inr h)) =
+      keeping_sound law makes (g.seen one) (g.seen two) a b h.0 (entry (g.seen one) (g.seen two) reads reads_too) h.1 h.2
 
   pub durable_same : (one two : D) → AreDurable g one two → EachPair g one two (HoldsTheSame g one two)
   durable_same one two durable a b left left_too s held =
@@ -53,15 +55,19 @@ module _ {D : Type 0} (g : disk.Ghosts D) where
 
   pub headline : HeldIsOne → EmptyIsSound → ((d : D) (image : List ℕ) → g.left_since d (g.moment d) image → g.may_leave d image) → ((d : D) (t : ℕ) (image : List ℕ) → t ≤ g.moment d → g.may_leave d image → g.left_since d t image)
       → (c : Call D) (result : Status) → EachPair g c.one c.two HoldsSound → g.may_leave c.one (g.seen c.one) → g.may_leave c.two (g.seen c.two)
-      → LeavesKept g c.one c.two c.one_new c.two_new → ((IsOfFiles c.command → ⊥) → IsDone result → AreDurable g c.one_new c.two_new)
+      → LeavesKept g (MayBegin c.command) (Makes c.told c.command) c.one c.two c.one_new c.two_new → ((IsOfFiles c.command → ⊥) → IsDoneOrFull result → AreDurable g c.one_new c.two_new)
+      → ((disk at : ℕ) (found : Option ℕ) → result ≡ status.Damaged disk at found → ⊥)
       → OfSubmit c.command (λ file name given. result ≡ status.Ok → IsAcknowledged g c.told file name given c.one_new c.two_new c.taken c.taken_new)
       → Headline g c result
-  headline law sound at_now counts c result entry reads reads_too kept durable submitted = record {
-    moments = weaker_parts g at_now c.one c.two c.one_new c.two_new (Kept g c.one c.two) (λ a b. Kept g c.one c.two a b × HoldsSound a b) kept
-        (λ a b k. (k, kept_sound law sound c.one c.two a b entry reads reads_too k));
+  headline law sound at_now counts c result entry reads reads_too kept durable whole submitted = record {
+    moments = weaker_parts g at_now c.one c.two c.one_new c.two_new (Kept g (MayBegin c.command) (Makes c.told c.command) c.one c.two)
+        (λ a b. Kept g (MayBegin c.command) (Makes c.told c.command) c.one c.two a b × HoldsSound a b) kept.parts
+        (λ a b k. (k, kept_sound law sound (MayBegin c.command) (Makes c.told c.command) c.one c.two a b entry reads reads_too k));
+    one_writes = kept.one_writes;
     exit = λ a b left left_too.
-        kept_sound law sound c.one c.two a b entry reads reads_too (kept.pairs a b (counts c.one_new (g.moment kept.one_between) a kept.later_one left)
-        (counts c.two_new (g.moment kept.two_between) b kept.later_two left_too));
+        kept_sound law sound (MayBegin c.command) (Makes c.told c.command) c.one c.two a b entry reads reads_too (kept.parts.pairs a b (counts c.one_new (g.moment kept.parts.one_between) a kept.parts.later_one left)
+        (counts c.two_new (g.moment kept.parts.two_between) b kept.parts.later_two left_too));
     acknowledged = λ of done. let d = durable of done in (d, durable_same c.one_new c.two_new d);
+    whole = whole;
     submitted = submitted;
   }

@@ -1,19 +1,28 @@
 -- What a call on a store leaves of its disks at each moment.
-use Rattle.std.proofs.Common.{◌≤◌, inl, inr, ⊎_elim, ℕ, List, Result, refl, sym, subst}
+use Rattle.std.proofs.Common.{◌≡◌, ◌≤◌, inl, inr, ⊎_elim, ℕ, List, Option, Result, refl, sym, subst}
 use Rattle.wc_disk.specs.declared.disk.Disk as disk
 use Rattle.wc_disk.specs.Images.{LeavesOnly}
 use Rattle.wc_disk.proofs.Runs.{no_call, both_runs}
+use Rattle.wc_state.specs.declared.record.Limits.{Limits}
 use Rattle.wc_world.specs.World.{World}
 use Rattle.wc_world.specs.Accepted.{IsReached}
 use Rattle.wc_store.specs.declared.error.StoreError.{StoreError}
 use Rattle.wc_store.specs.declared.store.Store.{Store}
 use Rattle.wc_store.specs.Held.{Standing, IsHeld, a_world}
-use Rattle.wc_store.specs.Stores.{StandsFor, CommitLeaves, PackLeaves, InTwoParts, AreImages, HoldsOneOf, InitLeaves}
+use Rattle.wc_store.specs.declared.place.Place.{Place}
+use Rattle.wc_store.specs.declared.place.Place.TheVariants.{One, Two}
+use Rattle.wc_store.specs.Places.{its}
+use Rattle.wc_store.specs.Stores.{other, StandsFor, CommitLeaves, PackLeaves, InTwoParts, AreImages, HoldsOneOf, InitLeaves}
 use Rattle.wc_store.proofs.Parts.{then_none, then_commit, then_pack, then_worlds, weaker_parts, one_part, OfInit, init_parts}
 use Rattle.wc_store.specs.Laws.{HeldIsReached}
 use Rattle.wc_runner.specs.Laws.{TurnsKeepSound, WorldsContinueThemselves}
 use Rattle.wc_runner.specs.Leaves.{LeavesWorlds, SomeTurns}
-use Rattle.wc_engine.specs.Crashes.{Keeps, HoldsKeeping, Kept, LeavesKept}
+use Rattle.wc_engine.specs.declared.submission.Prepared.{Prepared}
+use Rattle.wc_engine.specs.declared.submission.Prepared.TheVariants as prepared
+use Rattle.wc_engine.specs.Crashes.{Keeps, HoldsKeeping, Kept, WritesOne, LeavesPairs, LeavesKept}
+use Rattle.wc_engine.specs.Makes.{Stays, TakesSome, MakesPrepared, MakesSubmission}
+use Rattle.wc_engine.specs.Stored.{usual_limits}
+use Rattle.wc_engine.specs.Submits.{PreparesFrom}
 
 keeps_itself : WorldsContinueThemselves → (w : World) → IsReached w → Keeps w w
 keeps_itself law w reached sound functions = record { sound = sound; functions = functions; continues = law w reached; reached = reached }
@@ -22,9 +31,28 @@ pub images_hold : (one two a b : List ℕ) (s : Standing) → IsHeld one two s �
 images_hold one two a b s held are =
     subst (λ (x : List ℕ). IsHeld a x s) (sym are.1) (subst (λ (x : List ℕ). IsHeld x two s) (sym are.0) held)
 
+-- what is made for what words are prepared as is made by `submit` with these words
+pub made_by_submit : (told : Option (List ℕ → Option (List ℕ))) (file name : List ℕ) (given : List (List ℕ × List ℕ)) (p : Prepared) → PreparesFrom told file name given p
+    → (w v : World) → MakesPrepared p w v → MakesSubmission told file name given w v
+made_by_submit told file name given (prepared.Refused c) prepares w v same = inl same
+made_by_submit told file name given (prepared.Submits s) prepares w v makes = ⊎_elim (λ same. inl same) (λ entered. inr (s, prepares, entered)) makes
+
 module _ {D : Type 0} (g : disk.Ghosts D) (at_now : (d : D) (image : List ℕ) → g.left_since d (g.moment d) image → g.may_leave d image) where
   none_asked : (d : D) → LeavesOnly g d d (g.may_leave d)
   none_asked d = no_call g d (g.may_leave d) (at_now d)
+
+  untouched : (d e : D) → e ≡ d → LeavesOnly g d e (g.may_leave d)
+  untouched d e same = subst (λ (x : D). LeavesOnly g d x (g.may_leave d)) (sym same) (none_asked d)
+
+  -- the disk at the place is written alone
+  own_writes : (place : Place) (one two one_new two_new : D) → other place one_new two_new ≡ other place one two → WritesOne g one two one_new two_new
+  own_writes One one two one_new two_new same = inr (untouched two two_new same)
+  own_writes Two one two one_new two_new same = inl (untouched one one_new same)
+
+  -- or the other disk
+  other_writes : (place : Place) (one two one_new two_new : D) → its place one_new two_new ≡ its place one two → WritesOne g one two one_new two_new
+  other_writes One one two one_new two_new same = inl (untouched one one_new same)
+  other_writes Two one two one_new two_new same = inr (untouched two two_new same)
 
   -- ---- a store that stands for its disks
 
@@ -32,51 +60,79 @@ module _ {D : Type 0} (g : disk.Ghosts D) (at_now : (d : D) (image : List ℕ) �
     reached : IsReached store.world.world
     reached = reached_law (g.seen one) (g.seen two) store.world.world stands.held
 
+    -- of two parts, in which one disk is not written
+    with_one : (makes : World → World → Type 0) (P : List ℕ → List ℕ → Type 0) (one_new two_new : D) → InTwoParts g one two one_new two_new P
+        → ((a b : List ℕ) → P a b → HoldsKeeping makes store.world.world a b) → WritesOne g one two one_new two_new
+        → LeavesPairs g one two one_new two_new (HoldsKeeping makes store.world.world)
+    with_one makes P one_new two_new parts weaker one_writes = record {
+      parts = weaker_parts g at_now one two one_new two_new P (HoldsKeeping makes store.world.world) parts weaker;
+      one_writes = one_writes;
+    }
+
     -- no disk is asked
-    pub standing : InTwoParts g one two one two (HoldsKeeping store.world.world)
-    standing =
-        weaker_parts g at_now one two one two (AreImages (g.seen one) (g.seen two)) (HoldsKeeping store.world.world)
+    pub standing : (makes : World → World → Type 0) → makes store.world.world store.world.world → LeavesPairs g one two one two (HoldsKeeping makes store.world.world)
+    standing makes itself =
+        with_one makes (AreImages (g.seen one) (g.seen two)) one two
         (then_none g at_now one two one two (none_asked one) (none_asked two) (g.seen one) (g.seen two) refl refl stands.durable_one stands.durable_two)
-        (λ a b are. (store.world.world, images_hold (g.seen one) (g.seen two) a b (a_world store.world.world) stands.held are, keeps_itself same_law store.world.world reached))
+        (λ a b are.
+        (store.world.world, images_hold (g.seen one) (g.seen two) a b (a_world store.world.world) stands.held are, itself, keeps_itself same_law store.world.world reached)) (inl (none_asked one))
 
     -- a commit
-    pub committed : (v : World) (one_new two_new : D) → Keeps store.world.world v → CommitLeaves g store.place store.world.world v one two one_new two_new
-        → InTwoParts g one two one_new two_new (HoldsKeeping store.world.world)
-    committed v one_new two_new keeps leaves =
-        weaker_parts g at_now one two one_new two_new (HoldsOneOf store.world.world v) (HoldsKeeping store.world.world)
+    pub committed : (makes : World → World → Type 0) (v : World) (one_new two_new : D) → makes store.world.world store.world.world → makes store.world.world v
+        → Keeps store.world.world v → CommitLeaves g store.place store.world.world v one two one_new two_new
+        → LeavesPairs g one two one_new two_new (HoldsKeeping makes store.world.world)
+    committed makes v one_new two_new itself after keeps leaves =
+        with_one makes (HoldsOneOf store.world.world v) one_new two_new
         (then_commit g at_now one two one two (none_asked one) (none_asked two) stands.durable_one stands.durable_two store.place store.world.world v one_new two_new leaves)
-        (λ a b. ⊎_elim (λ held. (store.world.world, held, keeps_itself same_law store.world.world reached)) (λ held. (v, held, keeps)))
+        (λ a b. ⊎_elim (λ held. (store.world.world, held, itself, keeps_itself same_law store.world.world reached)) (λ held. (v, held, after, keeps))) (own_writes store.place one two one_new two_new leaves.untouched)
 
     -- a pack
     pub packed : (one_new two_new : D) → PackLeaves g store.place store.world.world one two one_new two_new
-        → InTwoParts g one two one_new two_new (HoldsKeeping store.world.world)
+        → LeavesPairs g one two one_new two_new (HoldsKeeping Stays store.world.world)
     packed one_new two_new leaves =
-        weaker_parts g at_now one two one_new two_new (λ a b. IsHeld a b (a_world store.world.world)) (HoldsKeeping store.world.world)
+        with_one Stays (λ a b. IsHeld a b (a_world store.world.world)) one_new two_new
         (then_pack g at_now one two one two (none_asked one) (none_asked two) stands.durable_one stands.durable_two store.place store.world.world one_new two_new leaves)
-        (λ a b held. (store.world.world, held, keeps_itself same_law store.world.world reached))
+        (λ a b held. (store.world.world, held, refl, keeps_itself same_law store.world.world reached)) (other_writes store.place one two one_new two_new leaves.untouched)
 
     -- turns
-    pub taken : TurnsKeepSound → (poll : ℕ) (one_new two_new : D) → LeavesWorlds g store.place (SomeTurns poll store.world.world) one two one_new two_new
-        → InTwoParts g one two one_new two_new (HoldsKeeping store.world.world)
-    taken turns_law poll one_new two_new leaves =
-        weaker_parts g at_now one two one_new two_new (λ a b. (v : World) × SomeTurns poll store.world.world v × IsHeld a b (a_world v)) (HoldsKeeping store.world.world)
+    turned : TurnsKeepSound → (poll : ℕ) (one_new two_new : D) → LeavesWorlds g store.place (SomeTurns poll store.world.world) one two one_new two_new
+        → LeavesPairs g one two one_new two_new (HoldsKeeping (SomeTurns poll) store.world.world)
+    turned turns_law poll one_new two_new leaves =
+        with_one (SomeTurns poll) (λ a b. (v : World) × SomeTurns poll store.world.world v × IsHeld a b (a_world v)) one_new two_new
         (then_worlds g at_now one two one two (none_asked one) (none_asked two) stands.durable_one stands.durable_two store.place (SomeTurns poll store.world.world) one_new two_new
         leaves.untouched leaves.each)
-        (λ a b held. (held.0, held.2, λ sound functions. turns_law poll held.1.0 store.world.world held.0 reached sound functions held.1.1))
+        (λ a b held. (held.0, held.2, held.1, λ sound functions. turns_law poll held.1.0 store.world.world held.0 reached sound functions held.1.1))
+        (own_writes store.place one two one_new two_new leaves.untouched)
+
+    -- turns within the usual limits
+    pub taken : TurnsKeepSound → (limits : Limits) (one_new two_new : D) → limits ≡ usual_limits
+        → LeavesWorlds g store.place (SomeTurns limits.poll_ms store.world.world) one two one_new two_new
+        → LeavesPairs g one two one_new two_new (HoldsKeeping TakesSome store.world.world)
+    taken turns_law limits one_new two_new usual leaves =
+        subst (λ (l : Limits). LeavesPairs g one two one_new two_new (HoldsKeeping (SomeTurns l.poll_ms) store.world.world)) usual
+        (turned turns_law limits.poll_ms one_new two_new leaves)
 
   -- ---- whole calls
 
   module _ (counts : (d : D) (t : ℕ) (image : List ℕ) → t ≤ g.moment d → g.may_leave d image → g.left_since d t image) where
     -- a call that writes nothing
-    pub unwritten : (one two one_new two_new : D) → LeavesOnly g one one_new (g.may_leave one) → LeavesOnly g two two_new (g.may_leave two)
-        → LeavesKept g one two one_new two_new
-    unwritten one two one_new two_new first second =
-        weaker_parts g at_now one two one_new two_new (λ a b. g.may_leave one a × g.may_leave two b) (Kept g one two)
-        (one_part g at_now counts one two one_new two_new (record { only_one = first; only_two = second })) (λ a b was. inl was)
+    pub unwritten : (begins : Type 0) (makes : World → World → Type 0) (one two one_new two_new : D) → LeavesOnly g one one_new (g.may_leave one)
+        → LeavesOnly g two two_new (g.may_leave two) → LeavesKept g begins makes one two one_new two_new
+    unwritten begins makes one two one_new two_new first second = record {
+      parts = weaker_parts g at_now one two one_new two_new (λ a b. g.may_leave one a × g.may_leave two b) (Kept g begins makes one two)
+          (one_part g at_now counts one two one_new two_new (record { only_one = first; only_two = second })) (λ a b was. inl was);
+      one_writes = inl first;
+    }
 
     -- a call that asks no disk
-    pub unasked : (one two : D) → LeavesKept g one two one two
-    unasked one two = unwritten one two one two (none_asked one) (none_asked two)
+    pub unasked : (begins : Type 0) (makes : World → World → Type 0) (one two : D) → LeavesKept g begins makes one two one two
+    unasked begins makes one two = unwritten begins makes one two one two (none_asked one) (none_asked two)
+
+    -- a disk is read, and then not written
+    read_on : (d d_mid d_new : D) → LeavesOnly g d d_mid (g.may_leave d) → LeavesOnly g d_mid d_new (g.may_leave d_mid) → LeavesOnly g d d_new (g.may_leave d)
+    read_on d d_mid d_new first second =
+        both_runs g d d_mid d_new (g.may_leave d) (g.may_leave d_mid) (g.may_leave d) first second (λ image h. h)
+        (λ image h. first.each image (counts d_mid (g.moment d) image first.later h))
 
     -- the disks are read, and then there is a call in two parts
     after_reading : (P : List ℕ → List ℕ → Type 0) (one two one_mid two_mid one_new two_new : D) → LeavesOnly g one one_mid (g.may_leave one)
@@ -84,10 +140,8 @@ module _ {D : Type 0} (g : disk.Ghosts D) (at_now : (d : D) (image : List ℕ) �
     after_reading P one two one_mid two_mid one_new two_new first second parts = record {
       one_between = parts.one_between;
       two_between = parts.two_between;
-      first_one = both_runs g one one_mid parts.one_between (g.may_leave one) (g.may_leave one_mid) (g.may_leave one) first parts.first_one (λ image h. h)
-          (λ image h. first.each image (counts one_mid (g.moment one) image first.later h));
-      first_two = both_runs g two two_mid parts.two_between (g.may_leave two) (g.may_leave two_mid) (g.may_leave two) second parts.first_two (λ image h. h)
-          (λ image h. second.each image (counts two_mid (g.moment two) image second.later h));
+      first_one = read_on one one_mid parts.one_between first parts.first_one;
+      first_two = read_on two two_mid parts.two_between second parts.first_two;
       later_one = parts.later_one;
       later_two = parts.later_two;
       pairs = parts.pairs;
@@ -96,17 +150,33 @@ module _ {D : Type 0} (g : disk.Ghosts D) (at_now : (d : D) (image : List ℕ) �
     }
 
     -- a call that reads a world, and then leaves worlds that keep it
-    pub goes_on : (w : World) (one two one_mid two_mid one_new two_new : D) → IsHeld (g.seen one) (g.seen two) (a_world w)
+    pub goes_on : (begins : Type 0) (makes : World → World → Type 0) (w : World) (one two one_mid two_mid one_new two_new : D) → IsHeld (g.seen one) (g.seen two) (a_world w)
         → LeavesOnly g one one_mid (g.may_leave one) → LeavesOnly g two two_mid (g.may_leave two)
-        → InTwoParts g one_mid two_mid one_new two_new (HoldsKeeping w) → LeavesKept g one two one_new two_new
-    goes_on w one two one_mid two_mid one_new two_new held first second parts =
-        weaker_parts g at_now one two one_new two_new (HoldsKeeping w) (Kept g one two)
-        (after_reading (HoldsKeeping w) one two one_mid two_mid one_new two_new first second parts) (λ a b keeps. inr (inr (w, held, keeps)))
+        → LeavesPairs g one_mid two_mid one_new two_new (HoldsKeeping makes w) → LeavesKept g begins makes one two one_new two_new
+    goes_on begins makes w one two one_mid two_mid one_new two_new held first second leaves = record {
+      parts = weaker_parts g at_now one two one_new two_new (HoldsKeeping makes w) (Kept g begins makes one two)
+          (after_reading (HoldsKeeping makes w) one two one_mid two_mid one_new two_new first second leaves.parts) (λ a b keeps. inr (inr (w, held, keeps)));
+      one_writes = ⊎_elim (λ still. inl (read_on one one_mid one_new first still)) (λ still. inr (read_on two two_mid two_new second still)) leaves.one_writes;
+    }
+
+    -- what may be made by one rule may be by a wider one
+    pub wider : (begins : Type 0) (makes more : World → World → Type 0) (one two one_new two_new : D) → ((w v : World) → makes w v → more w v)
+        → LeavesKept g begins makes one two one_new two_new → LeavesKept g begins more one two one_new two_new
+    wider begins makes more one two one_new two_new widens leaves = record {
+      parts = weaker_parts g at_now one two one_new two_new (Kept g begins makes one two) (Kept g begins more one two) leaves.parts
+          (λ a b.
+          ⊎_elim (λ was. inl was)
+          (⊎_elim (λ begun. inr (inl begun)) (λ keeps. inr (inr (keeps.0, keeps.1, (keeps.2.0, keeps.2.1, widens keeps.0 keeps.2.0 keeps.2.2, keeps.2.3))))));
+      one_writes = leaves.one_writes;
+    }
 
     -- `init`
     pub begun : (result : Result Store StoreError) (one two one_new two_new : D) → g.may_leave one (g.seen one) → g.may_leave two (g.seen two)
-        → InitLeaves g result one two one_new two_new → LeavesKept g one two one_new two_new
-    begun result one two one_new two_new reads reads_too leaves =
-        weaker_parts g at_now one two one_new two_new (OfInit g at_now counts one two) (Kept g one two) (init_parts g at_now counts result one two one_new two_new leaves)
-        (λ a b. ⊎_elim (λ was. inl was)
-        (⊎_elim (λ are. inl (subst (g.may_leave one) (sym are.0) reads, subst (g.may_leave two) (sym are.1) reads_too)) (λ begins. inr (inl begins))))
+        → InitLeaves g result one two one_new two_new → LeavesOnly g two two_new (g.may_leave two) → LeavesKept g (Unit {0}) Stays one two one_new two_new
+    begun result one two one_new two_new reads reads_too leaves second = record {
+      parts = weaker_parts g at_now one two one_new two_new (OfInit g at_now counts one two) (Kept g (Unit {0}) Stays one two)
+          (init_parts g at_now counts result one two one_new two_new leaves)
+          (λ a b. ⊎_elim (λ was. inl was)
+          (⊎_elim (λ are. inl (subst (g.may_leave one) (sym are.0) reads, subst (g.may_leave two) (sym are.1) reads_too)) (λ begins. inr (inl (tt, begins)))));
+      one_writes = inr second;
+    }

@@ -12,5 +12,7 @@ pub mod Replied
 pub mod Shaping
 pub mod Submitted
 pub mod Turns
+pub mod Undamaged
+pub mod Undone
 pub mod Unwriting
 pub mod Valid

@@ -17,7 +17,7 @@ use Rattle.wc_engine.specs.declared.status.Status.{Status}
 use Rattle.wc_engine.specs.declared.status.Status.TheVariants as status
 use Rattle.wc_engine.specs.Given.{bad_given, fields_of}
 use Rattle.wc_engine.specs.Owed.{Visit, owed_answer, owed_inputs, owed_name, owed_check, owed_dry, OwedPrepared, OwedCommand, IsOwed, OwesStatus}
-use Rattle.wc_engine.specs.Replies.{IsReplied, IsDone}
+use Rattle.wc_engine.specs.Replies.{IsReplied, IsDoneOrFull}
 use Rattle.wc_engine.proofs.Shaping.{init_replied, list_replied, show_replied, submit_replied, pack_replied, running_replied}
 use Rattle.wc_engine.specs.declared.submission.Prepared.{Prepared}
 use Rattle.wc_engine.specs.declared.submission.Prepared.TheVariants as prepared
@@ -69,14 +69,14 @@ pub owed_replied : (told : Option (List ℕ → Option (List ℕ))) (v : Visit) 
 owed_replied told v words r p = command_replied told v (command_of words) r p
 
 -- what is done ends as what is owed
-pub done_owed : (owed ended : Status) → OwesStatus owed ended → IsDone ended → IsDone owed
-done_owed owed status.Ok h done = subst IsDone h tt
-done_owed owed status.Spent h done = subst IsDone h tt
-done_owed owed status.Resting h done = subst IsDone h tt
+pub done_owed : (owed ended : Status) → OwesStatus owed ended → IsDoneOrFull ended → IsDoneOrFull owed
+done_owed owed status.Ok h done = subst IsDoneOrFull h tt
+done_owed owed status.Spent h done = subst IsDoneOrFull h tt
+done_owed owed status.Resting h done = subst IsDoneOrFull h tt
 done_owed owed (status.Refused c) h done = absurd done
 done_owed owed status.OutOfMemory h done = absurd done
 done_owed owed status.DiskFault h done = absurd done
 done_owed owed (status.Damaged disk at found) h done = absurd done
 done_owed owed status.ReadFault h done = absurd done
 done_owed owed status.WriteFault h done = absurd done
-done_owed owed (status.Full what count limit) h done = absurd done
+done_owed owed (status.Full what count limit) h done = subst IsDoneOrFull h tt

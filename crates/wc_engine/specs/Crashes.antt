@@ -1,6 +1,7 @@
 -- What a crash leaves of a store, and what each call of the program keeps.
 use Rattle.std.specs.Prelude.{◌⊎◌, ℕ, List}
 use Rattle.wc_disk.specs.declared.disk.Disk as disk
+use Rattle.wc_disk.specs.Images.{LeavesOnly}
 use Rattle.wc_disk.specs.Steps.{Only}
 use Rattle.wc_world.specs.World.{World}
 use Rattle.wc_machine.specs.Laws.{OnlyFunctions}
@@ -34,22 +35,32 @@ pub record AreDurable {D : Type 0} (g : disk.Ghosts D) (one two : D) : Type 0 wh
 abbrev pub Keeps : World → World → Type 0
 Keeps w v = IsSound w → OnlyFunctions w → StaysSound w v
 
--- the pair holds a world that keeps this one
-abbrev pub HoldsKeeping : World → List ℕ → List ℕ → Type 0
-HoldsKeeping w a b = (v : World) × IsHeld a b (a_world v) × Keeps w v
+-- the pair holds a world that the call may make of this one, and that keeps it
+abbrev pub HoldsKeeping : (World → World → Type 0) → World → List ℕ → List ℕ → Type 0
+HoldsKeeping makes w a b = (v : World) × IsHeld a b (a_world v) × makes w v × Keeps w v
 
--- What comes of two images: where they hold nothing, nothing or the empty world; where they hold a world, one that keeps it.
-abbrev pub ComesOf : (one two a b : List ℕ) → Type 0
-ComesOf one two a b = BeginsFrom one two a b ⊎ ((w : World) × IsHeld one two (a_world w) × HoldsKeeping w a b)
+-- What comes of two images in a call that begins a store only where `begins` holds, and makes of a world only what `makes` says: where
+-- they hold nothing, and it begins a store, nothing or the empty world; where they hold a world, one that it makes of that and that keeps it.
+abbrev pub ComesOf : (begins : Type 0) → (makes : World → World → Type 0) → (one two a b : List ℕ) → Type 0
+ComesOf begins makes one two a b = (begins × BeginsFrom one two a b) ⊎ ((w : World) × IsHeld one two (a_world w) × HoldsKeeping makes w a b)
 
 -- the pair is one that a crash at entry might have left, or holds what comes of what the disks read as at entry
-abbrev pub Kept : {D : Type 0} → disk.Ghosts D → D → D → List ℕ → List ℕ → Type 0
-Kept g one two a b = (g.may_leave one a × g.may_leave two b) ⊎ ComesOf (g.seen one) (g.seen two) a b
+abbrev pub Kept : {D : Type 0} → disk.Ghosts D → (begins : Type 0) → (makes : World → World → Type 0) → D → D → List ℕ → List ℕ → Type 0
+Kept g begins makes one two a b = (g.may_leave one a × g.may_leave two b) ⊎ ComesOf begins makes (g.seen one) (g.seen two) a b
+
+-- one of the disks is not written: each of its images is one that a crash at entry might have left
+abbrev pub WritesOne : {D : Type 0} → disk.Ghosts D → (one two one_new two_new : D) → Type 0
+WritesOne g one two one_new two_new = LeavesOnly g one one_new (g.may_leave one) ⊎ LeavesOnly g two two_new (g.may_leave two)
+
+-- What a call leaves: two parts, from the middle of which on each pair of images is as P says, and at most one disk is written.
+pub record LeavesPairs {D : Type 0} (g : disk.Ghosts D) (one two one_new two_new : D) (P : List ℕ → List ℕ → Type 0) : Type 0 where
+  pub parts : InTwoParts g one two one_new two_new P
+  pub one_writes : WritesOne g one two one_new two_new
 
 -- what a call leaves at each of its moments
-abbrev pub LeavesKept : {D : Type 0} → disk.Ghosts D → (one two one_new two_new : D) → Type 0
-LeavesKept g one two one_new two_new = InTwoParts g one two one_new two_new (Kept g one two)
+abbrev pub LeavesKept : {D : Type 0} → disk.Ghosts D → (begins : Type 0) → (makes : World → World → Type 0) → (one two one_new two_new : D) → Type 0
+LeavesKept g begins makes one two one_new two_new = LeavesPairs g one two one_new two_new (Kept g begins makes one two)
 
--- the same, where each of the pairs holds nothing or a sound world too
-abbrev pub LeavesSound : {D : Type 0} → disk.Ghosts D → (one two one_new two_new : D) → Type 0
-LeavesSound g one two one_new two_new = InTwoParts g one two one_new two_new (λ a b. Kept g one two a b × HoldsSound a b)
+-- its two parts, where each of the pairs holds nothing or a sound world too
+abbrev pub LeavesSound : {D : Type 0} → disk.Ghosts D → (begins : Type 0) → (makes : World → World → Type 0) → (one two one_new two_new : D) → Type 0
+LeavesSound g begins makes one two one_new two_new = InTwoParts g one two one_new two_new (λ a b. Kept g begins makes one two a b × HoldsSound a b)

@@ -5,8 +5,9 @@ use Rattle.wc_cli.specs.declared.command.Command.{Command}
 use Rattle.wc_engine.specs.declared.status.Status.{Status}
 use Rattle.wc_engine.specs.declared.status.Status.TheVariants as status
 use Rattle.wc_engine.specs.Owed.{IsOfFiles}
-use Rattle.wc_engine.specs.Replies.{IsDone}
-use Rattle.wc_engine.specs.Crashes.{AreDurable, EachPair, HoldsSound, HoldsTheSame, LeavesSound}
+use Rattle.wc_engine.specs.Replies.{IsDoneOrFull}
+use Rattle.wc_engine.specs.Crashes.{AreDurable, EachPair, HoldsSound, HoldsTheSame, LeavesSound, WritesOne}
+use Rattle.wc_engine.specs.Makes.{MayBegin, Makes}
 use Rattle.wc_engine.specs.Acknowledged.{OfSubmit, IsAcknowledged}
 
 -- What was there before a call and after it, with what the shelf tells and what the sink has taken.
@@ -21,13 +22,15 @@ pub record Call (D : Type 0) : Type 0 where
   pub taken_new : Option (List ℕ)
 
 -- In a call of two parts each image of the first is one that a crash at entry might have left. From the middle on, which is a moment of
--- each disk's own clock, each pair of images is such a pair, or holds what comes of what the disks held at entry, and in both cases
--- nothing or a sound world of functions. So it is at exit, as at the entry of the next call; where a command of a store was done,
--- nothing is pending, and each pair holds what the disks then read as; and after `submit` was done, each pair holds the process whose
--- number was written.
+-- each disk's own clock, each pair of images is such a pair, or holds what the command makes of what the disks held at entry, and in both
+-- cases nothing or a sound world of functions. At most one of the disks is written in all the call. So it is at exit, as at the entry of the next call; where a command of a store was done,
+-- or found the store too full, nothing is pending, and each pair holds what the disks then read as; no disk is told to be damaged; and after `submit`
+-- was done, each pair holds the process whose number was written.
 pub record Headline {D : Type 0} (g : disk.Ghosts D) (c : Call D) (result : Status) : Type 0 where
-  pub moments : LeavesSound g c.one c.two c.one_new c.two_new
+  pub moments : LeavesSound g (MayBegin c.command) (Makes c.told c.command) c.one c.two c.one_new c.two_new
+  pub one_writes : WritesOne g c.one c.two c.one_new c.two_new
   pub exit : EachPair g c.one_new c.two_new HoldsSound
-  pub acknowledged : (IsOfFiles c.command → ⊥) → IsDone result
+  pub acknowledged : (IsOfFiles c.command → ⊥) → IsDoneOrFull result
       → AreDurable g c.one_new c.two_new × EachPair g c.one_new c.two_new (HoldsTheSame g c.one_new c.two_new)
+  pub whole : (disk at : ℕ) (found : Option ℕ) → result ≡ status.Damaged disk at found → ⊥
   pub submitted : OfSubmit c.command (λ file name given. result ≡ status.Ok → IsAcknowledged g c.told file name given c.one_new c.two_new c.taken c.taken_new)

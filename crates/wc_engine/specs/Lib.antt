@@ -10,6 +10,7 @@ pub mod Shapes
 pub mod Submits
 pub mod Owed
 pub mod Calls
+pub mod Makes
 pub mod Unwritten
 pub mod Crashes
 pub mod Acknowledged

@@ -4,6 +4,8 @@ use Rattle.wc_engine.specs.declared.reply.Reply.{Reply}
 use Rattle.wc_engine.specs.declared.status.Cause.{Cause}
 use Rattle.wc_engine.specs.declared.status.Status.{Status}
 use Rattle.wc_engine.specs.declared.status.Status.TheVariants as status
+use Rattle.wc_engine.specs.declared.storing.Opened.{Opened}
+use Rattle.wc_engine.specs.declared.storing.Opened.TheVariants as opened
 use Rattle.wc_engine.specs.Texts.{refusal_text}
 
 abbrev pub code_of : Status → ℕ
@@ -34,12 +36,18 @@ IsReplied status.ReadFault = ⊥
 IsReplied status.WriteFault = ⊥
 IsReplied _ = Unit {0}
 
--- the work was done, all of it or as much as it could be
-abbrev pub IsDone : Status → Type 0
-IsDone status.Ok = Unit {0}
-IsDone status.Spent = Unit {0}
-IsDone status.Resting = Unit {0}
-IsDone _ = ⊥
+-- the work was done, all of it or as much as it could be, or the store is too full for it
+abbrev pub IsDoneOrFull : Status → Type 0
+IsDoneOrFull status.Ok = Unit {0}
+IsDoneOrFull status.Spent = Unit {0}
+IsDoneOrFull status.Resting = Unit {0}
+IsDoneOrFull (status.Full what count limit) = Unit {0}
+IsDoneOrFull _ = ⊥
+
+-- what is told where no store was opened is neither
+abbrev pub IsToldUndone : Opened → Type 0
+IsToldUndone (opened.Told r) = IsDoneOrFull r.status → ⊥
+IsToldUndone (opened.Held store) = Unit {0}
 
 -- a refusal, damage or fullness is told
 abbrev pub IsRefused : Status → Type 0

@@ -4,9 +4,10 @@ ghost use Rattle.std.specs.Prelude.{◌≡◌, Some, IsTrue, IfOk};
 ghost use Rattle.wc_cli.specs.Words.{command_of};
 ghost use Rattle.wc_engine.specs.Calls.{CountsDisks, CountsShelf, IsOfShelf, IsReadFirst};
 ghost use Rattle.wc_engine.specs.Crashes.{AreDurable, LeavesKept};
+ghost use Rattle.wc_engine.specs.Makes.{MayBegin, Makes, MakesPrepared, MakesSubmission};
 ghost use Rattle.wc_engine.specs.Owed.{visit, AsksNoDisk, IsOfFiles, IsOwed, IsSubmit, OwedCommand, OwedPrepared};
 ghost use Rattle.wc_cli.specs.declared.command.Command.TheVariants.{Submit};
-ghost use Rattle.wc_engine.specs.Replies.{IsDone};
+ghost use Rattle.wc_engine.specs.Replies.{IsDoneOrFull};
 ghost use Rattle.wc_engine.specs.Shapes.{IsRefusedForFile};
 ghost use Rattle.wc_engine.specs.StoreReplies.{Counts, NoDiskFailed};
 ghost use Rattle.wc_engine.specs.Submits.{PreparesFrom, SubmitsNothing, SubmitsReady};
@@ -54,8 +55,8 @@ fn reply_to_prepared<D: Disk>(
 ) -> Result<Reply, StoreReplyError>
     requires ready { SubmitsReady prepared }
     ensures does { IfOk result (λ r. OwedPrepared (visit D.Disk one.old two.old one.new two.new) prepared r) }
-    ensures kept { IsTrue (D.tells one.old) → IsTrue (D.tells two.old) → LeavesKept D.Disk one.old two.old one.new two.new }
-    ensures durable { IfOk result (λ r. IsDone r.status → IsTrue (D.tells one.old) → IsTrue (D.tells two.old) → AreDurable D.Disk one.new two.new) }
+    ensures kept { IsTrue (D.tells one.old) → IsTrue (D.tells two.old) → LeavesKept D.Disk ⊥ (MakesPrepared prepared) one.old two.old one.new two.new }
+    ensures durable { IfOk result (λ r. IsDoneOrFull r.status → IsTrue (D.tells one.old) → IsTrue (D.tells two.old) → AreDurable D.Disk one.new two.new) }
     ensures tells { (D.tells one.new ≡ D.tells one.old) × (D.tells two.new ≡ D.tells two.old) }
     ensures early { IfOk result (λ r. IsRefusedForFile r.status → (one.new ≡ one.old) × (two.new ≡ two.old)) }
     ensures unwritten { EndsWith store_ended_by IsBeforeStoring result → IsTrue (D.tells one.old) → IsTrue (D.tells two.old) → LeavesUnwritten D.Disk one.old two.old one.new two.new }
@@ -87,8 +88,8 @@ fn submit_reply<R: Shelf, D: Disk>(
     ensures unwritten { EndsWith ended_by IsBeforeStoring result → IsTrue (D.tells one.old) → IsTrue (D.tells two.old) → LeavesUnwritten D.Disk one.old two.old one.new two.new }
     ensures untouched { AsksNoDisk (R.contents shelf.old) (Some (Submit file.now name.now given.now)) → (one.new ≡ one.old) × (two.new ≡ two.old) × IsOfShelf result }
     ensures unread { IsReadFirst result one.old one.new two.old two.new }
-    ensures kept { IsTrue (D.tells one.old) → IsTrue (D.tells two.old) → LeavesKept D.Disk one.old two.old one.new two.new }
-    ensures durable { IfOk result (λ r. IsDone r.status → IsTrue (D.tells one.old) → IsTrue (D.tells two.old) → AreDurable D.Disk one.new two.new) }
+    ensures kept { IsTrue (D.tells one.old) → IsTrue (D.tells two.old) → LeavesKept D.Disk ⊥ (MakesSubmission (R.contents shelf.old) file.now name.now given.now) one.old two.old one.new two.new }
+    ensures durable { IfOk result (λ r. IsDoneOrFull r.status → IsTrue (D.tells one.old) → IsTrue (D.tells two.old) → AreDurable D.Disk one.new two.new) }
 {
     let prepared = prepare_from(alloc, shelf, file, name, given)?;
     match reply_to_prepared(alloc, prepared, one, two) {
@@ -115,8 +116,9 @@ pub fn reply_to<R: Shelf, D: Disk>(
     ensures unwritten { EndsWith ended_by (IsUnwritten (command_of words.now)) result → IsTrue (D.tells one.old) → IsTrue (D.tells two.old) → LeavesUnwritten D.Disk one.old two.old one.new two.new }
     ensures untouched { AsksNoDisk (R.contents shelf.old) (command_of words.now) → (one.new ≡ one.old) × (two.new ≡ two.old) × IsOfShelf result }
     ensures unread { IsReadFirst result one.old one.new two.old two.new }
-    ensures kept { IsTrue (D.tells one.old) → IsTrue (D.tells two.old) → LeavesKept D.Disk one.old two.old one.new two.new }
-    ensures durable { IfOk result (λ r. (IsOfFiles (command_of words.now) → ⊥) → IsDone r.status → IsTrue (D.tells one.old) → IsTrue (D.tells two.old)
+    ensures kept { IsTrue (D.tells one.old) → IsTrue (D.tells two.old) → LeavesKept D.Disk (MayBegin (command_of words.now)) (Makes (R.contents shelf.old) (command_of words.now))
+        one.old two.old one.new two.new }
+    ensures durable { IfOk result (λ r. (IsOfFiles (command_of words.now) → ⊥) → IsDoneOrFull r.status → IsTrue (D.tells one.old) → IsTrue (D.tells two.old)
         → AreDurable D.Disk one.new two.new) }
 {
     match command_of(alloc, words)? {

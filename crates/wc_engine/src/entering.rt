@@ -6,11 +6,12 @@ ghost use Rattle.wc_world.specs.Applied.{applied};
 ghost use Rattle.wc_core.specs.Refusals.{HasRoom, RefusesSubmission};
 ghost use Rattle.wc_store.specs.Held.{is_plain};
 ghost use Rattle.wc_machine.specs.Submitting.{submitted_number};
-ghost use Rattle.wc_store.specs.Stores.{InTwoParts, StandsFor};
-ghost use Rattle.wc_engine.specs.Crashes.{AreDurable, Keeps, LeavesKept, HoldsKeeping};
+ghost use Rattle.wc_store.specs.Stores.{StandsFor};
+ghost use Rattle.wc_engine.specs.Crashes.{AreDurable, Keeps, LeavesKept, LeavesPairs, HoldsKeeping};
 ghost use Rattle.wc_engine.specs.Entering.{Changes, Enters};
+ghost use Rattle.wc_engine.specs.Makes.{MayEnter};
 ghost use Rattle.wc_engine.specs.Owed.{visit, Does};
-ghost use Rattle.wc_engine.specs.Replies.{IsDone};
+ghost use Rattle.wc_engine.specs.Replies.{IsDoneOrFull};
 ghost use Rattle.wc_engine.specs.Shapes.{MaySubmit};
 ghost use Rattle.wc_engine.specs.Stored.{OnStore, usual_limits};
 ghost use Rattle.wc_engine.specs.StoreReplies.{Counts, turn_reply};
@@ -104,7 +105,7 @@ fn entered<D: Disk>(
     ensures does { IfOk result (λ r. IsTrue (D.tells one.old) → IsTrue (D.tells two.old)
         → Enters submission (D.seen one.old, D.seen two.old) store.world.world (D.seen one.new, D.seen two.new) r) }
     ensures may { IfOk result (λ r. MaySubmit r) }
-    ensures kept { IsTrue (D.tells one.old) → IsTrue (D.tells two.old) → InTwoParts D.Disk one.old two.old one.new two.new (HoldsKeeping store.world.world) }
+    ensures kept { IsTrue (D.tells one.old) → IsTrue (D.tells two.old) → LeavesPairs D.Disk one.old two.old one.new two.new (HoldsKeeping (MayEnter submission) store.world.world) }
     ensures durable { IfOk result (λ r. IsTrue (D.tells one.old) → IsTrue (D.tells two.old) → AreDurable D.Disk one.new two.new) }
     ensures tells { (D.tells one.new ≡ D.tells one.old) × (D.tells two.new ≡ D.tells two.old) }
     ensures untouched { EndsWith store_ended_by IsBeforeStoring result → (one.new ≡ one.old) × (two.new ≡ two.old) }
@@ -132,8 +133,8 @@ pub fn enter_reply<D: Disk>(
 ) -> Result<Reply, StoreReplyError>
     requires ready { IsReady submission }
     ensures does { IfOk result (λ r. Does MaySubmit (OnStore (Enters submission)) (visit D.Disk one.old two.old one.new two.new) r) }
-    ensures kept { IsTrue (D.tells one.old) → IsTrue (D.tells two.old) → LeavesKept D.Disk one.old two.old one.new two.new }
-    ensures durable { IfOk result (λ r. IsDone r.status → IsTrue (D.tells one.old) → IsTrue (D.tells two.old) → AreDurable D.Disk one.new two.new) }
+    ensures kept { IsTrue (D.tells one.old) → IsTrue (D.tells two.old) → LeavesKept D.Disk ⊥ (MayEnter submission) one.old two.old one.new two.new }
+    ensures durable { IfOk result (λ r. IsDoneOrFull r.status → IsTrue (D.tells one.old) → IsTrue (D.tells two.old) → AreDurable D.Disk one.new two.new) }
     ensures tells { (D.tells one.new ≡ D.tells one.old) × (D.tells two.new ≡ D.tells two.old) }
     ensures unwritten { EndsWith store_ended_by IsBeforeStoring result → IsTrue (D.tells one.old) → IsTrue (D.tells two.old) → LeavesUnwritten D.Disk one.old two.old one.new two.new }
     ensures cause { Counts result (D.faults one.old) (D.faults one.new) (D.faults two.old) (D.faults two.new) }

@@ -1,9 +1,10 @@
 //! Laws of what is owed. Each is the contract of a function that does nothing.
 
-ghost use Rattle.std.specs.Prelude.{◌≡◌, ℕ, List, Option, IsSome};
+ghost use Rattle.std.specs.Prelude.{◌≡◌, ℕ, List, [], Option, IsSome};
 ghost use Rattle.wc_store.specs.Laws.{HeldIsOne, HeldIsReached};
 ghost use Rattle.wc_machine.specs.Laws.{EmptyIsSound};
 ghost use Rattle.wc_runner.specs.Laws.{TurnsKeepSound, WorldsContinueThemselves};
+ghost use Rattle.wc_engine.specs.Crashes.{HoldsSound};
 ghost use Rattle.wc_engine.specs.Files.{Reads, ReadsFrom};
 ghost use Rattle.wc_engine.specs.Submits.{Prepares};
 ghost use Rattle.wc_engine.specs.declared.reading.Read.{Read};
@@ -20,6 +21,11 @@ pub fn files_are_read_as_one_thing()
     ensures from { (told : Option (List ℕ → Option (List ℕ))) (file : List ℕ) (r s : Read) → IsSome told → ReadsFrom told file r → ReadsFrom told file s → r ≡ s }
     ensures prepared { (file : List ℕ) (content : Option (List ℕ)) (name : List ℕ) (given : List (List ℕ × List ℕ)) (p q : Prepared)
         → Prepares file content name given p → Prepares file content name given q → p ≡ q }
+{}
+
+/// Two empty disks hold nothing, so they meet what the headline asks of the disks at entry.
+pub fn empty_disks_hold_nothing()
+    ensures { HoldsSound [] [] }
 {}
 
 /// What is known of the worlds that a store holds.

@@ -15,7 +15,7 @@ mod submission;
 mod text;
 
 pub use given::{find_bad_given, read_given};
-pub use laws::files_are_read_as_one_thing;
+pub use laws::{empty_disks_hold_nothing, files_are_read_as_one_thing};
 pub use reading::{Read, read_content};
 pub use reply::{Reply, ReplyError};
 pub use serving::serve;

@@ -1,10 +1,11 @@
 //! The command that takes turns.
 
 ghost use Rattle.std.specs.Prelude.{◌≡◌, ◌-◌, true, IsTrue, IfOk};
-ghost use Rattle.wc_store.specs.Stores.{InTwoParts, StandsFor};
-ghost use Rattle.wc_engine.specs.Crashes.{AreDurable, LeavesKept, HoldsKeeping};
+ghost use Rattle.wc_store.specs.Stores.{StandsFor};
+ghost use Rattle.wc_engine.specs.Crashes.{AreDurable, LeavesKept, LeavesPairs, HoldsKeeping};
+ghost use Rattle.wc_engine.specs.Makes.{TakesSome};
 ghost use Rattle.wc_engine.specs.Owed.{visit, Does};
-ghost use Rattle.wc_engine.specs.Replies.{IsDone};
+ghost use Rattle.wc_engine.specs.Replies.{IsDoneOrFull};
 ghost use Rattle.wc_engine.specs.Running.{status_of, has_run, Runs};
 ghost use Rattle.wc_engine.specs.Shapes.{MayRun};
 ghost use Rattle.wc_engine.specs.Stored.{OnStore};
@@ -63,7 +64,7 @@ fn taken<D: Disk>(
     ensures does { IfOk result (λ r. IsTrue (D.tells one.old) → IsTrue (D.tells two.old)
         → Runs (D.seen one.old, D.seen two.old) store.world.world (D.seen one.new, D.seen two.new) r) }
     ensures may { IfOk result (λ r. MayRun r) }
-    ensures kept { IsTrue (D.tells one.old) → IsTrue (D.tells two.old) → InTwoParts D.Disk one.old two.old one.new two.new (HoldsKeeping store.world.world) }
+    ensures kept { IsTrue (D.tells one.old) → IsTrue (D.tells two.old) → LeavesPairs D.Disk one.old two.old one.new two.new (HoldsKeeping TakesSome store.world.world) }
     ensures durable { IfOk result (λ r. IsTrue (D.tells one.old) → IsTrue (D.tells two.old) → AreDurable D.Disk one.new two.new) }
     ensures tells { (D.tells one.new ≡ D.tells one.old) × (D.tells two.new ≡ D.tells two.old) }
     ensures untouched { EndsWith store_ended_by IsBeforeTurns result → (one.new ≡ one.old) × (two.new ≡ two.old) }
@@ -85,8 +86,8 @@ fn taken<D: Disk>(
 /// The reply of `run`.
 pub fn run_reply<D: Disk>(alloc: Global, one: &mut D, two: &mut D) -> Result<Reply, StoreReplyError>
     ensures does { IfOk result (λ r. Does MayRun (OnStore Runs) (visit D.Disk one.old two.old one.new two.new) r) }
-    ensures kept { IsTrue (D.tells one.old) → IsTrue (D.tells two.old) → LeavesKept D.Disk one.old two.old one.new two.new }
-    ensures durable { IfOk result (λ r. IsDone r.status → IsTrue (D.tells one.old) → IsTrue (D.tells two.old) → AreDurable D.Disk one.new two.new) }
+    ensures kept { IsTrue (D.tells one.old) → IsTrue (D.tells two.old) → LeavesKept D.Disk ⊥ TakesSome one.old two.old one.new two.new }
+    ensures durable { IfOk result (λ r. IsDoneOrFull r.status → IsTrue (D.tells one.old) → IsTrue (D.tells two.old) → AreDurable D.Disk one.new two.new) }
     ensures tells { (D.tells one.new ≡ D.tells one.old) × (D.tells two.new ≡ D.tells two.old) }
     ensures unwritten { EndsWith store_ended_by IsBeforeTurns result → IsTrue (D.tells one.old) → IsTrue (D.tells two.old) → LeavesUnwritten D.Disk one.old two.old one.new two.new }
     ensures cause { Counts result (D.faults one.old) (D.faults one.new) (D.faults two.old) (D.faults two.new) }

@@ -7,7 +7,7 @@ ghost use Rattle.wc_io.specs.Forms.{TakesPart};
 ghost use Rattle.wc_engine.specs.Owed.{visit, AsksNoDisk, IsCertain, IsOfFiles, IsOwed, IsSubmit, OwesStatus, Writes};
 ghost use Rattle.wc_engine.specs.Crashes.{AreDurable, EachPair, HoldsSound};
 ghost use Rattle.wc_engine.specs.Headline.{Headline};
-ghost use Rattle.wc_engine.specs.Replies.{IsDone, IsReplied};
+ghost use Rattle.wc_engine.specs.Replies.{IsDoneOrFull, IsReplied};
 ghost use Rattle.wc_engine.specs.Shapes.{IsRefusedForFile};
 ghost use Rattle.wc_engine.specs.Unwritten.{IsUnwritten, LeavesUnwritten};
 ghost use Rattle.wc_engine.specs.declared.reply.Reply.{Reply as AReply};
@@ -74,9 +74,15 @@ pub fn serve<R: Shelf, W: Sink, D: Disk>(
     ensures files { AsksNoDisk (R.contents shelf.old) (command_of words.now) → (one.new ≡ one.old) × (two.new ≡ two.old) × (result ≡ Status.DiskFault → ⊥) }
     // Nor is one asked where `submit` is refused for what is in its words or its file, whether the shelf tells its contents or not.
     ensures early { IsSubmit (command_of words.now) → IsRefusedForFile result → (one.new ≡ one.old) × (two.new ≡ two.old) }
-    // Up to a moment of each disk's clock each image is one that a crash at entry might have left. From then on each pair of images holds
-    // nothing or a sound world of functions that continues what was held: each process that has ended has the tree that its definition
-    // means for its recorded inputs, and each created value has one creator, whose inputs give it. After `submit` with status Ok each
+    // Where each pair of images that a crash at entry may leave holds nothing or a sound world of functions, so does each pair that a crash
+    // at any moment of the call may leave: each process that has ended has the tree that its definition means for its recorded inputs,
+    // and each created value has one creator, whose inputs give it. Up to a moment of each disk's clock each image is one that a crash at
+    // entry might have left. From then on a pair of images is two of these, or holds what the command makes of what the disks
+    // read as at entry. Where they held nothing, `init` alone makes a store: the pair holds nothing or the empty world. Where they held a
+    // world, the pair holds one that continues it: for `submit` the same world, or that with the one process that its words are prepared
+    // as; for `run` what turns make of it; for each other command the same world.
+    // At most one of the disks is written in a call. Once a command of a store was done, or found the store too full, nothing is
+    // pending, and each pair holds what the disks then read as. No disk is told to be damaged. After `submit` with status Ok each
     // pair holds its process, with library, name, inputs and caching.
     ensures headline { IsTrue (D.tells one.old) → IsTrue (D.tells two.old) → EachPair D.Disk one.old two.old HoldsSound
         → Headline D.Disk (record {
@@ -96,10 +102,10 @@ pub fn serve<R: Shelf, W: Sink, D: Disk>(
     // A disk failed in this call.
     ensures disk_fault { result ≡ Status.DiskFault → (Rises (D.faults one.old) (D.faults one.new) ⊎ Rises (D.faults two.old) (D.faults two.new))
         × (W.taken sink.new ≡ W.taken sink.old) }
-    // The sink failed in this call, and took a part of what is owed. What was done stays.
+    // The sink failed in this call, and took a part of what is owed. What was done stays, also where the store was found too full.
     ensures write_fault { result ≡ Status.WriteFault → Rises (W.faults sink.old) (W.faults sink.new)
         × (r : AReply) × IsOwed (R.contents shelf.old) (visit D.Disk one.old two.old one.new two.new) words.now r × TakesPart r.text (W.taken sink.old) (W.taken sink.new)
-        × ((IsOfFiles (command_of words.now) → ⊥) → IsDone r.status → IsTrue (D.tells one.old) → IsTrue (D.tells two.old) → AreDurable D.Disk one.new two.new) }
+        × ((IsOfFiles (command_of words.now) → ⊥) → IsDoneOrFull r.status → IsTrue (D.tells one.old) → IsTrue (D.tells two.old) → AreDurable D.Disk one.new two.new) }
     // No count rose but for these.
     ensures reads { (result ≡ Status.ReadFault → ⊥) → R.faults shelf.new ≡ R.faults shelf.old }
     ensures writes { (result ≡ Status.WriteFault → ⊥) → W.faults sink.new ≡ W.faults sink.old }

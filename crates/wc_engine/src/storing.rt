@@ -3,10 +3,11 @@
 ghost use Rattle.std.specs.Prelude.{◌≡◌, ℕ, true, Some, Err, IsTrue, IfOk, OnOk};
 ghost use Rattle.wc_disk.specs.Images.{LeavesOnly};
 ghost use Rattle.wc_store.specs.Refusals.{Counts as StoreCounts};
-ghost use Rattle.wc_store.specs.Stores.{InTwoParts, StandsFor};
-ghost use Rattle.wc_engine.specs.Crashes.{AreDurable, LeavesKept, HoldsKeeping};
+ghost use Rattle.wc_store.specs.Stores.{StandsFor};
+ghost use Rattle.wc_engine.specs.Crashes.{AreDurable, LeavesKept, LeavesPairs, HoldsKeeping};
+ghost use Rattle.wc_engine.specs.Makes.{Stays};
 ghost use Rattle.wc_engine.specs.Owed.{visit, Does};
-ghost use Rattle.wc_engine.specs.Replies.{IsDone, IsRefused};
+ghost use Rattle.wc_engine.specs.Replies.{IsRefused, IsDoneOrFull, IsToldUndone};
 ghost use Rattle.wc_engine.specs.Shapes.{MayInit, MayList, MayPack, MayShow};
 ghost use Rattle.wc_engine.specs.Stored.{byte_of, is_damaged, is_full, Inits, OnStore, Lists, Shows, ShowsTree, Packs};
 ghost use Rattle.wc_engine.specs.StoreReplies.{store_reply, Counts, Opens, IsHeldLive, IsToldNoWorld, IsToldReplied, TellsFault};
@@ -114,6 +115,7 @@ pub(crate) fn open_store<D: Disk>(
     ensures told { IfOk result (λ o. IsToldNoWorld o) }
     ensures any_moment_one { LeavesOnly D.Disk one.old one.new (D.may_leave one.old) }
     ensures any_moment_two { LeavesOnly D.Disk two.old two.new (D.may_leave two.old) }
+    ensures undone { IfOk result (λ o. IsToldUndone o) }
     ensures tells { (D.tells one.new ≡ D.tells one.old) × (D.tells two.new ≡ D.tells two.old) }
     ensures unwritten { LeavesUnwritten D.Disk one.old two.old one.new two.new }
     ensures cause { Counts result (D.faults one.old) (D.faults one.new) (D.faults two.old) (D.faults two.new) }
@@ -132,8 +134,8 @@ pub fn init_reply<D: Disk>(
     two: &mut D,
 ) -> Result<Reply, StoreReplyError>
     ensures does { IfOk result (λ r. Does MayInit Inits (visit D.Disk one.old two.old one.new two.new) r) }
-    ensures kept { IsTrue (D.tells one.old) → IsTrue (D.tells two.old) → LeavesKept D.Disk one.old two.old one.new two.new }
-    ensures durable { IfOk result (λ r. IsDone r.status → IsTrue (D.tells one.old) → IsTrue (D.tells two.old) → AreDurable D.Disk one.new two.new) }
+    ensures kept { IsTrue (D.tells one.old) → IsTrue (D.tells two.old) → LeavesKept D.Disk (Unit {0}) Stays one.old two.old one.new two.new }
+    ensures durable { IfOk result (λ r. IsDoneOrFull r.status → IsTrue (D.tells one.old) → IsTrue (D.tells two.old) → AreDurable D.Disk one.new two.new) }
     ensures tells { (D.tells one.new ≡ D.tells one.old) × (D.tells two.new ≡ D.tells two.old) }
     ensures unwritten { EndsWith store_ended_by IsBeforeStoring result → IsTrue (D.tells one.old) → IsTrue (D.tells two.old) → LeavesUnwritten D.Disk one.old two.old one.new two.new }
     ensures cause { Counts result (D.faults one.old) (D.faults one.new) (D.faults two.old) (D.faults two.new) }
@@ -152,8 +154,8 @@ pub fn list_reply<D: Disk>(
     two: &mut D,
 ) -> Result<Reply, StoreReplyError>
     ensures does { IfOk result (λ r. Does MayList (OnStore Lists) (visit D.Disk one.old two.old one.new two.new) r) }
-    ensures kept { IsTrue (D.tells one.old) → IsTrue (D.tells two.old) → LeavesKept D.Disk one.old two.old one.new two.new }
-    ensures durable { IfOk result (λ r. IsDone r.status → IsTrue (D.tells one.old) → IsTrue (D.tells two.old) → AreDurable D.Disk one.new two.new) }
+    ensures kept { IsTrue (D.tells one.old) → IsTrue (D.tells two.old) → LeavesKept D.Disk ⊥ Stays one.old two.old one.new two.new }
+    ensures durable { IfOk result (λ r. IsDoneOrFull r.status → IsTrue (D.tells one.old) → IsTrue (D.tells two.old) → AreDurable D.Disk one.new two.new) }
     ensures tells { (D.tells one.new ≡ D.tells one.old) × (D.tells two.new ≡ D.tells two.old) }
     ensures unwritten { LeavesUnwritten D.Disk one.old two.old one.new two.new }
     ensures cause { Counts result (D.faults one.old) (D.faults one.new) (D.faults two.old) (D.faults two.new) }
@@ -183,8 +185,8 @@ pub fn tree_reply<D: Disk>(
     pid: u32,
 ) -> Result<Reply, StoreReplyError>
     ensures does { IfOk result (λ r. Does (MayShow pid) (OnStore (Shows pid)) (visit D.Disk one.old two.old one.new two.new) r) }
-    ensures kept { IsTrue (D.tells one.old) → IsTrue (D.tells two.old) → LeavesKept D.Disk one.old two.old one.new two.new }
-    ensures durable { IfOk result (λ r. IsDone r.status → IsTrue (D.tells one.old) → IsTrue (D.tells two.old) → AreDurable D.Disk one.new two.new) }
+    ensures kept { IsTrue (D.tells one.old) → IsTrue (D.tells two.old) → LeavesKept D.Disk ⊥ Stays one.old two.old one.new two.new }
+    ensures durable { IfOk result (λ r. IsDoneOrFull r.status → IsTrue (D.tells one.old) → IsTrue (D.tells two.old) → AreDurable D.Disk one.new two.new) }
     ensures tells { (D.tells one.new ≡ D.tells one.old) × (D.tells two.new ≡ D.tells two.old) }
     ensures unwritten { LeavesUnwritten D.Disk one.old two.old one.new two.new }
     ensures cause { Counts result (D.faults one.old) (D.faults one.new) (D.faults two.old) (D.faults two.new) }
@@ -207,7 +209,7 @@ fn packed<D: Disk>(
     ensures does { IfOk result (λ r. IsTrue (D.tells one.old) → IsTrue (D.tells two.old)
         → Packs (D.seen one.old, D.seen two.old) store.world.world (D.seen one.new, D.seen two.new) r) }
     ensures may { IfOk result (λ r. MayPack r) }
-    ensures kept { IsTrue (D.tells one.old) → IsTrue (D.tells two.old) → InTwoParts D.Disk one.old two.old one.new two.new (HoldsKeeping store.world.world) }
+    ensures kept { IsTrue (D.tells one.old) → IsTrue (D.tells two.old) → LeavesPairs D.Disk one.old two.old one.new two.new (HoldsKeeping Stays store.world.world) }
     ensures durable { IfOk result (λ r. IsTrue (D.tells one.old) → IsTrue (D.tells two.old) → AreDurable D.Disk one.new two.new) }
     ensures tells { (D.tells one.new ≡ D.tells one.old) × (D.tells two.new ≡ D.tells two.old) }
     ensures untouched { EndsWith store_ended_by IsBeforePacking result → (one.new ≡ one.old) × (two.new ≡ two.old) }
@@ -227,8 +229,8 @@ pub fn pack_reply<D: Disk>(
     two: &mut D,
 ) -> Result<Reply, StoreReplyError>
     ensures does { IfOk result (λ r. Does MayPack (OnStore Packs) (visit D.Disk one.old two.old one.new two.new) r) }
-    ensures kept { IsTrue (D.tells one.old) → IsTrue (D.tells two.old) → LeavesKept D.Disk one.old two.old one.new two.new }
-    ensures durable { IfOk result (λ r. IsDone r.status → IsTrue (D.tells one.old) → IsTrue (D.tells two.old) → AreDurable D.Disk one.new two.new) }
+    ensures kept { IsTrue (D.tells one.old) → IsTrue (D.tells two.old) → LeavesKept D.Disk ⊥ Stays one.old two.old one.new two.new }
+    ensures durable { IfOk result (λ r. IsDoneOrFull r.status → IsTrue (D.tells one.old) → IsTrue (D.tells two.old) → AreDurable D.Disk one.new two.new) }
     ensures tells { (D.tells one.new ≡ D.tells one.old) × (D.tells two.new ≡ D.tells two.old) }
     ensures unwritten { EndsWith store_ended_by IsBeforePacking result → IsTrue (D.tells one.old) → IsTrue (D.tells two.old) → LeavesUnwritten D.Disk one.old two.old one.new two.new }
     ensures cause { Counts result (D.faults one.old) (D.faults one.new) (D.faults two.old) (D.faults two.new) }

@@ -1,5 +1,6 @@
 use Rattle.std.proofs.Common.{Bool, IsTrue, sym, subst}
 use Rattle.wc_engine.specs.Entering.{Enters}
+use Rattle.wc_engine.specs.Makes.{MayEnter}
 use Rattle.wc_engine.specs.Shapes.{MaySubmit}
 use Rattle.wc_engine.specs.StoreReplies.{Opens}
 use Rattle.wc_engine.specs.declared.storing.Opened.{Opened}
@@ -25,7 +26,7 @@ returns-in-Held-clause-kept g c =
     let P : Opened → Type 0 = λ o. IsTrue (g.D.Disk.tells one) → IsTrue (g.D.Disk.tells two) → Opens g.D.Disk one two c.open_store.new.one c.open_store.new.two o in
     let opens = subst P c.in-Held.is c.in_ok-reply.ensures.opens told told_too in
     let tells = c.open_store.ensures.tells in
-    goes_on g.D.Disk g.met.D.Disk.only_now g.met.D.Disk.counts_now store.world.world one two c.open_store.new.one c.open_store.new.two c.entered.new.one c.entered.new.two
+    goes_on g.D.Disk g.met.D.Disk.only_now g.met.D.Disk.counts_now ⊥ (MayEnter c.args.submission) store.world.world one two c.open_store.new.one c.open_store.new.two c.entered.new.one c.entered.new.two
     (held_before g.D.Disk store one two c.open_store.new.one c.open_store.new.two opens) c.open_store.ensures.any_moment_one c.open_store.ensures.any_moment_two
     (c.entered.ensures.kept (subst (λ (b : Bool). IsTrue b) (sym tells.0) told) (subst (λ (b : Bool). IsTrue b) (sym tells.1) told_too))
 

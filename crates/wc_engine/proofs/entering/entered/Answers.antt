@@ -9,6 +9,7 @@ use Rattle.wc_machine.specs.Submitting.{submitted_number}
 use Rattle.wc_engine.specs.Replies.{prints}
 use Rattle.wc_engine.specs.Crashes.{Keeps}
 use Rattle.wc_engine.specs.Entering.{Changes}
+use Rattle.wc_engine.specs.Makes.{MayEnter}
 use Rattle.wc_engine.specs.Stored.{usual_limits}
 use Rattle.wc_engine.proofs.Entries.{crowded_entry, has_entered, standing_durable, refused_entry, refused_durable}
 use Rattle.wc_engine.proofs.Leaving.{standing, committed}
@@ -22,11 +23,13 @@ pub returns-in_err-text-clause-kept : goal.returns-in_err-text-clause-kept
 returns-in_err-text-clause-kept g c =
     λ told told_too.
     standing g.D.Disk g.met.D.Disk.only_now c.worlds_are_kept.ensures.reached c.worlds_are_kept.ensures.same c.args.store c.args.one.now c.args.two.now (c.requires.stands told told_too)
+    (MayEnter c.args.submission) (inl refl)
 
 pub returns-in_err-pid-clause-kept : goal.returns-in_err-pid-clause-kept
 returns-in_err-pid-clause-kept g c =
     λ told told_too.
     standing g.D.Disk g.met.D.Disk.only_now c.worlds_are_kept.ensures.reached c.worlds_are_kept.ensures.same c.args.store c.args.one.now c.args.two.now (c.requires.stands told told_too)
+    (MayEnter c.args.submission) (inl refl)
 
 pub returns-in-Ok-commit-clause-does : goal.returns-in-Ok-commit-clause-does
 returns-in-Ok-commit-clause-does g c =
@@ -48,7 +51,9 @@ returns-in-Ok-commit-clause-kept g c =
     λ told told_too.
     let w : c.world-2.result.now.world ≡ c.args.store.world.world = λ i. (c.world-2.ensures i).world in
     committed g.D.Disk g.met.D.Disk.only_now c.worlds_are_kept.ensures.reached c.worlds_are_kept.ensures.same c.args.store c.args.one.now c.args.two.now (c.requires.stands told told_too)
-    (applied c.args.store.world.world c.in-Ok.changes) c.commit.new.one c.commit.new.two (subst (λ (v : World). Keeps v (applied v c.in-Ok.changes)) w c.in-Ok.ensures.keeps)
+    (MayEnter c.args.submission) (applied c.args.store.world.world c.in-Ok.changes) c.commit.new.one c.commit.new.two (inl refl)
+    (inr (c.in-Ok.changes, subst (λ (v : World). Changes v c.args.submission c.in-Ok.changes) w c.in-Ok.ensures.submits, refl))
+    (subst (λ (v : World). Keeps v (applied v c.in-Ok.changes)) w c.in-Ok.ensures.keeps)
     (c.commit.ensures.any_moment told told_too)
 
 pub returns-in-Ok-clause-kept : goal.returns-in-Ok-clause-kept
@@ -56,7 +61,9 @@ returns-in-Ok-clause-kept g c =
     λ told told_too.
     let w : c.world-2.result.now.world ≡ c.args.store.world.world = λ i. (c.world-2.ensures i).world in
     committed g.D.Disk g.met.D.Disk.only_now c.worlds_are_kept.ensures.reached c.worlds_are_kept.ensures.same c.args.store c.args.one.now c.args.two.now (c.requires.stands told told_too)
-    (applied c.args.store.world.world c.in-Ok.changes) c.commit.new.one c.commit.new.two (subst (λ (v : World). Keeps v (applied v c.in-Ok.changes)) w c.in-Ok.ensures.keeps)
+    (MayEnter c.args.submission) (applied c.args.store.world.world c.in-Ok.changes) c.commit.new.one c.commit.new.two (inl refl)
+    (inr (c.in-Ok.changes, subst (λ (v : World). Changes v c.args.submission c.in-Ok.changes) w c.in-Ok.ensures.submits, refl))
+    (subst (λ (v : World). Keeps v (applied v c.in-Ok.changes)) w c.in-Ok.ensures.keeps)
     (c.commit.ensures.any_moment told told_too)
 
 pub returns-in-Ok-clause-does : goal.returns-in-Ok-clause-does
@@ -83,7 +90,8 @@ returns g c =
           (subst (λ (v : World). RefusesSubmission v s.library [] s.name s.inputs usual_limits.max_nodes c.in-Err.error) w c.in-Err.ensures.refused) c.crowded.ensures.reply;
       may = refused_changes c.in-Err.error c.crowded.result c.crowded.ensures.reply;
       kept = λ told told_too.
-          standing g.D.Disk g.met.D.Disk.only_now c.worlds_are_kept.ensures.reached c.worlds_are_kept.ensures.same c.args.store c.args.one.now c.args.two.now (c.requires.stands told told_too);
+          standing g.D.Disk g.met.D.Disk.only_now c.worlds_are_kept.ensures.reached c.worlds_are_kept.ensures.same c.args.store c.args.one.now c.args.two.now (c.requires.stands told told_too)
+          (MayEnter s) (inl refl);
       durable = standing_durable g.D.Disk c.args.store c.args.one.now c.args.two.now (IsTrue (g.D.Disk.tells c.args.one.now)) (IsTrue (g.D.Disk.tells c.args.two.now)) c.crowded.result
           c.requires.stands;
       tells = (refl, refl);

@@ -2,11 +2,12 @@ use Rattle.std.proofs.Common.{subst}
 use Rattle.wc_cli.specs.Words.{command_of}
 use Rattle.wc_engine.specs.Crashes.{AreDurable}
 use Rattle.wc_engine.specs.Owed.{OwesStatus, IsOfFiles, visit}
-use Rattle.wc_engine.specs.Replies.{IsDone}
+use Rattle.wc_engine.specs.Replies.{IsDoneOrFull}
 use Rattle.wc_engine.proofs.Acknowledging.{acknowledged, unacknowledged}
 use Rattle.wc_engine.specs.declared.reply.Reply.{Reply}
 use Rattle.wc_engine.specs.declared.status.Status.TheVariants as status
 use Rattle.wc_engine.proofs.Exits.{headline}
+use Rattle.wc_engine.proofs.Undamaged.{command_tells, ends_whole}
 use Rattle.wc_engine.proofs.Once.{owed_once, file_once}
 use Rattle.wc_engine.proofs.Replied.{owed_replied, done_owed}
 use Rattle.wc_engine.proofs.Unwriting.{said_of_reply, unwritten_reply}
@@ -35,11 +36,16 @@ returns-in-Ok-clause-exact_files g c =
 pub returns-in-Ok-clause-headline : goal.returns-in-Ok-clause-headline
 returns-in-Ok-clause-headline g c =
     λ told told_too entry.
-    let done : (IsOfFiles (command_of c.args.words.now) → ⊥) → IsDone c.finish.result → AreDurable g.D.Disk c.reply_to.new.one c.reply_to.new.two
+    let done : (IsOfFiles (command_of c.args.words.now) → ⊥) → IsDoneOrFull c.finish.result → AreDurable g.D.Disk c.reply_to.new.one c.reply_to.new.two
     = λ of is. c.in-Ok.ensures.durable of (done_owed c.in-Ok.reply.status c.finish.result c.finish.ensures.status is) told told_too in
+    let reads = g.met.D.Disk.reads_as c.args.one.now told in
+    let reads_too = g.met.D.Disk.reads_as c.args.two.now told_too in
+    let whole = command_tells c.worlds_are_kept.ensures.one (visit g.D.Disk c.args.one.now c.args.two.now c.reply_to.new.one c.reply_to.new.two) c.in-Ok.reply
+    (entry (g.D.Disk.seen c.args.one.now) (g.D.Disk.seen c.args.two.now) reads reads_too) told told_too (g.R.Shelf.contents c.args.shelf.now) (command_of c.args.words.now) c.in-Ok.ensures.owed in
     headline g.D.Disk c.worlds_are_kept.ensures.one c.worlds_are_kept.ensures.empty g.met.D.Disk.only_now g.met.D.Disk.counts_now
     (record { told = g.R.Shelf.contents c.args.shelf.now; command = command_of c.args.words.now; one = c.args.one.now; two = c.args.two.now; one_new = c.reply_to.new.one; two_new = c.reply_to.new.two; taken = g.W.Sink.taken c.args.sink.now; taken_new = g.W.Sink.taken c.finish.new.sink })
-    c.finish.result entry (g.met.D.Disk.reads_as c.args.one.now told) (g.met.D.Disk.reads_as c.args.two.now told_too) (c.reply_to.ensures.kept told told_too) done
+    c.finish.result entry reads reads_too (c.reply_to.ensures.kept told told_too) done
+    (ends_whole c.in-Ok.reply.status c.finish.result c.finish.ensures.status whole)
     (acknowledged g.D.Disk c.worlds_are_kept.ensures.reached (g.R.Shelf.contents c.args.shelf.now) (command_of c.args.words.now) c.args.one.now c.args.two.now
     c.reply_to.new.one c.reply_to.new.two (g.W.Sink.taken c.args.sink.now) (g.W.Sink.taken c.finish.new.sink) c.in-Ok.reply c.finish.result told told_too c.in-Ok.ensures.owed
     c.finish.ensures.status (λ no. (c.finish.ensures.whole no).0) done)
@@ -64,7 +70,7 @@ returns-in-Err-OutOfMemory-clause-headline g c =
     λ told told_too entry.
     headline g.D.Disk c.worlds_are_kept.ensures.one c.worlds_are_kept.ensures.empty g.met.D.Disk.only_now g.met.D.Disk.counts_now
     (record { told = g.R.Shelf.contents c.args.shelf.now; command = command_of c.args.words.now; one = c.args.one.now; two = c.args.two.now; one_new = c.reply_to.new.one; two_new = c.reply_to.new.two; taken = g.W.Sink.taken c.args.sink.now; taken_new = g.W.Sink.taken c.args.sink.now })
-    status.OutOfMemory entry (g.met.D.Disk.reads_as c.args.one.now told) (g.met.D.Disk.reads_as c.args.two.now told_too) (c.reply_to.ensures.kept told told_too) (λ of done. absurd done)
+    status.OutOfMemory entry (g.met.D.Disk.reads_as c.args.one.now told) (g.met.D.Disk.reads_as c.args.two.now told_too) (c.reply_to.ensures.kept told told_too) (λ of done. absurd done) (λ disk at found is. cc)
     (unacknowledged g.D.Disk (g.R.Shelf.contents c.args.shelf.now) (command_of c.args.words.now) c.reply_to.new.one c.reply_to.new.two (g.W.Sink.taken c.args.sink.now)
     (g.W.Sink.taken c.args.sink.now) status.OutOfMemory (λ ok. cc))
 
@@ -73,7 +79,7 @@ returns-in-Err-ReadFault-clause-headline g c =
     λ told told_too entry.
     headline g.D.Disk c.worlds_are_kept.ensures.one c.worlds_are_kept.ensures.empty g.met.D.Disk.only_now g.met.D.Disk.counts_now
     (record { told = g.R.Shelf.contents c.args.shelf.now; command = command_of c.args.words.now; one = c.args.one.now; two = c.args.two.now; one_new = c.reply_to.new.one; two_new = c.reply_to.new.two; taken = g.W.Sink.taken c.args.sink.now; taken_new = g.W.Sink.taken c.args.sink.now })
-    status.ReadFault entry (g.met.D.Disk.reads_as c.args.one.now told) (g.met.D.Disk.reads_as c.args.two.now told_too) (c.reply_to.ensures.kept told told_too) (λ of done. absurd done)
+    status.ReadFault entry (g.met.D.Disk.reads_as c.args.one.now told) (g.met.D.Disk.reads_as c.args.two.now told_too) (c.reply_to.ensures.kept told told_too) (λ of done. absurd done) (λ disk at found is. cc)
     (unacknowledged g.D.Disk (g.R.Shelf.contents c.args.shelf.now) (command_of c.args.words.now) c.reply_to.new.one c.reply_to.new.two (g.W.Sink.taken c.args.sink.now)
     (g.W.Sink.taken c.args.sink.now) status.ReadFault (λ ok. cc))
 
@@ -82,7 +88,7 @@ returns-in-Err-DiskFault-clause-headline g c =
     λ told told_too entry.
     headline g.D.Disk c.worlds_are_kept.ensures.one c.worlds_are_kept.ensures.empty g.met.D.Disk.only_now g.met.D.Disk.counts_now
     (record { told = g.R.Shelf.contents c.args.shelf.now; command = command_of c.args.words.now; one = c.args.one.now; two = c.args.two.now; one_new = c.reply_to.new.one; two_new = c.reply_to.new.two; taken = g.W.Sink.taken c.args.sink.now; taken_new = g.W.Sink.taken c.args.sink.now })
-    status.DiskFault entry (g.met.D.Disk.reads_as c.args.one.now told) (g.met.D.Disk.reads_as c.args.two.now told_too) (c.reply_to.ensures.kept told told_too) (λ of done. absurd done)
+    status.DiskFault entry (g.met.D.Disk.reads_as c.args.one.now told) (g.met.D.Disk.reads_as c.args.two.now told_too) (c.reply_to.ensures.kept told told_too) (λ of done. absurd done) (λ disk at found is. cc)
     (unacknowledged g.D.Disk (g.R.Shelf.contents c.args.shelf.now) (command_of c.args.words.now) c.reply_to.new.one c.reply_to.new.two (g.W.Sink.taken c.args.sink.now)
     (g.W.Sink.taken c.args.sink.now) status.DiskFault (λ ok. cc))
 

@@ -1,0 +1,11 @@
+use Rattle.std.proofs.Common.{[], inl, refl}
+use Rattle.wc_store.specs.Choosing.{chosen}
+use Rattle.wc_store.specs.Held.{IsHeld, nothing}
+use Rattle.wc_engine.proofs.laws.empty_disks_hold_nothing.Goals as goal
+
+empty_hold : IsHeld [] [] nothing
+unfolding chosen
+empty_hold = refl
+
+pub returns : goal.returns
+returns c = inl empty_hold

@@ -74,16 +74,17 @@ pub fn serve<R: Shelf, W: Sink, D: Disk>(
     ensures files { AsksNoDisk (R.contents shelf.old) (command_of words.now) → (one.new ≡ one.old) × (two.new ≡ two.old) × (result ≡ Status.DiskFault → ⊥) }
     // Nor is one asked where `submit` is refused for what is in its words or its file, whether the shelf tells its contents or not.
     ensures early { IsSubmit (command_of words.now) → IsRefusedForFile result → (one.new ≡ one.old) × (two.new ≡ two.old) }
-    // Where each pair of images that a crash at entry may leave holds nothing or a sound world of functions, so does each pair that a crash
-    // at any moment of the call may leave: each process that has ended has the tree that its definition means for its recorded inputs,
-    // and each created value has one creator, whose inputs give it. Up to a moment of each disk's clock each image is one that a crash at
-    // entry might have left. From then on a pair of images is two of these, or holds what the command makes of what the disks
-    // read as at entry. Where they held nothing, `init` alone makes a store: the pair holds nothing or the empty world. Where they held a
-    // world, the pair holds one that continues it: for `submit` the same world, or that with the one process that its words are prepared
-    // as; for `run` what turns make of it; for each other command the same world.
-    // At most one of the disks is written in a call. Once a command of a store was done, or found the store too full, nothing is
-    // pending, and each pair holds what the disks then read as. No disk is told to be damaged. After `submit` with status Ok each
-    // pair holds its process, with library, name, inputs and caching.
+    // It is asked that each pair of images that a crash at entry may leave holds nothing or a sound world of functions: each process that
+    // has ended has the tree that its definition means for its recorded inputs, and each created value has one creator, whose inputs
+    // give it. Two empty disks meet this, and what is left at exit meets it again.
+    // Up to a moment of each disk's clock each image is one that a crash at entry might have left. From then on each pair of images holds
+    // nothing or a sound world of functions, and is two images that a crash at entry might have left, or holds what the command makes of
+    // what the disks read as at entry. Where that is nothing, `init` alone makes a store: the pair holds nothing or the empty world.
+    // Where it is a world, the pair holds one that continues it: for `submit` the same world, or what the one submission makes of it that
+    // its words are prepared as; for `run` what some turns make of it; for each other command the same world.
+    // Of one of the disks each image in all the call is one that a crash at entry might have left. Once a command of a store was done, or
+    // found the store too full, nothing is pending, and each pair holds what the disks then read as. No disk is told to be damaged.
+    // After `submit` with status Ok each pair holds its process, with library, name, inputs and caching.
     ensures headline { IsTrue (D.tells one.old) → IsTrue (D.tells two.old) → EachPair D.Disk one.old two.old HoldsSound
         → Headline D.Disk (record {
           told = R.contents shelf.old;

@@ -111,7 +111,7 @@ module _ (law : HeldIsOne) (before after : Images) (r : Reply) (sound : HoldsSou
   on_store does tells done = at_standing (does before) tells done.0 done.1 done.2
 
   init_at : (s : Standing) → Hold before s → InitAt before s after r → TellsWhole r
-  init_at nothing held at = same_tells r _ at.1 tt
+  init_at nothing held at = same_tells r _ at.2 tt
   init_at (damage disk place found) held at = absurd (no_damage law before sound disk place found held)
   init_at (a_world w) held at = same_tells r _ at.1 tt
 

@@ -22,11 +22,11 @@ pub record Call (D : Type 0) : Type 0 where
   pub taken_new : Option (List ℕ)
 
 -- In a call of two parts each image of the first is one that a crash at entry might have left. From the middle on, which is a moment of
--- each disk's own clock, each pair of images is such a pair, or holds what the command makes of what the disks held at entry, and in
--- both cases nothing or a sound world of functions. So it is at exit, as at the entry of the next call. Of one disk each image in all
--- the call is one that a crash at entry might have left. Where a command of a store was done, or found the store too full, nothing is
--- pending, and each pair holds what the disks then read as. No disk is told to be damaged. After `submit` was done, each pair holds the
--- process whose number was written.
+-- each disk's own clock, each pair of images is such a pair, or holds what the command makes of what the disks held at entry, and in both
+-- cases nothing or a sound world of functions. At most one of the disks is written in all the call. At exit each pair holds nothing or a
+-- sound world again, as the next call needs it. Where a command of a store was done, or found the store too full, nothing is pending,
+-- and each pair holds what the disks then read as. No disk is told to be damaged. After `submit` was done, each pair holds the process
+-- whose number was written.
 pub record Headline {D : Type 0} (g : disk.Ghosts D) (c : Call D) (result : Status) : Type 0 where
   pub moments : LeavesSound g (MayBegin c.command) (Makes c.told c.command) c.one c.two c.one_new c.two_new
   pub one_writes : WritesOne g c.one c.two c.one_new c.two_new

@@ -1,33 +1,107 @@
 //! A disk fails in the middle of a command and both disks crash: what was acknowledged is there when the store is opened again, and
 //! the commands go on from there to the same end.
 
-use crate::machine::{End, Machine, Side, added};
+use crate::images::{OLD, SHUT, joined};
+use crate::machine::{End, LISTED, Machine, Row, SHOWN, Side, added};
 use std::alloc::Global;
 use std::test::Fail;
 use wc_disk::Pick;
 
-/// A line of words, and what is told where it goes well.
-type Step = (&'static str, &'static str);
+/// Commands one after another, of which the first change what `list` tells, and the others don't.
+#[derive(Clone, Copy)]
+struct Plan {
+    /// What stands on the disks before.
+    start: Start,
+    /// The commands.
+    rows: &'static [Row<'static>],
+    /// What `list` tells after none of them, after one, and so on up to those that change it.
+    lists: &'static [(End, &'static str)],
+}
 
-/// The commands of a session.
-const STEPS: [Step; 5] = [
-    ("init", "initialised\n"),
-    ("submit add.wcf add x=2 y=3", "submitted 3\n"),
-    ("run", "committed 1 live 0 paused 0\n"),
-    ("pack", "packed 2\n"),
-    ("pack", "packed 3\n"),
-];
+/// What stands on the disks before a plan.
+#[derive(Clone, Copy)]
+enum Start {
+    /// Nothing.
+    Empty,
+    /// An empty store of version 1.
+    Old,
+    /// The store in which process 3 has ended.
+    Added,
+    /// The same, packed once.
+    Packed,
+}
 
-/// What `list` tells of a store after none, one, two or three of these commands.
-const LISTS: [(End, &str); 4] = [
-    (End::NoStore, "refused: no store\n"),
-    (End::Ok, ""),
-    (End::Ok, "3 calcfunction add created\n"),
-    (End::Ok, "3 calcfunction add finished 0\n"),
-];
+/// From nothing to a store that is packed twice.
+const SESSION: Plan = Plan {
+    start: Start::Empty,
+    rows: &[
+        ("init", End::Ok, "initialised\n"),
+        ("submit add.wcf add x=2 y=3", End::Ok, "submitted 3\n"),
+        ("run", End::Ok, "committed 1 live 0 paused 0\n"),
+        ("pack", End::Ok, "packed 2\n"),
+        ("pack", End::Ok, "packed 3\n"),
+    ],
+    lists: &[
+        (End::NoStore, "refused: no store\n"),
+        (End::Ok, ""),
+        (End::Ok, "3 calcfunction add created\n"),
+        (End::Ok, "3 calcfunction add finished 0\n"),
+    ],
+};
 
-/// What is told of process 3 in the end.
-const TREE: (End, &str) = (End::Ok, "finished 0\nsum int 5\n");
+/// The same on an empty store of version 1.
+const OLD_SESSION: Plan = Plan {
+    start: Start::Old,
+    rows: &[
+        ("submit add.wcf add x=2 y=3", End::Ok, "submitted 3\n"),
+        ("run", End::Ok, "committed 1 live 0 paused 0\n"),
+        ("pack", End::Ok, "packed 2\n"),
+        ("pack", End::Ok, "packed 3\n"),
+    ],
+    lists: &[
+        (End::Ok, ""),
+        (End::Ok, "3 calcfunction add created\n"),
+        (End::Ok, "3 calcfunction add finished 0\n"),
+    ],
+};
+
+/// A second process behind a packing, and two more packings.
+const LATER: Plan = Plan {
+    start: Start::Packed,
+    rows: &[
+        ("submit ends.wcf stop a=6", End::Ok, "submitted 6\n"),
+        ("run", End::Ok, "committed 1 live 0 paused 0\n"),
+        ("pack", End::Ok, "packed 3\n"),
+        ("pack", End::Ok, "packed 4\n"),
+    ],
+    lists: &[
+        (End::Ok, "3 calcfunction add finished 0\n"),
+        (
+            End::Ok,
+            "3 calcfunction add finished 0\n6 calcfunction stop created\n",
+        ),
+        (
+            End::Ok,
+            "3 calcfunction add finished 0\n6 calcfunction stop finished 0\n",
+        ),
+    ],
+};
+
+/// Commands that only tell.
+const TELLING: Plan = Plan {
+    start: Start::Added,
+    rows: &[LISTED, SHOWN],
+    lists: &[(End::Ok, "3 calcfunction add finished 0\n")],
+};
+
+/// What happens to a disk.
+#[derive(Clone, Copy)]
+enum Event {
+    /// From a call on each call fails, and then both disks crash.
+    Crash,
+    /// One call fails.
+    Fault,
+}
 
 /// What a crash leaves of disk one and of disk two.
 const PICKS: [(Pick, Pick); 5] = [
@@ -38,28 +112,39 @@ const PICKS: [(Pick, Pick); 5] = [
     (Pick::New, Pick::Old),
 ];
 
-/// More calls of a disk than a session makes.
+/// More calls of a disk than a plan makes.
 const MANY: u64 = 400;
 
-/// Whether a command goes well, or meets the fault of a disk and tells nothing.
-fn goes_well(alloc: Global, machine: &mut Machine, step: Step) -> Result<bool, Fail> {
-    let (line, text) = step;
-    let called = machine.call(line)?;
-    if called.told() == (End::Ok, text) {
-        return Ok(true);
+/// The disks before a plan.
+fn begun(alloc: Global, start: Start) -> Result<Machine, Fail> {
+    match start {
+        Start::Empty => Ok(Machine::empty(alloc)?),
+        Start::Old => Ok(Machine::new(alloc, &joined(alloc, &[OLD, SHUT])?, &[])?),
+        Start::Added => added(alloc),
+        Start::Packed => {
+            let mut machine = added(alloc)?;
+            machine.expect(("pack", End::Ok, "packed 2\n"))?;
+            Ok(machine)
+        }
     }
+}
+
+/// Whether a command goes well, or meets the fault of a disk and tells nothing.
+fn goes_well(machine: &mut Machine, row: Row) -> Result<bool, Fail> {
+    let (line, end, text) = row;
+    let called = machine.call(line)?;
     if called.told() == (End::DiskFault, "") {
         return Ok(false);
     }
-    let (end, text) = called.told();
-    Err(format!(in alloc; "{line}: {end:?} {text}")?)?
+    called.expect(line, end, text)?;
+    Ok(true)
 }
 
 /// How many of these commands go well, one after another, before one meets the fault of a disk.
-fn steps_done(alloc: Global, machine: &mut Machine, steps: &[Step]) -> Result<usize, Fail> {
+fn rows_done(machine: &mut Machine, rows: &[Row]) -> Result<usize, Fail> {
     let mut done = 0;
-    for step in steps {
-        if !goes_well(alloc, machine, *step)? {
+    for row in rows {
+        if !goes_well(machine, *row)? {
             return Ok(done);
         }
         done = done.saturating_add(1);
@@ -67,16 +152,21 @@ fn steps_done(alloc: Global, machine: &mut Machine, steps: &[Step]) -> Result<us
     Ok(done)
 }
 
-/// How many of the first three commands the store tells of.
-fn steps_stored(alloc: Global, machine: &mut Machine) -> Result<usize, Fail> {
+/// After how many commands of the plan `list` tells what it tells now.
+fn rows_stored(machine: &mut Machine, plan: Plan) -> Result<usize, Fail> {
     let called = machine.call("list")?;
-    for (stored, list) in LISTS.iter().enumerate() {
+    for (stored, list) in plan.lists.iter().enumerate() {
         if called.told() == *list {
             return Ok(stored);
         }
     }
-    let (end, text) = called.told();
-    Err(format!(in alloc; "list: {end:?} {text}")?)?
+    Err("the list is one of the plan")?
+}
+
+/// Whether as many commands are stored as were done, or the next one too.
+fn is_between(plan: Plan, done: usize, stored: usize) -> bool {
+    let most = plan.lists.len().saturating_sub(1);
+    stored == done.min(most) || stored == done.saturating_add(1).min(most)
 }
 
 /// The last byte of the generation of an image, zero where there is no journal.
@@ -93,114 +183,110 @@ fn next_packed(machine: &Machine) -> &'static str {
         1 => "packed 2\n",
         2 => "packed 3\n",
         3 => "packed 4\n",
+        4 => "packed 5\n",
         _ => "another generation",
     }
 }
 
-/// Whether what is stored is that of so many commands, or of the next one too.
-fn is_between(done: usize, stored: usize) -> bool {
-    stored == done.min(3) || stored == done.saturating_add(1).min(3)
-}
-
-/// Whether a store on which so many commands went well tells of them, and the commands that it doesn't tell of, a packing and the
-/// tree of process 3 go well then.
-fn goes_on(alloc: Global, machine: &mut Machine, done: usize) -> Result<bool, Fail> {
-    let stored = steps_stored(alloc, machine)?;
-    let mut well = is_between(done, stored);
-    for step in STEPS.iter().take(3).skip(stored) {
-        well = well && goes_well(alloc, machine, *step)?;
+/// Fails where a store on which so many commands of a plan went well tells of fewer or of more than one more, or where the commands
+/// that it doesn't tell of, a packing and the tree of process 3 don't go well then.
+fn expect_goes_on(machine: &mut Machine, plan: Plan, done: usize) -> Result<(), Fail> {
+    let stored = rows_stored(machine, plan)?;
+    if !is_between(plan, done, stored) {
+        Err("what was acknowledged is stored")?;
+    }
+    let most = plan.lists.len().saturating_sub(1);
+    for row in plan.rows.iter().take(most).skip(stored) {
+        machine.expect(*row)?;
     }
     let packed = next_packed(machine);
-    well = well && goes_well(alloc, machine, ("pack", packed))?;
-    Ok(well && machine.call("tree 3")?.told() == TREE)
+    machine.expect(("pack", End::Ok, packed))?;
+    machine.expect(SHOWN)
 }
 
-#[test]
-fn an_acknowledged_process_is_never_lost(rt: HostRuntime) -> Result<(), Fail> {
-    let alloc = rt.alloc();
-    for side in [Side::One, Side::Two] {
-        let mut whole = false;
-        for calls in 0..MANY {
-            let mut machine = Machine::empty(alloc)?;
-            assert_eq!(rt; machine.call("init")?.told(), (End::Ok, "initialised\n"));
-            let submitted = machine.call("submit add.wcf add x=2 y=3")?;
-            assert_eq!(rt; submitted.told(), (End::Ok, "submitted 3\n"));
-            machine.fuse(side, calls);
-            whole = steps_done(alloc, &mut machine, &STEPS[2..])? == 3;
-            for (one, two) in PICKS {
-                let mut left = machine.crashed(one, two)?;
-                let tree = left.call("tree 3")?;
-                let created = tree.told() == (End::Ok, "created\n");
-                assert!(rt;
-                    created || tree.told() == TREE,
-                    "{side:?} {calls} {one:?} {two:?}"
-                );
-                let turns = if created {
-                    "committed 1 live 0 paused 0\n"
-                } else {
-                    "committed 0 live 0 paused 0\n"
-                };
-                assert_eq!(rt; left.call("run")?.told(), (End::Ok, turns));
-                assert_eq!(rt;
-                    left.call("tree 3")?.told(),
-                    TREE,
-                    "{side:?} {calls} {one:?} {two:?}"
-                );
-            }
-            if whole {
-                break;
-            }
-        }
-        assert!(rt; whole, "{side:?}");
+/// The same from each crash.
+fn expect_crashes_go_on(machine: &Machine, plan: Plan, done: usize) -> Result<(), Fail> {
+    for (one, two) in PICKS {
+        let mut left = machine.crashed(one, two)?;
+        expect_goes_on(&mut left, plan, done)?;
     }
     Ok(())
 }
 
-/// The commands that only tell.
-const TELLING: [Step; 2] = [
-    ("list", "3 calcfunction add finished 0\n"),
-    ("tree 3", "finished 0\nsum int 5\n"),
-];
+/// Fails where a plan doesn't go on well behind an event of a disk at a call. Whether the disk is asked as often.
+fn expect_event(machine: &mut Machine, plan: Plan, event: Event) -> Result<bool, Fail> {
+    let done = rows_done(machine, plan.rows)?;
+    if done == plan.rows.len() {
+        return Ok(false);
+    }
+    match event {
+        Event::Crash => expect_crashes_go_on(machine, plan, done)?,
+        Event::Fault => expect_goes_on(machine, plan, done)?,
+    }
+    Ok(true)
+}
+
+/// The disks before a plan, where an event comes to one of them behind so many calls.
+fn before_event(
+    alloc: Global,
+    plan: Plan,
+    event: Event,
+    side: Side,
+    calls: u64,
+) -> Result<Machine, Fail> {
+    let mut machine = begun(alloc, plan.start)?;
+    match event {
+        Event::Crash => {
+            machine.fuse(side, calls);
+            Ok(machine)
+        }
+        Event::Fault => Ok(machine.failing(side, &[calls.saturating_add(1)])?),
+    }
+}
+
+/// Fails where a plan doesn't go on well behind an event at any call of a disk.
+fn expect_at_each_call(alloc: Global, plan: Plan, event: Event, side: Side) -> Result<(), Fail> {
+    for calls in 0..MANY {
+        let mut machine = before_event(alloc, plan, event, side, calls)?;
+        if !expect_event(&mut machine, plan, event)? {
+            return Ok(());
+        }
+    }
+    Err("the plan makes fewer calls")?
+}
+
+#[test]
+fn crashes_at_each_call_lead_to_the_same_end(rt: HostRuntime) -> Result<(), Fail> {
+    expect_at_each_call(rt.alloc(), SESSION, Event::Crash, Side::One)?;
+    expect_at_each_call(rt.alloc(), SESSION, Event::Crash, Side::Two)
+}
+
+#[test]
+fn crashes_of_a_store_of_version_1_lead_to_the_same_end(rt: HostRuntime) -> Result<(), Fail> {
+    expect_at_each_call(rt.alloc(), OLD_SESSION, Event::Crash, Side::One)?;
+    expect_at_each_call(rt.alloc(), OLD_SESSION, Event::Crash, Side::Two)
+}
+
+#[test]
+fn a_later_crash_leaves_what_was_there(rt: HostRuntime) -> Result<(), Fail> {
+    expect_at_each_call(rt.alloc(), LATER, Event::Crash, Side::One)?;
+    expect_at_each_call(rt.alloc(), LATER, Event::Crash, Side::Two)
+}
 
 #[test]
 fn a_crash_of_what_only_tells_changes_nothing(rt: HostRuntime) -> Result<(), Fail> {
-    let alloc = rt.alloc();
-    for side in [Side::One, Side::Two] {
-        let mut whole = false;
-        for calls in 0..MANY {
-            let mut machine = added(alloc)?;
-            machine.fuse(side, calls);
-            whole = steps_done(alloc, &mut machine, &TELLING)? == TELLING.len();
-            for (one, two) in PICKS {
-                let mut left = machine.crashed(one, two)?;
-                let again = steps_done(alloc, &mut left, &TELLING)?;
-                assert_eq!(rt; again, TELLING.len(), "{side:?} {calls} {one:?} {two:?}");
-            }
-            if whole {
-                break;
-            }
-        }
-        assert!(rt; whole, "{side:?}");
-    }
-    Ok(())
+    expect_at_each_call(rt.alloc(), TELLING, Event::Crash, Side::One)?;
+    expect_at_each_call(rt.alloc(), TELLING, Event::Crash, Side::Two)
 }
 
 #[test]
 fn one_fault_without_a_crash_leads_to_the_same_end(rt: HostRuntime) -> Result<(), Fail> {
-    let alloc = rt.alloc();
-    let empty = Machine::empty(alloc)?;
-    for side in [Side::One, Side::Two] {
-        let mut whole = false;
-        for call in 1..MANY {
-            let mut machine = empty.failing(side, &[call])?;
-            let done = steps_done(alloc, &mut machine, &STEPS)?;
-            if done == STEPS.len() {
-                whole = true;
-                break;
-            }
-            assert!(rt; goes_on(alloc, &mut machine, done)?, "{side:?} {call}");
-        }
-        assert!(rt; whole, "{side:?}");
-    }
-    Ok(())
+    expect_at_each_call(rt.alloc(), SESSION, Event::Fault, Side::One)?;
+    expect_at_each_call(rt.alloc(), SESSION, Event::Fault, Side::Two)
+}
+
+#[test]
+fn one_later_fault_without_a_crash_leads_to_the_same_end(rt: HostRuntime) -> Result<(), Fail> {
+    expect_at_each_call(rt.alloc(), LATER, Event::Fault, Side::One)?;
+    expect_at_each_call(rt.alloc(), LATER, Event::Fault, Side::Two)
 }

@@ -25,6 +25,8 @@ mod limits;
 #[cfg(test)]
 mod machine;
 #[cfg(test)]
+mod pairs;
+#[cfg(test)]
 mod refusals;
 #[cfg(test)]
 mod session;

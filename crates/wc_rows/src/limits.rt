@@ -35,9 +35,10 @@ fn inputs(alloc: Global) -> Result<Fields, AllocError>
     Ok(inputs)
 }
 
-/// The changes that make a process of the first example in an empty world of at most so many nodes.
+/// The changes that make a process of the first example in a world of at most so many nodes.
 fn changes_within(
     alloc: Global,
+    world: &World,
     max_nodes: u32,
     library: Checked,
     inputs: Fields,
@@ -52,18 +53,21 @@ fn changes_within(
         poll_ms: 1000,
     };
     let name = Text::of_str(alloc, "add")?;
-    let world = World::new(alloc);
     let caching = Words::new(alloc);
-    submit_changes(alloc, &world, &limits, library, caching, &name, inputs)
+    submit_changes(alloc, world, &limits, library, caching, &name, inputs)
 }
 
 /// How many changes there are, or why there are none.
-fn count_within(alloc: Global, max_nodes: u32) -> Result<Result<usize, TurnError>, Fail>
+fn count_within(
+    alloc: Global,
+    world: &World,
+    max_nodes: u32,
+) -> Result<Result<usize, TurnError>, Fail>
     requires some { 1 ≤ max_nodes }
     requires few { max_nodes ≤ 8000000 }
 {
     let library = check(alloc, parse(alloc, &Text::of_str(alloc, ADD)?)?)?;
-    match changes_within(alloc, max_nodes, library, inputs(alloc)?) {
+    match changes_within(alloc, world, max_nodes, library, inputs(alloc)?) {
         Ok(changes) => Ok(Ok(changes.len())),
         Err(error) => Ok(Err(error)),
     }
@@ -72,13 +76,16 @@ fn count_within(alloc: Global, max_nodes: u32) -> Result<Result<usize, TurnError
 #[test]
 fn nodes_have_their_limit(rt: HostRuntime) -> Result<(), Fail> {
     let alloc = rt.alloc();
+    let world = World::new(alloc);
     assert!(rt;
         matches!(
-            count_within(alloc, 2)?,
+            count_within(alloc, &world, 2)?,
             Err(TurnError::Full(What::Nodes, 3, 2))
         )
     );
+    assert_eq!(rt; world.graph().nodes().len(), 0);
+    assert_eq!(rt; world.batches(), 0);
     // The library, two numbers, the process and two links.
-    assert!(rt; matches!(count_within(alloc, 3)?, Ok(6)));
+    assert!(rt; matches!(count_within(alloc, &world, 3)?, Ok(6)));
     Ok(())
 }

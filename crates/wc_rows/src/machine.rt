@@ -73,11 +73,12 @@ fn end_of(status: &Status) -> End {
 }
 
 /// A line of words, how the call ends, and its text.
-pub type Row = (&'static str, End, &'static str);
+pub type Row<'a> = (&'a str, End, &'a str);
 
 /// What a call of the program gave.
 #[derive(Drop)]
 pub struct Called {
+    alloc: Global,
     /// How it ended.
     pub end: End,
     /// What it wrote.
@@ -88,6 +89,15 @@ impl Called {
     /// How it ended and what it wrote, as a row has it.
     pub fn told(&self) -> (End, &str) {
         (self.end, self.text.as_str())
+    }
+
+    /// Fails where the call of this line ended otherwise, or wrote something else.
+    pub fn expect(&self, line: &str, end: End, text: &str) -> Result<(), Fail> {
+        if self.told() == (end, text) {
+            return Ok(());
+        }
+        let (end, text) = self.told();
+        Err(format!(in self.alloc; "{line}: {end:?} {text}")?)?
     }
 }
 
@@ -114,7 +124,7 @@ fn text_of(alloc: Global, bytes: &[u8]) -> Result<Text, Fail> {
 }
 
 /// The files of the examples, on a shelf of which these calls fail.
-fn shelf_of(alloc: Global, failing: &[u64]) -> Result<MemoryShelf, AllocError> {
+fn shelf_of_examples(alloc: Global, failing: &[u64]) -> Result<MemoryShelf, AllocError> {
     let mut files = Files::new(alloc);
     for (name, content) in [
         ("add.wcf", ADD),
@@ -184,12 +194,9 @@ impl Machine {
         self.two.bytes()
     }
 
-    /// What both disks hold.
-    pub fn images(&self) -> Result<(Vec<u8>, Vec<u8>), AllocError> {
-        Ok((
-            self.one.bytes().to_vec(self.alloc)?,
-            self.two.bytes().to_vec(self.alloc)?,
-        ))
+    /// Whether both disks hold what they hold in another machine.
+    pub fn holds_the_same(&self, other: &Machine) -> bool {
+        self.one() == other.one() && self.two() == other.two()
     }
 
     /// Calls the program with the words of a line, where these calls of the shelf and of the sink fail.
@@ -200,7 +207,7 @@ impl Machine {
         writing: &[u64],
     ) -> Result<Called, Fail> {
         let words = words(self.alloc, line)?;
-        let mut shelf = shelf_of(self.alloc, reading)?;
+        let mut shelf = shelf_of_examples(self.alloc, reading)?;
         let mut sink = MemorySink::new(self.alloc, numbers(self.alloc, writing)?);
         let status = serve(
             self.alloc,
@@ -211,6 +218,7 @@ impl Machine {
             &mut self.two,
         );
         Ok(Called {
+            alloc: self.alloc,
             end: end_of(&status),
             text: text_of(self.alloc, sink.bytes())?,
         })
@@ -220,15 +228,64 @@ impl Machine {
     pub fn call(&mut self, line: &str) -> Result<Called, Fail> {
         self.call_failing(line, &[], &[])
     }
+
+    /// Fails where a call with these faults of the shelf and of the sink ends or tells otherwise than its row says.
+    pub fn expect_failing(
+        &mut self,
+        row: Row,
+        reading: &[u64],
+        writing: &[u64],
+    ) -> Result<(), Fail> {
+        let (line, end, text) = row;
+        self.call_failing(line, reading, writing)?
+            .expect(line, end, text)
+    }
+
+    /// Fails where a call ends or tells otherwise than its row says.
+    pub fn expect(&mut self, row: Row) -> Result<(), Fail> {
+        self.expect_failing(row, &[], &[])
+    }
+
+    /// The same of one call after another.
+    pub fn expect_all(&mut self, rows: &[Row]) -> Result<(), Fail> {
+        for row in rows {
+            self.expect(*row)?;
+        }
+        Ok(())
+    }
+
+    /// Fails where the disks don't hold these bytes.
+    pub fn expect_images(&self, one: &[u8], two: &[u8]) -> Result<(), Fail> {
+        if self.one() != one {
+            Err("disk one holds other bytes")?;
+        }
+        if self.two() != two {
+            Err("disk two holds other bytes")?;
+        }
+        Ok(())
+    }
+
+    /// Fails where the disks don't hold what they hold in another machine.
+    pub fn expect_same(&self, other: &Machine) -> Result<(), Fail> {
+        self.expect_images(other.one(), other.two())
+    }
 }
+
+/// The commands that make the store in which process 3 adds 2 and 3, and has ended.
+pub const ADDED: [Row; 3] = [
+    ("init", End::Ok, "initialised\n"),
+    ("submit add.wcf add x=2 y=3", End::Ok, "submitted 3\n"),
+    ("run", End::Ok, "committed 1 live 0 paused 0\n"),
+];
+
+/// What `list` and `tree 3` tell of it.
+pub const LISTED: Row = ("list", End::Ok, "3 calcfunction add finished 0\n");
+
+pub const SHOWN: Row = ("tree 3", End::Ok, "finished 0\nsum int 5\n");
 
 /// The store in which process 3 adds 2 and 3, and has ended.
 pub fn added(alloc: Global) -> Result<Machine, Fail> {
     let mut machine = Machine::empty(alloc)?;
-    for line in ["init", "submit add.wcf add x=2 y=3", "run"] {
-        if machine.call(line)?.end != End::Ok {
-            Err("the store is made")?;
-        }
-    }
+    machine.expect_all(&ADDED)?;
     Ok(machine)
 }

@@ -1,7 +1,65 @@
 //! What the commands of a store refuse. What is refused leaves both disks as they were.
 
-use crate::machine::{End, Machine, Row, added};
+use crate::machine::{End, Machine, Row, Side, added};
 use std::test::Fail;
+
+/// What the words and the files are refused for, whatever the disks hold.
+const OF_WORDS: [Row; 22] = [
+    ("submit fan.wcf fan a=1", End::Later, "refused: later fan\n"),
+    (
+        "submit fan.wcf double x=1",
+        End::Later,
+        "refused: later double\n",
+    ),
+    (
+        "submit eos.wcf eos v=34",
+        End::Later,
+        "refused: later eos\n",
+    ),
+    (
+        "submit add.wcf sub x=2 y=3",
+        End::Name,
+        "refused: unknown name sub\n",
+    ),
+    (
+        "submit add.wcf add x=2",
+        End::BadInput,
+        "refused: bad input y\n",
+    ),
+    (
+        "submit add.wcf add x=2 y=3 y=3",
+        End::BadInput,
+        "refused: bad input y\n",
+    ),
+    (
+        "submit add.wcf add x=9223372036854775808 y=1",
+        End::BadInput,
+        "refused: bad input x\n",
+    ),
+    (
+        "submit add.wcf add x=2 y=3 a=1",
+        End::BadInput,
+        "refused: bad input a\n",
+    ),
+    (
+        "submit no.wcf add x=2 y=3",
+        End::NoFile,
+        "refused: no file no.wcf\n",
+    ),
+    ("submit add.wcf", End::Words, "refused: words\n"),
+    ("submit add.wcf add x", End::Words, "refused: words\n"),
+    ("init now", End::Words, "refused: words\n"),
+    ("list 3", End::Words, "refused: words\n"),
+    ("run 3", End::Words, "refused: words\n"),
+    ("pack 2", End::Words, "refused: words\n"),
+    ("tree", End::Words, "refused: words\n"),
+    ("tree 0", End::Words, "refused: words\n"),
+    ("tree 4294967296", End::Words, "refused: words\n"),
+    ("tree -3", End::Words, "refused: words\n"),
+    ("tree +3", End::Words, "refused: words\n"),
+    ("tree 3 3", End::Words, "refused: words\n"),
+    ("tree three", End::Words, "refused: words\n"),
+];
 
 /// What each command of a store is refused for where there is none.
 const OF_NO_STORE: [Row; 5] = [
@@ -46,8 +104,8 @@ const DAMAGED: [u8; 21] = [
     0x57, 0x43, 0x4A, 0x4E, 0x4C, 0, 0, 1, 0, 0, 0, 0, 0, 0, 0, 1, 1, 0xFF, 0xFF, 0xFF, 0xFF,
 ];
 
-/// What each command of a store tells of that image.
-const OF_DAMAGE: [&str; 6] = [
+/// The commands of a store.
+const OF_A_DISK: [&str; 6] = [
     "init",
     "list",
     "run",
@@ -56,39 +114,47 @@ const OF_DAMAGE: [&str; 6] = [
     "submit add.wcf add x=2 y=3",
 ];
 
+/// Fails where any of the rows doesn't hold on a machine, or changes its disks.
+fn expect_unchanged(mut machine: Machine, rows: &[Row]) -> Result<(), Fail> {
+    let before = machine.failing(Side::One, &[])?;
+    machine.expect_all(rows)?;
+    machine.expect_same(&before)
+}
+
 #[test]
 fn without_a_store_commands_are_refused(rt: HostRuntime) -> Result<(), Fail> {
-    let mut machine = Machine::empty(rt.alloc())?;
-    for (line, end, text) in OF_NO_STORE {
-        let called = machine.call(line)?;
-        assert_eq!(rt; called.told(), (end, text), "at {line}");
-    }
-    assert!(rt; machine.one().is_empty());
-    assert!(rt; machine.two().is_empty());
-    Ok(())
+    expect_unchanged(Machine::empty(rt.alloc())?, &OF_NO_STORE)
 }
 
 #[test]
 fn a_store_refuses_and_stays(rt: HostRuntime) -> Result<(), Fail> {
-    let mut machine = added(rt.alloc())?;
-    let before = machine.images()?;
-    for (line, end, text) in OF_A_STORE {
-        let called = machine.call(line)?;
-        assert_eq!(rt; called.told(), (end, text), "at {line}");
-        assert_eq!(rt; machine.images()?, before, "at {line}");
-    }
-    Ok(())
+    expect_unchanged(added(rt.alloc())?, &OF_A_STORE)
+}
+
+#[test]
+fn words_are_judged_before_an_empty_disk(rt: HostRuntime) -> Result<(), Fail> {
+    expect_unchanged(Machine::empty(rt.alloc())?, &OF_WORDS)
+}
+
+#[test]
+fn words_are_judged_before_the_store(rt: HostRuntime) -> Result<(), Fail> {
+    expect_unchanged(added(rt.alloc())?, &OF_WORDS)
+}
+
+#[test]
+fn words_are_judged_before_damage(rt: HostRuntime) -> Result<(), Fail> {
+    expect_unchanged(Machine::new(rt.alloc(), &DAMAGED, &[])?, &OF_WORDS)
 }
 
 #[test]
 fn each_command_tells_of_damage(rt: HostRuntime) -> Result<(), Fail> {
     let mut machine = Machine::new(rt.alloc(), &DAMAGED, &[])?;
-    for line in OF_DAMAGE {
-        let called = machine.call(line)?;
-        let told = (End::Damaged(1, 21, None), "damaged: disk 1 at 21 end\n");
-        assert_eq!(rt; called.told(), told, "at {line}");
+    for line in OF_A_DISK {
+        machine.expect((
+            line,
+            End::Damaged(1, 21, None),
+            "damaged: disk 1 at 21 end\n",
+        ))?;
     }
-    assert_eq!(rt; machine.one(), DAMAGED.as_slice());
-    assert!(rt; machine.two().is_empty());
-    Ok(())
+    machine.expect_images(&DAMAGED, &[])
 }

@@ -23,12 +23,7 @@ const SESSION: [Row; 10] = [
 
 #[test]
 fn a_function_is_stored_run_and_shown(rt: HostRuntime) -> Result<(), Fail> {
-    let mut machine = Machine::empty(rt.alloc())?;
-    for (line, end, text) in SESSION {
-        let called = machine.call(line)?;
-        assert_eq!(rt; called.told(), (end, text), "at {line}");
-    }
-    Ok(())
+    Machine::empty(rt.alloc())?.expect_all(&SESSION)
 }
 
 /// Functions that end in each way, some of them after others have run.
@@ -98,12 +93,7 @@ const SEVERAL: [Row; 33] = [
 
 #[test]
 fn several_functions_are_in_one_store(rt: HostRuntime) -> Result<(), Fail> {
-    let mut machine = Machine::empty(rt.alloc())?;
-    for (line, end, text) in SEVERAL {
-        let called = machine.call(line)?;
-        assert_eq!(rt; called.told(), (end, text), "at {line}");
-    }
-    Ok(())
+    Machine::empty(rt.alloc())?.expect_all(&SEVERAL)
 }
 
 /// What is told before, between and after packing, and of what is added then.
@@ -138,10 +128,5 @@ const PACKING: [Row; 18] = [
 
 #[test]
 fn packing_changes_nothing_that_is_told(rt: HostRuntime) -> Result<(), Fail> {
-    let mut machine = added(rt.alloc())?;
-    for (line, end, text) in PACKING {
-        let called = machine.call(line)?;
-        assert_eq!(rt; called.told(), (end, text), "at {line}");
-    }
-    Ok(())
+    added(rt.alloc())?.expect_all(&PACKING)
 }

@@ -103,7 +103,7 @@ fn words_are_prepared(rt: HostRuntime) -> Result<(), Fail> {
 }
 
 #[test]
-fn a_file_that_cannot_be_a_text_is_refused(rt: HostRuntime) -> Result<(), Fail> {
+fn a_file_that_is_not_there_or_is_no_text_is_refused(rt: HostRuntime) -> Result<(), Fail> {
     let alloc = rt.alloc();
     let found = prepared(alloc, None, "add", "x=1")?;
     assert_eq!(rt; found.as_str(), "refused: no file a.wcf\n");

@@ -1,8 +1,8 @@
 //! Images that are cut, changed, or gone on with by a batch that doesn't fit.
 
 use crate::images::{NEW, NEW_FIVE, OLD, OLD_FIVE, OPEN, SHUT, added_image, joined};
-use crate::machine::{End, LISTED, Machine, SHOWN};
-use std::alloc::Global;
+use crate::machine::{End, LISTED, Machine, Row, SHOWN};
+use std::alloc::{AllocError, Global};
 use std::test::Fail;
 
 /// Fails where disk one with these bytes isn't damaged at its end.
@@ -248,4 +248,60 @@ fn changes_that_do_not_fit_are_damage(rt: HostRuntime) -> Result<(), Fail> {
         expect_misfit(alloc, batch)?;
     }
     Ok(())
+}
+
+/// A library with a work chain that returns its input, the number 7, the chain as process 2, and its input.
+const CHAIN: [&[u8]; 6] = [
+    &[1, 0, 0, 0, 0, 0, 0, 0, 0x89, 0, 0, 0, 4],
+    b"\x01\x00\x00\x00Lworkchain same(x: int) -> (y: int) {\n  step s {\n    out y = inputs.x;\n  }\n}\n\x00\x00\x00\x00",
+    &[2, 1, 0, 0, 0, 0, 0, 0, 0, 7],
+    b"\x03\x03\x00\x00\x00\x04same\x00\x00\x00\x01\x00\x00\x00\x01\x00\x00\x00\x00\x00",
+    b"\x04\x00\x00\x00\x01\x00\x00\x00\x02\x02\x00\x00\x00\x01x",
+    OPEN,
+];
+
+/// The chain returns the number, and has finished.
+const RETURNED: [&[u8]; 3] = [
+    &[1, 0, 0, 0, 0, 0, 0, 0, 0x2C, 0, 0, 0, 2],
+    b"\x04\x00\x00\x00\x02\x00\x00\x00\x01\x04\x00\x00\x00\x01y",
+    b"\x05\x00\x00\x00\x02\x04\x00\x00\x00\x00\x00\x00\x00\x00\x00\x00\x00\x00\x00\x00\x00\x00\x00\x00\x03",
+];
+
+/// A link from the chain to itself, as if it were called.
+const CALLED: [&[u8]; 2] = [
+    &[1, 0, 0, 0, 0, 0, 0, 0, 0x12, 0, 0, 0, 1],
+    b"\x04\x00\x00\x00\x02\x00\x00\x00\x02\x06\x00\x00\x00\x00",
+];
+
+/// The image of the store in which a work chain has finished as process 2, without its last gate.
+fn chain_image(alloc: Global) -> Result<Vec<u8>, AllocError> {
+    let mut image = joined(alloc, &[NEW, OPEN])?;
+    image.extend_from_slice(&joined(alloc, &CHAIN)?)?;
+    image.extend_from_slice(&joined(alloc, &RETURNED)?)?;
+    Ok(image)
+}
+
+/// What is told of that store.
+const OF_A_CHAIN: [Row; 3] = [
+    ("list", End::Ok, "2 workchain same finished 0\n"),
+    ("tree 2", End::Ok, "finished 0\ny int 7\n"),
+    ("run", End::Later, "refused: later same\n"),
+];
+
+#[test]
+fn a_chain_that_calls_itself_is_damage(rt: HostRuntime) -> Result<(), Fail> {
+    let alloc = rt.alloc();
+    let mut image = chain_image(alloc)?;
+    let whole = joined(alloc, &[&image, SHUT])?;
+    Machine::new(alloc, &whole, &[])?.expect_all(&OF_A_CHAIN)?;
+    image.extend_from_slice(OPEN)?;
+    image.extend_from_slice(&joined(alloc, &CALLED)?)?;
+    image.extend_from_slice(SHUT)?;
+    let mut machine = Machine::new(alloc, &image, &[])?;
+    machine.expect((
+        "tree 2",
+        End::Damaged(1, 227, Some(0)),
+        "damaged: disk 1 at 227 byte 0\n",
+    ))?;
+    machine.expect_images(&image, &[])
 }

@@ -63,8 +63,8 @@ pack_replied r (inr (inr f)) = full_replied r f
 pub running_replied : (r : Reply) → MayRun r → IsReplied r.status
 running_replied r (inl none) = none_replied r none
 running_replied r (inr (inl p)) = same_replied r _ p.1 tt
-running_replied r (inr (inr (w, v, takes, inl h))) = same_replied r _ h.reply (run_replied h.end)
-running_replied r (inr (inr (w, v, takes, inr f))) = full_replied r f
+running_replied r (inr (inr (inl f))) = full_replied r f
+running_replied r (inr (inr (inr (w, v, takes, h)))) = same_replied r _ h.reply (run_replied h.end)
 
 -- ---- what is told of a refusal
 

@@ -25,8 +25,8 @@ pub record Call (D : Type 0) : Type 0 where
 -- each disk's own clock, each pair of images is such a pair, or holds what the command makes of what the disks held at entry, and in both
 -- cases nothing or a sound world of functions. At most one of the disks is written in all the call. At exit each pair holds nothing or a
 -- sound world again, as the next call needs it. Where a command of a store was done, or found the store too full, nothing is pending,
--- and each pair holds what the disks then read as. No disk is told to be damaged. After `submit` was done, each pair holds the process
--- whose number was written.
+-- and each pair holds what the disks then read as. After `submit` was done, each pair holds the process whose number was written. No
+-- disk is told to be damaged.
 pub record Headline {D : Type 0} (g : disk.Ghosts D) (c : Call D) (result : Status) : Type 0 where
   pub moments : LeavesSound g (MayBegin c.command) (Makes c.told c.command) c.one c.two c.one_new c.two_new
   pub one_writes : WritesOne g c.one c.two c.one_new c.two_new

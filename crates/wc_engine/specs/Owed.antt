@@ -117,6 +117,7 @@ IsOfFiles (Some Listing) = ⊥
 IsOfFiles (Some (Tree pid)) = ⊥
 IsOfFiles (Some Pack) = ⊥
 
+-- the command is `submit`
 abbrev pub IsSubmit : Option Command → Type 0
 IsSubmit None = ⊥
 IsSubmit (Some (Check file)) = ⊥

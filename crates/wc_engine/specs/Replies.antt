@@ -44,7 +44,7 @@ IsDoneOrFull status.Resting = Unit {0}
 IsDoneOrFull (status.Full what count limit) = Unit {0}
 IsDoneOrFull _ = ⊥
 
--- what is told where no store was opened is neither
+-- what is told where no store was opened says neither that the work was done nor that the store is too full
 abbrev pub IsToldUndone : Opened → Type 0
 IsToldUndone (opened.Told r) = IsDoneOrFull r.status → ⊥
 IsToldUndone (opened.Held store) = Unit {0}

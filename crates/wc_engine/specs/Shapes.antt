@@ -15,7 +15,7 @@ use Rattle.wc_engine.specs.Replies.{refuses, prints}
 use Rattle.wc_engine.specs.Running.{usual_turns, HasRun}
 use Rattle.wc_engine.specs.Stored.{usual_limits, is_damaged, is_full, ShowsTree}
 
--- ---- what any of them may reply
+-- ---- what several of them may reply
 
 -- some damage is told
 abbrev pub TellsDamage : Reply → Type 0
@@ -50,12 +50,12 @@ MaySubmit r = NoWorld r ⊎ (((pid : ℕ) × (r ≡ prints (submitted_text pid))
 abbrev pub MayPack : Reply → Type 0
 MayPack r = NoWorld r ⊎ (((generation : ℕ) × (r ≡ prints (packed_text generation))) ⊎ TellsFull r)
 
--- some definition is for later, or turns led from some world to another
+-- some definition is for later, or turns led from some world to another and came to an end there
 abbrev pub MayRun : Reply → Type 0
 MayRun r =
     NoWorld r
     ⊎ (((definition : List ℕ) × (r ≡ refuses (cause.Later definition)))
-    ⊎ ((w : World) × (v : World) × TakesTurns usual_limits.poll_ms usual_turns w v × (HasRun w v r ⊎ TellsFull r)))
+    ⊎ (TellsFull r ⊎ ((w : World) × (v : World) × TakesTurns usual_limits.poll_ms usual_turns w v × HasRun w v r)))
 
 -- ---- words and files that are refused
 
@@ -75,6 +75,7 @@ IsOfFile cause.NoStore = ⊥
 IsOfFile cause.StoreExists = ⊥
 IsOfFile (cause.UnknownProcess pid) = ⊥
 
+-- it is refused for such a cause
 abbrev pub IsRefusedForFile : Status → Type 0
 IsRefusedForFile (status.Refused c) = IsOfFile c
 IsRefusedForFile _ = ⊥

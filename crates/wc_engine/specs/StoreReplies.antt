@@ -84,7 +84,7 @@ abbrev pub IsToldReplied : Opened → Type 0
 IsToldReplied (opened.Told r) = IsRefused r.status
 IsToldReplied (opened.Held store) = Unit {0}
 
--- and is that there is no store, or damage
+-- what is told is that there is no store, or damage
 abbrev pub IsToldNoWorld : Opened → Type 0
 IsToldNoWorld (opened.Told r) = NoWorld r
 IsToldNoWorld (opened.Held store) = Unit {0}

@@ -1,6 +1,7 @@
 //! Laws of what is owed. Each is the contract of a function that does nothing.
 
 ghost use Rattle.std.specs.Prelude.{◌≡◌, ℕ, List, [], Option, IsSome};
+ghost use Rattle.wc_store.specs.Held.{IsHeld, nothing};
 ghost use Rattle.wc_store.specs.Laws.{HeldIsOne, HeldIsReached};
 ghost use Rattle.wc_machine.specs.Laws.{EmptyIsSound};
 ghost use Rattle.wc_runner.specs.Laws.{TurnsKeepSound, WorldsContinueThemselves};
@@ -23,9 +24,10 @@ pub fn files_are_read_as_one_thing()
         → Prepares file content name given p → Prepares file content name given q → p ≡ q }
 {}
 
-/// Two empty disks hold nothing, so they meet what the headline asks of the disks at entry.
+/// Two empty disks hold nothing, so they meet what the headline asks of each pair of images at entry.
 pub fn empty_disks_hold_nothing()
-    ensures { HoldsSound [] [] }
+    ensures nothing { IsHeld [] [] nothing }
+    ensures meets { HoldsSound [] [] }
 {}
 
 /// What is known of the worlds that a store holds.

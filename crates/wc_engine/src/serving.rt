@@ -66,11 +66,12 @@ pub fn serve<R: Shelf, W: Sink, D: Disk>(
     ensures exact_files { IsOfFiles (command_of words.now) → IsSome (R.contents shelf.old)
         → (r : AReply) → IsOwed (R.contents shelf.old) (visit D.Disk one.old two.old one.new two.new) words.now r → OwesStatus r.status result }
     // Nothing is written by a command that only reads or asks no disk, however it ends; by none that ends with Refused, Damaged or
-    // ReadFault; by `init`, `submit` and `pack` that end with Full; nor by `init` and `submit` that end with OutOfMemory. Then each image
+    // ReadFault; by `submit` and `pack` that end with Full; nor by `init` and `submit` that end with OutOfMemory. Then each image
     // at any moment of the call is one that a crash at entry might have left, and the disks read as before.
     ensures unwritten { IsUnwritten (command_of words.now) result → IsTrue (D.tells one.old) → IsTrue (D.tells two.old)
         → LeavesUnwritten D.Disk one.old two.old one.new two.new }
-    // No disk is asked for `check`, `dry`, words that are no command, and a `submit` that is refused for its words or its file.
+    // No disk is asked for `check`, `dry`, words that are no command, and a `submit` that is refused for its words or its file,
+    // where the shelf tells its contents.
     ensures files { AsksNoDisk (R.contents shelf.old) (command_of words.now) → (one.new ≡ one.old) × (two.new ≡ two.old) × (result ≡ Status.DiskFault → ⊥) }
     // Nor is one asked where `submit` is refused for what is in its words or its file, whether the shelf tells its contents or not.
     ensures early { IsSubmit (command_of words.now) → IsRefusedForFile result → (one.new ≡ one.old) × (two.new ≡ two.old) }
@@ -80,8 +81,8 @@ pub fn serve<R: Shelf, W: Sink, D: Disk>(
     // Up to a moment of each disk's clock each image is one that a crash at entry might have left. From then on each pair of images holds
     // nothing or a sound world of functions, and is two images that a crash at entry might have left, or holds what the command makes of
     // what the disks read as at entry. Where that is nothing, `init` alone makes a store: the pair holds nothing or the empty world.
-    // Where it is a world, the pair holds one that continues it: for `submit` the same world, or what the one submission makes of it that
-    // its words are prepared as; for `run` what some turns make of it; for each other command the same world.
+    // Where it is a world, the pair holds one that continues it: for `submit` the same world, or what the one submission makes of it as
+    // which its words are prepared; for `run` what some turns make of it; for each other command the same world.
     // Of one of the disks each image in all the call is one that a crash at entry might have left. Once a command of a store was done, or
     // found the store too full, nothing is pending, and each pair holds what the disks then read as. No disk is told to be damaged.
     // After `submit` with status Ok each pair holds its process, with library, name, inputs and caching.
@@ -103,10 +104,12 @@ pub fn serve<R: Shelf, W: Sink, D: Disk>(
     // A disk failed in this call.
     ensures disk_fault { result ≡ Status.DiskFault → (Rises (D.faults one.old) (D.faults one.new) ⊎ Rises (D.faults two.old) (D.faults two.new))
         × (W.taken sink.new ≡ W.taken sink.old) }
-    // The sink failed in this call, and took a part of what is owed. What was done stays, also where the store was found too full.
+    // The sink failed in this call, and took a part of what is owed. What was done stays, also where the store was found too full; and
+    // where what is owed is a reply that writes no disk, none was written.
     ensures write_fault { result ≡ Status.WriteFault → Rises (W.faults sink.old) (W.faults sink.new)
         × (r : AReply) × IsOwed (R.contents shelf.old) (visit D.Disk one.old two.old one.new two.new) words.now r × TakesPart r.text (W.taken sink.old) (W.taken sink.new)
-        × ((IsOfFiles (command_of words.now) → ⊥) → IsDoneOrFull r.status → IsTrue (D.tells one.old) → IsTrue (D.tells two.old) → AreDurable D.Disk one.new two.new) }
+        × ((IsOfFiles (command_of words.now) → ⊥) → IsDoneOrFull r.status → IsTrue (D.tells one.old) → IsTrue (D.tells two.old) → AreDurable D.Disk one.new two.new)
+        × (IsUnwritten (command_of words.now) r.status → IsTrue (D.tells one.old) → IsTrue (D.tells two.old) → LeavesUnwritten D.Disk one.old two.old one.new two.new) }
     // No count rose but for these.
     ensures reads { (result ≡ Status.ReadFault → ⊥) → R.faults shelf.new ≡ R.faults shelf.old }
     ensures writes { (result ≡ Status.WriteFault → ⊥) → W.faults sink.new ≡ W.faults sink.old }

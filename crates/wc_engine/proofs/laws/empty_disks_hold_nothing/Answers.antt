@@ -7,5 +7,8 @@ empty_hold : IsHeld [] [] nothing
 unfolding chosen
 empty_hold = refl
 
-pub returns : goal.returns
-returns c = inl empty_hold
+pub returns-clause-nothing : goal.returns-clause-nothing
+returns-clause-nothing c = empty_hold
+
+pub returns-clause-meets : goal.returns-clause-meets
+returns-clause-meets c = inl empty_hold

@@ -80,28 +80,21 @@ returns-in-Ok-clause-may g c =
     let w = c.args.store.world.world in
     let v = c.run.new.store.world.world in
     let begun : w.batches ≡ c.batches-begun.result = sym (c.batches-begun.ensures ∙ (λ i. (c.world-2.ensures i).world.batches)) in
-    inr (inr (
+    inr (inr (inr (
       w,
       v,
       subst (λ (l : Limits). TakesTurns l.poll_ms usual_turns w v) c.usual_limits.ensures c.run.ensures.takes,
-      inl (record {
+      record {
         end = c.in-Ok.end;
         ends = subst (λ (l : Limits). EndsAs l.poll_ms usual_turns w v c.in-Ok.end) c.usual_limits.ensures c.in-Ok.ensures.ends;
         reply = c.in_ok-has_run-in-Ok.ensures w begun ∙ (λ i. has_run c.in-Ok.end w (c.world-in-Ok.ensures i).world);
-      }),
-    ))
+      },
+    )))
 
 pub returns-in-Err-Full-clause-may : goal.returns-in-Err-Full-clause-may
 returns-in-Err-Full-clause-may g c =
-    let w = c.args.store.world.world in
-    let v = c.run.new.store.world.world in
     let f = c.in-Err-Full in
-    inr (inr (
-      w,
-      v,
-      subst (λ (l : Limits). TakesTurns l.poll_ms usual_turns w v) c.usual_limits.ensures c.run.ensures.takes,
-      inr (f.what, f.count, f.limit, c.in_ok-full-in-Err-Full.ensures),
-    ))
+    inr (inr (inl (f.what, f.count, f.limit, c.in_ok-full-in-Err-Full.ensures)))
 
 pub returns-in-Ok-clause-does : goal.returns-in-Ok-clause-does
 returns-in-Ok-clause-does g c =

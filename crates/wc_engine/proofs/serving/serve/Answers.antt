@@ -62,8 +62,14 @@ returns-in-Ok-clause-disk_fault g c = λ fault. absurd (c.finish.ensures.disks f
 pub returns-in-Ok-clause-write_fault : goal.returns-in-Ok-clause-write_fault
 returns-in-Ok-clause-write_fault g c =
     λ fault.
-    let f = c.finish.ensures.fault fault in
-    (f.0, c.in-Ok.reply, c.in-Ok.ensures.owed, f.1, λ of done told told_too. c.in-Ok.ensures.durable of done told told_too)
+    let f = c.finish.ensures.fault fault in (
+      f.0,
+      c.in-Ok.reply,
+      c.in-Ok.ensures.owed,
+      f.1,
+      λ of done told told_too. c.in-Ok.ensures.durable of done told told_too,
+      λ ends. c.in-Ok.ensures.unwritten ends,
+    )
 
 pub returns-in-Err-OutOfMemory-clause-headline : goal.returns-in-Err-OutOfMemory-clause-headline
 returns-in-Err-OutOfMemory-clause-headline g c =

@@ -213,17 +213,17 @@ fn expect_crashes_go_on(machine: &Machine, plan: Plan, done: usize) -> Result<()
     Ok(())
 }
 
-/// Fails where a plan doesn't go on well behind an event of a disk at a call. Whether the disk is asked as often.
+/// Fails where a plan doesn't go on well behind an event of a disk at a call, or behind a crash at its end where no call meets the
+/// event. Whether one meets it.
 fn expect_event(machine: &mut Machine, plan: Plan, event: Event) -> Result<bool, Fail> {
     let done = rows_done(machine, plan.rows)?;
-    if done == plan.rows.len() {
-        return Ok(false);
+    let whole = done == plan.rows.len();
+    match (event, whole) {
+        (Event::Fault, true) => {}
+        (Event::Fault, false) => expect_goes_on(machine, plan, done)?,
+        (Event::Crash, _) => expect_crashes_go_on(machine, plan, done)?,
     }
-    match event {
-        Event::Crash => expect_crashes_go_on(machine, plan, done)?,
-        Event::Fault => expect_goes_on(machine, plan, done)?,
-    }
-    Ok(true)
+    Ok(!whole)
 }
 
 /// The disks before a plan, where an event comes to one of them behind so many calls.

@@ -194,11 +194,6 @@ impl Machine {
         self.two.bytes()
     }
 
-    /// Whether both disks hold what they hold in another machine.
-    pub fn holds_the_same(&self, other: &Machine) -> bool {
-        self.one() == other.one() && self.two() == other.two()
-    }
-
     /// Calls the program with the words of a line, where these calls of the shelf and of the sink fail.
     pub fn call_failing(
         &mut self,

@@ -6,14 +6,13 @@ use Rattle.wc_syntax.specs.declared.expression.Form.{fold-Form, fold-roll-Form}
 use Rattle.wc_syntax.specs.declared.expression.Form.TheVariants as form
 use Rattle.wc_syntax.specs.declared.expression.Form.TheOpen.{Form-F}
 use Rattle.wc_syntax.specs.declared.expression.Number.{Number}
-use Rattle.wc_syntax.specs.declared.outline.Arm.{Arm}
+use Rattle.wc_syntax.specs.declared.outline.Arm.{Arm, fold-roll-Arm}
 use Rattle.wc_syntax.specs.declared.outline.Block.{Block, fold-roll-Block}
 use Rattle.wc_syntax.specs.declared.outline.Instr.{Instr, fold-roll-Instr}
 use Rattle.wc_syntax.specs.declared.outline.Instr.TheVariants as instr
 use Rattle.wc_syntax.specs.declared.outline.Instr.TheOpen.{Instr-F}
 use Rattle.wc_syntax.specs.Mentions.{Mention, mentions, form_mentions, its_mentions, Piece, Begins, Tests, Returns, pieces, instr_pieces, arm_pieces, block_pieces}
-use Rattle.wc_check.specs.Flat.{seen_piece, seen_pieces, pieces_of_instr, pieces_of_arm}
-use Rattle.wc_check.specs.declared.pieces.Piece.{Piece as Put}
+use Rattle.wc_check.specs.Flat.{pieces_of_instr, pieces_of_arm}
 
 joined_map : {A B : Type 0} (f : A → List B) (xs : List A) → flat_map (λ ys. ys) (map f xs) ≡ flat_map f xs
 joined_map f [] = refl
@@ -28,6 +27,9 @@ mentions_list e es h =
 
 pub pieces_block : (b : Block) → pieces b ≡ flat_map pieces_of_instr b.instrs
 pieces_block b = fold-roll-Block (List Piece) (List Piece) (List Piece) instr_pieces arm_pieces block_pieces (record { instrs = b.instrs }) ∙ joined_map pieces_of_instr b.instrs
+
+pub pieces_arm : (a : Arm) → pieces_of_arm a ≡ Tests a.condition ∷ pieces a.block
+pieces_arm a = fold-roll-Arm (List Piece) (List Piece) (List Piece) instr_pieces arm_pieces block_pieces (record { condition = a.condition; block = a.block })
 
 pub pieces_none : (i : Instr) (at : ℕ) (arms : List Arm) → i ≡ instr.If at arms None → pieces_of_instr i ≡ Begins at ∷ flat_map pieces_of_arm arms
 pieces_none i at arms h =
@@ -56,13 +58,6 @@ pieces_status i at n h =
     ap pieces_of_instr (h ∙ sym (instr.rolls-Return at (Some n)))
     ∙ fold-roll-Instr (List Piece) (List Piece) (List Piece) instr_pieces arm_pieces block_pieces (Instr-F.Return at (Some n))
 
--- ---- pieces, put at the end one after the other
-pub began : (before now : List Put) (p : Put) → now ≡ before ++ p ∷ [] → seen_pieces now ≡ seen_pieces before ++ seen_piece p ∷ []
-began before now p h = ap seen_pieces h ∙ last before
-  where
-    last : (ps : List Put) → seen_pieces (ps ++ p ∷ []) ≡ seen_pieces ps ++ seen_piece p ∷ []
-    last [] = refl
-    last (q ∷ ps) = ap (λ qs. seen_piece q ∷ qs) (last ps)
-
+-- ---- two lists, put at the end one after the other
 pub two : (s₀ s₁ s₂ a b all : List Piece) → s₁ ≡ s₀ ++ a → s₂ ≡ s₁ ++ b → all ≡ a ++ b → s₂ ≡ s₀ ++ all
 two s₀ s₁ s₂ a b all p q h = q ∙ ap (λ s. s ++ b) p ∙ append_assoc s₀ a b ∙ ap (λ s. s₀ ++ s) (sym h)

@@ -1,6 +1,7 @@
 pub mod Leasts
 pub mod Named
 pub mod Repeated
+pub mod Gathered
 pub mod Flats
 pub mod Scoped
 pub mod Ruled

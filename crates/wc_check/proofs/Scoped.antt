@@ -4,7 +4,7 @@ use Rattle.std.specs.Prelude.{not, ◌&&◌, if◌then◌else◌, Option, flat_m
 use Rattle.wc_syntax.specs.declared.definition.Rule.{Rule}
 use Rattle.wc_syntax.specs.declared.definition.Rule.TheVariants as rule
 use Rattle.wc_syntax.specs.Mentions.{Mention, Bare, Given, Input, Context, Label, Piece, mentions, rule_mentions}
-use Rattle.wc_syntax.specs.Findings.{Finding, Scope, is_among, unless, unknown, twice, unknown_mention, unknown_in, unknown_in_rules, inputs_word, ctx_word, scope_after, let_repeats, repeated_lets_in, repeated_lets, unknown_names, scope_of, first_scope, line_exprs, rules_of, pieces_of, piece_mentions}
+use Rattle.wc_syntax.specs.Findings.{Finding, Scope, is_among, unless, unknown, twice, unknown_mention, unknown_in, unknown_in_rules, inputs_word, ctx_word, scope_after, let_repeats, repeated_lets_in, repeated_lets, scope_of, first_scope, line_exprs, rules_of, pieces_of, piece_mentions}
 use Rattle.wc_syntax.specs.declared.definition.Definition.{Definition}
 use Rattle.wc_syntax.specs.declared.expression.Expr.{Expr}
 use Rattle.wc_check.specs.Least.{Agree, least_after}
@@ -57,23 +57,21 @@ flat_alike : {A B : Type 0} (f g : A → List B) → ((a : A) → f a ≡ g a) �
 flat_alike f g h [] = refl
 flat_alike f g h (x ∷ xs) = λ i. h x i ++ flat_alike f g h xs i
 
--- three lists of findings, one after the other
-pub three : (b₀ b₁ b₂ b₃ : Option Finding) (f g h f' g' h' : List Finding) → b₁ ≡ least_after b₀ f → b₂ ≡ least_after b₁ g → b₃ ≡ least_after b₂ h → f ≡ f' → g ≡ g' → h ≡ h'
-    → b₃ ≡ least_after b₀ (f' ++ (g' ++ h'))
-three b₀ b₁ b₂ b₃ f g h f' g' h' p q r x y z =
-    r ∙ (λ i. least_after ((q ∙ (λ j. least_after (p j) g)) i) h)
-    ∙ sym (least_joined (least_after b₀ f) g h) ∙ sym (least_joined b₀ f (g ++ h))
-    ∙ (λ i. least_after b₀ (x i ++ (y i ++ z i)))
+pub lines_all : (d : Definition) (s : Scope) (lines : List Expr) (b₀ b₁ : Option Finding) → Alike s (scope_of d) → lines ≡ line_exprs d
+    → b₁ ≡ least_after b₀ (flat_map (λ e. unknown_in s (mentions e)) lines) → b₁ ≡ least_after b₀ (flat_map (λ e. unknown_in (scope_of d) (mentions e)) (line_exprs d))
+lines_all d s lines b₀ b₁ h l p =
+    p ∙ ap (least_after b₀)
+    (flat_alike (λ e. unknown_in s (mentions e)) (λ e. unknown_in (scope_of d) (mentions e)) (λ e. unknown_alike s (scope_of d) h (mentions e)) lines ∙ ap (flat_map (λ e. unknown_in (scope_of d) (mentions e))) l)
 
-pub names_all : (d : Definition) (s r : Scope) (lines : List Expr) (rules : List Rule) (ps : List Piece) (b₀ b₁ b₂ b₃ : Option Finding)
-    → Alike s (scope_of d) → Alike r (first_scope d) → lines ≡ line_exprs d → rules ≡ rules_of d → ps ≡ pieces_of d
-    → b₁ ≡ least_after b₀ (flat_map (λ e. unknown_in s (mentions e)) lines) → b₂ ≡ least_after b₁ (unknown_in_rules r rules) → b₃ ≡ least_after b₂ (flat_map (λ p. unknown_in s (piece_mentions p)) ps)
-    → b₃ ≡ least_after b₀ (unknown_names d)
-names_all d s r lines rules ps b₀ b₁ b₂ b₃ hs hr l m n p q t =
-    three b₀ b₁ b₂ b₃ _ _ _ _ _ _ p q t
-    (flat_alike (λ e. unknown_in s (mentions e)) (λ e. unknown_in (scope_of d) (mentions e)) (λ e. unknown_alike s (scope_of d) hs (mentions e)) lines ∙ ap (flat_map (λ e. unknown_in (scope_of d) (mentions e))) l)
-    (rules_alike r (first_scope d) hr rules ∙ ap (unknown_in_rules (first_scope d)) m)
-    (flat_alike (λ a. unknown_in s (piece_mentions a)) (λ a. unknown_in (scope_of d) (piece_mentions a)) (λ a. unknown_alike s (scope_of d) hs (piece_mentions a)) ps ∙ ap (flat_map (λ a. unknown_in (scope_of d) (piece_mentions a))) n)
+pub rules_all : (d : Definition) (s : Scope) (rules : List Rule) (b₀ b₁ : Option Finding) → Alike s (first_scope d) → rules ≡ rules_of d → b₁ ≡ least_after b₀ (unknown_in_rules s rules)
+    → b₁ ≡ least_after b₀ (unknown_in_rules (first_scope d) (rules_of d))
+rules_all d s rules b₀ b₁ h m p = p ∙ ap (least_after b₀) (rules_alike s (first_scope d) h rules ∙ ap (unknown_in_rules (first_scope d)) m)
+
+pub outline_all : (d : Definition) (s : Scope) (ps : List Piece) (b₀ b₁ : Option Finding) → Alike s (scope_of d) → ps ≡ pieces_of d
+    → b₁ ≡ least_after b₀ (flat_map (λ a. unknown_in s (piece_mentions a)) ps) → b₁ ≡ least_after b₀ (flat_map (λ a. unknown_in (scope_of d) (piece_mentions a)) (pieces_of d))
+outline_all d s ps b₀ b₁ h n p =
+    p ∙ ap (least_after b₀)
+    (flat_alike (λ a. unknown_in s (piece_mentions a)) (λ a. unknown_in (scope_of d) (piece_mentions a)) (λ a. unknown_alike s (scope_of d) h (piece_mentions a)) ps ∙ ap (flat_map (λ a. unknown_in (scope_of d) (piece_mentions a))) n)
 
 pub lets_all : (d : Definition) (s : Scope) (rules : List Rule) (b₀ b₁ : Option Finding) → Alike s (first_scope d) → rules ≡ rules_of d → b₁ ≡ least_after b₀ (repeated_lets_in s rules) → b₁ ≡ least_after b₀ (repeated_lets d)
 lets_all d s rules b₀ b₁ h m p = p ∙ ap (least_after b₀) (lets_alike s (first_scope d) h rules ∙ ap (repeated_lets_in (first_scope d)) m)

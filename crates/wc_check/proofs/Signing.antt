@@ -1,12 +1,11 @@
 -- Signatures and the ports that they stand for.
-use Rattle.std.proofs.Common.{◌≡◌, ◌<◌, ℕ, List, [], ◌∷◌, ◌++◌, Bool, true, false, Vec, cond, refl, sym, ap, subst, ◌∙◌, map}
+use Rattle.std.proofs.Common.{◌≡◌, ◌<◌, ℕ, List, [], ◌∷◌, ◌++◌, Bool, true, false, cond, refl, sym, ap, subst, ◌∙◌, map}
 use Rattle.std.specs.Prelude.{◌||◌, not, Option, Some, None, flat_map, if◌then◌else◌, nat_lt, nat_eq}
 use Rattle.std.specs.Option.{option_map}
 use Rattle.std.specs.BTreeMap.{BTreeMap, insert_entry}
 use Rattle.std.specs.Map.{lookup}
 use Rattle.std.specs.declared.cmp.Ordering.{Ordering}
 use Rattle.std.specs.declared.cmp.Ordering.TheVariants.{Less, Equal, Greater}
-use Rattle.std.specs.declared.alloc.Global.{Global}
 use Rattle.std.specs.Ordering.{nat_cmp, is_eq, is_lt, match_ordering, ordering_then, ordering_reverse}
 use Rattle.std.specs.Cmp.Lexicographic.{slice_cmp}
 use Rattle.std.specs.Str.{bytes_eq}
@@ -16,13 +15,12 @@ use Rattle.std.proofs.lemmas.Map.Lookups.{exact_bytes}
 use Rattle.std.proofs.lemmas.Slice.Eq.{bytes_eq-Decides}
 use Rattle.wc_syntax.specs.declared.definition.Definition.{Definition}
 use Rattle.wc_syntax.specs.declared.definition.Port.{Port}
-use Rattle.wc_syntax.specs.declared.outline.CallArg.{CallArg}
 use Rattle.wc_syntax.specs.declared.outline.CallStmt.{CallStmt}
-use Rattle.wc_syntax.specs.Findings.{Finding, head_of, is_among, unless, definition_named, port_names, required_name, required_names, port_missing, port_unknown, missing_port, missing_of, unknown_port, unknown_of, callee_of, given_ports}
+use Rattle.wc_syntax.specs.Findings.{Finding, head_of, is_among, unless, definition_named, required_names, port_missing, missing_port, missing_of, given_ports}
 use Rattle.wc_check.specs.declared.calls.Signature.{Signature}
 use Rattle.wc_check.specs.Flat.{behind}
 use Rattle.wc_check.specs.Least.{Agree, lesser, least_after, stands_before}
-use Rattle.wc_check.specs.Signed.{IsSignature, FitsFound, signature_named, ports_named, AreSignatures}
+use Rattle.wc_check.specs.Signed.{IsSignature, FitsFound, ports_named, AreSignatures}
 use Rattle.wc_check.proofs.Leasts.{least_agree, least_joined}
 use Rattle.wc_check.proofs.Named.{Key, order}
 use Rattle.wc_check.proofs.Repeated.{any_append}
@@ -99,10 +97,6 @@ put_signed old new k s d library e n h all = λ name.
     (fits_either (bytes_eq (head_of d).name.text name) s d (Got name old.entries) (definition_named name library) h (all name))
 
 -- ---- what a call gives
-pub no_ports : (o : Option (List Port)) → FitsFound None o → o ≡ None
-no_ports None f = refl
-no_ports (Some ps) f = absurd f
-
 -- ports that are a signature's
 pub record Signing (s : Signature) (o : Option (List Port)) : Type 0 where
   pub ps : List Port
@@ -139,19 +133,6 @@ missing_alike : (xs ys : List (List ℕ)) (at : ℕ) → Agree xs ys → (ns : L
 missing_alike xs ys at h [] = refl
 missing_alike xs ys at h (n ∷ ns) = λ i. unless (h n i) (port_missing n at) ++ missing_alike xs ys at h ns i
 
-unknown_alike : (xs ys : List (List ℕ)) → Agree xs ys → (args : List CallArg) → flat_map (unknown_port xs) args ≡ flat_map (unknown_port ys) args
-unknown_alike xs ys h [] = refl
-unknown_alike xs ys h (a ∷ args) = λ i. unless (h a.port.text i) (port_unknown a.port.text a.port.at) ++ unknown_alike xs ys h args i
-
-pub callee_none : (c : CallStmt) (o : Option (List Port)) (best : Option Finding) → FitsFound None o → least_after best (callee_of c None) ≡ least_after best (callee_of c o)
-callee_none c o best f = ap (λ x. least_after best (callee_of c x)) (sym (no_ports o f))
-
-pub callee_some : (c : CallStmt) (s : Signature) (o : Option (List Port)) (best : Option Finding) → FitsFound (Some s) o → best ≡ least_after best (callee_of c o)
-callee_some c s o best f = let p = some_ports s o f in ap (λ x. least_after best (callee_of c x)) (sym p.is)
-
-pub missing_none : (c : CallStmt) (o : Option (List Port)) (best : Option Finding) → FitsFound None o → best ≡ least_after best (missing_of c o)
-missing_none c o best f = ap (λ x. least_after best (missing_of c x)) (sym (no_ports o f))
-
 pub missing_skipped : (c : CallStmt) (s : Signature) (o : Option (List Port)) (best : Option Finding) → FitsFound (Some s) o → stands_before best c.at ≡ true → best ≡ least_after best (missing_of c o)
 missing_skipped c s o best f h = let p = some_ports s o f in sym (skipped best (given_ports c) c.at (required_names p.ps) h) ∙ ap (λ x. least_after best (missing_of c x)) (sym p.is)
 
@@ -162,12 +143,3 @@ missing_some c s o given best now f g e =
     e ∙ ap (least_after best) (missing_alike given (given_ports c) c.at g (behind s.required.items))
     ∙ least_agree best (missing_port (given_ports c) c.at) (behind s.required.items) (required_names p.ps) p.signed.required
     ∙ ap (λ x. least_after best (missing_of c x)) (sym p.is)
-
-pub unknown_none : (c : CallStmt) (o : Option (List Port)) (best : Option Finding) → FitsFound None o → best ≡ least_after best (unknown_of c o)
-unknown_none c o best f = ap (λ x. least_after best (unknown_of c x)) (sym (no_ports o f))
-
-pub unknown_some : (c : CallStmt) (s : Signature) (o : Option (List Port)) (best now : Option Finding) → FitsFound (Some s) o
-    → now ≡ least_after best (flat_map (unknown_port s.ports) c.args) → now ≡ least_after best (unknown_of c o)
-unknown_some c s o best now f e =
-    let p = some_ports s o f in
-    e ∙ ap (least_after best) (unknown_alike s.ports (port_names p.ps) p.signed.ports c.args) ∙ ap (λ x. least_after best (unknown_of c x)) (sym p.is)

@@ -1,5 +1,6 @@
 ghost use Rattle.std.specs.Prelude.{◌≡◌, None, OnOk};
-ghost use Rattle.wc_check.specs.Least.{lesser, number_of, stands_before};
+ghost use Rattle.wc_syntax.specs.Findings.{unless};
+ghost use Rattle.wc_check.specs.Least.{least_after, lesser, number_of, stands_before};
 ghost use Rattle.wc_check.specs.Refusals.{finding_seen, Says, SaysBest};
 
 use crate::error::CheckError;
@@ -8,7 +9,7 @@ use std::marker::Model;
 use wc_value::Text;
 
 /// A rule of a checked library, by what a refusal says of it.
-#[derive(Clone, Copy, Debug)]
+#[derive(Clone, Copy)]
 pub enum Fault {
     /// A name stands twice.
     Twice,
@@ -47,7 +48,7 @@ impl Fault {
 }
 
 /// A rule that is broken at a place of the file, with the name that stands there or none.
-#[derive(Debug, Drop)]
+#[derive(Drop)]
 pub struct Finding {
     pub fault: Fault,
     pub name: Text,
@@ -73,7 +74,7 @@ impl Finding {
 }
 
 /// The first of the findings so far: that of the least place, then of the lowest number, then of the least name.
-#[derive(Debug, Drop)]
+#[derive(Drop)]
 pub struct Best {
     found: Option<Finding>,
 }
@@ -130,6 +131,23 @@ impl Best {
             self.found = Some(Finding { fault, name, at });
         }
         Ok(())
+    }
+
+    /// Takes the finding, unless the rule is kept.
+    pub fn offer_unless(
+        &mut self,
+        alloc: Global,
+        is_kept: bool,
+        fault: Fault,
+        name: &str,
+        at: u32,
+    ) -> Result<(), AllocError>
+        ensures { OnOk result (self.new ≡ least_after self.old (unless is_kept (record { number = number_of fault; name = name.now; at = at }))) }
+    {
+        if is_kept {
+            return Ok(());
+        }
+        self.offer(alloc, fault, name, at)
     }
 
     /// The refusal that the first finding is, if there is one.

@@ -55,8 +55,7 @@ fn unknown_among(
 fn repeated_args(alloc: Global, best: &mut Best, call: &CallStmt) -> Result<(), AllocError>
     ensures { OnOk result (best.new ≡ least_after best.old (repeated_args call.now)) }
 {
-    repeats(alloc, best, call.args.as_slice())?;
-    Ok(())
+    repeats(alloc, best, call.args.as_slice())
 }
 
 fn repeated_among(alloc: Global, best: &mut Best, calls: &[&CallStmt]) -> Result<(), AllocError>
@@ -77,8 +76,7 @@ pub fn unknown_callees(
 ) -> Result<(), AllocError>
     ensures { OnOk result (best.new ≡ least_after best.old (unknown_callees signatures.now parts.now)) }
 {
-    callees_among(alloc, best, signatures, parts.calls())?;
-    Ok(())
+    callees_among(alloc, best, signatures, parts.calls())
 }
 
 /// A call gives every required input port of what it calls.
@@ -90,8 +88,7 @@ pub fn missing_ports(
 ) -> Result<(), AllocError>
     ensures { OnOk result (best.new ≡ least_after best.old (missing_ports signatures.now parts.now)) }
 {
-    missing_among(alloc, best, signatures, parts.calls())?;
-    Ok(())
+    missing_among(alloc, best, signatures, parts.calls())
 }
 
 /// A call gives no port that isn't there.
@@ -103,8 +100,7 @@ pub fn unknown_ports(
 ) -> Result<(), AllocError>
     ensures { OnOk result (best.new ≡ least_after best.old (unknown_ports signatures.now parts.now)) }
 {
-    unknown_among(alloc, best, signatures, parts.calls())?;
-    Ok(())
+    unknown_among(alloc, best, signatures, parts.calls())
 }
 
 /// A call gives no port twice.
@@ -115,6 +111,5 @@ pub fn repeated_arguments(
 ) -> Result<(), AllocError>
     ensures { OnOk result (best.new ≡ least_after best.old (repeated_arguments parts.now)) }
 {
-    repeated_among(alloc, best, parts.calls())?;
-    Ok(())
+    repeated_among(alloc, best, parts.calls())
 }

@@ -166,10 +166,7 @@ fn missing_port(
 ) -> Result<(), AllocError>
     ensures { OnOk result (best.new ≡ least_after best.old (missing_port given.now at name.now)) }
 {
-    if !given.has(name) {
-        best.offer(alloc, Fault::PortMissing, name, at)?;
-    }
-    Ok(())
+    best.offer_unless(alloc, given.has(name), Fault::PortMissing, name, at)
 }
 
 fn missing_among(
@@ -217,15 +214,14 @@ fn unknown_port(
 ) -> Result<(), AllocError>
     ensures { OnOk result (best.new ≡ least_after best.old (unknown_port ports.now arg.now)) }
 {
-    if !ports.has(arg.port.text.as_str()) {
-        best.offer(
-            alloc,
-            Fault::PortUnknown,
-            arg.port.text.as_str(),
-            arg.port.at,
-        )?;
-    }
-    Ok(())
+    let name = arg.port.text.as_str();
+    best.offer_unless(
+        alloc,
+        ports.has(name),
+        Fault::PortUnknown,
+        name,
+        arg.port.at,
+    )
 }
 
 fn unknown_among(

@@ -80,8 +80,23 @@ fn misformed_in(alloc: Global, best: &mut Best, parts: &Parts<'_>) -> Result<(),
     Ok(())
 }
 
-/// Finds everything that a definition breaks.
 #[tactic(auto, using(crate::proofs::Leasts::least_joined))]
+fn findings_among(
+    alloc: Global,
+    best: &mut Best,
+    signatures: &Signatures<'_>,
+    parts: &Parts<'_>,
+) -> Result<(), AllocError>
+    ensures { OnOk result (best.new ≡ least_after best.old (findings_in signatures.now parts.now)) }
+{
+    repeated_in(alloc, best, parts)?;
+    unknown_to(alloc, best, signatures, parts)?;
+    ports_of_calls(alloc, best, signatures, parts)?;
+    misformed_in(alloc, best, parts)?;
+    Ok(())
+}
+
+/// Finds everything that a definition breaks.
 fn findings_in(
     alloc: Global,
     best: &mut Best,
@@ -91,10 +106,7 @@ fn findings_in(
     ensures { OnOk result (best.new ≡ least_after best.old (findings_in signatures.now definition.now)) }
 {
     let parts = Parts::of(alloc, definition)?;
-    repeated_in(alloc, best, &parts)?;
-    unknown_to(alloc, best, signatures, &parts)?;
-    ports_of_calls(alloc, best, signatures, &parts)?;
-    misformed_in(alloc, best, &parts)?;
+    findings_among(alloc, best, signatures, &parts)?;
     Ok(())
 }
 
@@ -112,16 +124,24 @@ fn findings_in_each(
     Ok(())
 }
 
-/// The first of everything that a library breaks.
+/// Finds everything that a library breaks.
 #[tactic(auto, using(crate::proofs::Leasts::least_joined))]
+fn find_all(alloc: Global, best: &mut Best, library: &[Definition]) -> Result<(), AllocError>
+    ensures { OnOk result (best.new ≡ least_after best.old (findings library.now)) }
+{
+    repeats(alloc, best, library)?;
+    over_definitions(alloc, best, library)?;
+    let signatures = Signatures::of(alloc, library)?;
+    findings_in_each(alloc, best, &signatures, library)?;
+    Ok(())
+}
+
+/// The first of everything that a library breaks.
 fn best_of(alloc: Global, library: &[Definition]) -> Result<Best, AllocError>
     ensures { IfOk result (λ best. best ≡ least_after None (findings library.now)) }
 {
-    let signatures = Signatures::of(alloc, library)?;
     let mut best = Best::none();
-    repeats(alloc, &mut best, library)?;
-    over_definitions(alloc, &mut best, library)?;
-    findings_in_each(alloc, &mut best, &signatures, library)?;
+    find_all(alloc, &mut best, library)?;
     Ok(best)
 }
 

@@ -55,9 +55,8 @@ fn bad_written(alloc: Global, best: &mut Best, files: &[JobFile]) -> Result<(), 
 {
     for file in files {
         let name = file.name.text.as_str();
-        if !(is_file_name(name) && !is_output_file(name)) {
-            best.offer(alloc, Fault::BadName, name, file.name.at)?;
-        }
+        let is_kept = is_file_name(name) && !is_output_file(name);
+        best.offer_unless(alloc, is_kept, Fault::BadName, name, file.name.at)?;
     }
     Ok(())
 }
@@ -67,9 +66,13 @@ fn bad_fetched(alloc: Global, best: &mut Best, files: &[Fetch]) -> Result<(), Al
 {
     for file in files {
         let name = file.name.text.as_str();
-        if !is_file_name(name) {
-            best.offer(alloc, Fault::BadName, name, file.name.at)?;
-        }
+        best.offer_unless(
+            alloc,
+            is_file_name(name),
+            Fault::BadName,
+            name,
+            file.name.at,
+        )?;
     }
     Ok(())
 }

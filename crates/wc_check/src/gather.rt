@@ -6,6 +6,7 @@ ghost use Rattle.wc_check.specs.Flat.{behind, seen_mentions, seen_piece, seen_pi
 use crate::mentions::{Mention, mentions_of, mentions_of_piece, mentions_of_rule};
 use crate::parts::Parts;
 use crate::pieces::Piece;
+use crate::puts::put_name;
 use crate::repeats::head_of;
 use std::alloc::{AllocError, Global};
 use wc_syntax::{
@@ -26,22 +27,39 @@ fn put_rule_outputs<'a>(found: &mut Vec<&'a Name>, rules: &'a [Rule]) -> Result<
     ensures { OnOk result (behind found.new.items ≡ behind found.old.items ++ flat_map rule_output rules.now) }
 {
     for rule in rules {
-        if let Rule::Out(_, name, _) = rule {
-            found.push(name)?;
-        }
+        put_rule_output(found, rule)?;
     }
     Ok(())
+}
+
+fn put_rule_output<'a>(found: &mut Vec<&'a Name>, rule: &'a Rule) -> Result<(), AllocError>
+    ensures { OnOk result (behind found.new.items ≡ behind found.old.items ++ rule_output rule.now) }
+{
+    match rule {
+        Rule::Let(_, _, _) => Ok(()),
+        Rule::Out(_, name, _) => put_name(found, name),
+        Rule::Exit(_) => Ok(()),
+    }
 }
 
 fn put_stmt_outputs<'a>(found: &mut Vec<&'a Name>, stmts: &[&'a Stmt]) -> Result<(), AllocError>
     ensures { OnOk result (behind found.new.items ≡ behind found.old.items ++ flat_map stmt_output (behind stmts.now)) }
 {
     for stmt in stmts {
-        if let Stmt::Out(_, name, _) = *stmt {
-            found.push(name)?;
-        }
+        put_stmt_output(found, *stmt)?;
     }
     Ok(())
+}
+
+fn put_stmt_output<'a>(found: &mut Vec<&'a Name>, stmt: &'a Stmt) -> Result<(), AllocError>
+    ensures { OnOk result (behind found.new.items ≡ behind found.old.items ++ stmt_output stmt.now) }
+{
+    match stmt {
+        Stmt::Ctx(_, _, _) => Ok(()),
+        Stmt::Out(_, name, _) => put_name(found, name),
+        Stmt::Exit(_) => Ok(()),
+        Stmt::Call(_) => Ok(()),
+    }
 }
 
 /// The numbers behind `exit` and `return`, in order.
@@ -58,11 +76,22 @@ fn put_rule_statuses(found: &mut Vec<Number>, rules: &[Rule]) -> Result<(), Allo
     ensures { OnOk result (found.new.items ≡ found.old.items ++ flat_map rule_status rules.now) }
 {
     for rule in rules {
-        if let Rule::Exit(exit) = rule {
-            found.push(exit.status)?;
-        }
+        put_rule_status(found, rule)?;
     }
     Ok(())
+}
+
+fn put_rule_status(found: &mut Vec<Number>, rule: &Rule) -> Result<(), AllocError>
+    ensures { OnOk result (found.new.items ≡ found.old.items ++ rule_status rule.now) }
+{
+    match rule {
+        Rule::Let(_, _, _) => Ok(()),
+        Rule::Out(_, _, _) => Ok(()),
+        Rule::Exit(exit) => {
+            found.push(exit.status)?;
+            Ok(())
+        }
+    }
 }
 
 fn put_piece_statuses(found: &mut Vec<Number>, pieces: &[Piece<'_>]) -> Result<(), AllocError>

@@ -60,9 +60,7 @@ fn reserved_in(alloc: Global, best: &mut Best, ports: &[Port]) -> Result<(), All
 {
     for port in ports {
         let name = port.name.text.as_str();
-        if is_reserved(name) {
-            best.offer(alloc, Fault::Twice, name, port.name.at)?;
-        }
+        best.offer_unless(alloc, !is_reserved(name), Fault::Twice, name, port.name.at)?;
     }
     Ok(())
 }
@@ -75,8 +73,7 @@ pub fn bad_declared(
 ) -> Result<(), AllocError>
     ensures { OnOk result (best.new ≡ least_after best.old (bad_declared definition.now)) }
 {
-    bad_ranges(alloc, best, head_of(definition).codes.as_slice())?;
-    Ok(())
+    bad_ranges(alloc, best, head_of(definition).codes.as_slice())
 }
 
 fn bad_ranges(alloc: Global, best: &mut Best, codes: &[ExitCode]) -> Result<(), AllocError>
@@ -84,9 +81,8 @@ fn bad_ranges(alloc: Global, best: &mut Best, codes: &[ExitCode]) -> Result<(), 
 {
     for code in codes {
         let status = code.status;
-        if !(LEAST_STATUS <= status.value && status.value <= MOST_STATUS) {
-            best.offer(alloc, Fault::BadStatus, "", status.at)?;
-        }
+        let is_kept = LEAST_STATUS <= status.value && status.value <= MOST_STATUS;
+        best.offer_unless(alloc, is_kept, Fault::BadStatus, "", status.at)?;
     }
     Ok(())
 }
@@ -99,8 +95,7 @@ pub fn repeated_statuses(
 ) -> Result<(), AllocError>
     ensures { OnOk result (best.new ≡ least_after best.old (repeated_statuses definition.now)) }
 {
-    repeated_codes(alloc, best, head_of(definition).codes.as_slice())?;
-    Ok(())
+    repeated_codes(alloc, best, head_of(definition).codes.as_slice())
 }
 
 fn repeated_codes(alloc: Global, best: &mut Best, codes: &[ExitCode]) -> Result<(), AllocError>

@@ -8,9 +8,10 @@ use crate::best::{Best, Fault};
 use crate::mentions::{Mention, mentions_of, mentions_of_piece, mentions_of_rule};
 use crate::parts::Parts;
 use crate::pieces::Piece;
+use crate::puts::put_name;
 use crate::repeats::head_of;
 use std::alloc::{AllocError, Global};
-use wc_syntax::{CallArg, Expr, Name, Port, Rule, Stmt};
+use wc_syntax::{CallArg, Expr, Head, Name, Port, Rule, Stmt};
 
 const MOST_NAME_BYTES: usize = 64;
 
@@ -18,22 +19,39 @@ const MOST_NAME_BYTES: usize = 64;
 fn names_of<'a>(alloc: Global, parts: &Parts<'a>) -> Result<Vec<&'a Name>, AllocError>
     ensures { IfOk result (λ ns. behind ns.items ≡ names_of parts.now) }
 {
-    let head = head_of(parts.definition());
     let mut found = Vec::new(alloc);
-    found.push(&head.name)?;
-    put_ports(&mut found, head.inputs.as_slice())?;
-    put_ports(&mut found, head.outputs.as_slice())?;
-    put_exprs(alloc, &mut found, parts.lines())?;
-    put_rules(alloc, &mut found, parts.rules())?;
-    put_pieces(alloc, &mut found, parts.pieces())?;
+    put_names(alloc, &mut found, parts)?;
     Ok(found)
+}
+
+fn put_names<'a>(
+    alloc: Global,
+    found: &mut Vec<&'a Name>,
+    parts: &Parts<'a>,
+) -> Result<(), AllocError>
+    ensures { OnOk result (behind found.new.items ≡ behind found.old.items ++ names_of parts.now) }
+{
+    put_head_names(found, head_of(parts.definition()))?;
+    put_exprs(alloc, found, parts.lines())?;
+    put_rules(alloc, found, parts.rules())?;
+    put_pieces(alloc, found, parts.pieces())?;
+    Ok(())
+}
+
+fn put_head_names<'a>(found: &mut Vec<&'a Name>, head: &'a Head) -> Result<(), AllocError>
+    ensures { OnOk result (behind found.new.items ≡ behind found.old.items ++ (head.now.name ∷ map (λ p. p.name) (head.now.inputs ++ head.now.outputs))) }
+{
+    put_name(found, &head.name)?;
+    put_ports(found, head.inputs.as_slice())?;
+    put_ports(found, head.outputs.as_slice())?;
+    Ok(())
 }
 
 fn put_ports<'a>(found: &mut Vec<&'a Name>, ports: &'a [Port]) -> Result<(), AllocError>
     ensures { OnOk result (behind found.new.items ≡ behind found.old.items ++ map (λ p. p.name) ports.now) }
 {
     for port in ports {
-        found.push(&port.name)?;
+        put_name(found, &port.name)?;
     }
     Ok(())
 }
@@ -42,7 +60,7 @@ fn put_mentioned<'a>(found: &mut Vec<&'a Name>, mentions: &[Mention<'a>]) -> Res
     ensures { OnOk result (behind found.new.items ≡ behind found.old.items ++ mentioned_names (seen_mentions mentions.now)) }
 {
     for mention in mentions {
-        found.push(mentioned(mention))?;
+        put_name(found, mentioned(mention))?;
     }
     Ok(())
 }
@@ -63,8 +81,7 @@ fn put_expr<'a>(alloc: Global, found: &mut Vec<&'a Name>, value: &'a Expr) -> Re
     ensures { OnOk result (behind found.new.items ≡ behind found.old.items ++ mentioned_names (mentions value.now)) }
 {
     let mentions = mentions_of(alloc, value)?;
-    put_mentioned(found, mentions.as_slice())?;
-    Ok(())
+    put_mentioned(found, mentions.as_slice())
 }
 
 fn put_exprs<'a>(
@@ -93,8 +110,8 @@ fn put_rule_name<'a>(found: &mut Vec<&'a Name>, rule: &'a Rule) -> Result<(), Al
     ensures { OnOk result (behind found.new.items ≡ behind found.old.items ++ rule_name rule.now) }
 {
     match rule {
-        Rule::Let(_, name, _) => Ok(found.push(name)?),
-        Rule::Out(_, name, _) => Ok(found.push(name)?),
+        Rule::Let(_, name, _) => put_name(found, name),
+        Rule::Out(_, name, _) => put_name(found, name),
         Rule::Exit(_) => Ok(()),
     }
 }
@@ -130,7 +147,7 @@ fn put_piece_names<'a>(found: &mut Vec<&'a Name>, piece: Piece<'a>) -> Result<()
 {
     match piece {
         Piece::Begins(_) => Ok(()),
-        Piece::Named(name) => Ok(found.push(name)?),
+        Piece::Named(name) => put_name(found, name),
         Piece::Does(stmt) => put_stmt_names(found, stmt),
         Piece::Tests(_) => Ok(()),
         Piece::Returns(_) => Ok(()),
@@ -141,13 +158,13 @@ fn put_stmt_names<'a>(found: &mut Vec<&'a Name>, stmt: &'a Stmt) -> Result<(), A
     ensures { OnOk result (behind found.new.items ≡ behind found.old.items ++ stmt_names stmt.now) }
 {
     match stmt {
-        Stmt::Ctx(_, name, _) => Ok(found.push(name)?),
-        Stmt::Out(_, name, _) => Ok(found.push(name)?),
+        Stmt::Ctx(_, name, _) => put_name(found, name),
+        Stmt::Out(_, name, _) => put_name(found, name),
         Stmt::Exit(_) => Ok(()),
         Stmt::Call(call) => {
-            found.push(&call.callee)?;
+            put_name(found, &call.callee)?;
             put_args(found, call.args.as_slice())?;
-            found.push(&call.key)?;
+            put_name(found, &call.key)?;
             Ok(())
         }
     }
@@ -157,7 +174,7 @@ fn put_args<'a>(found: &mut Vec<&'a Name>, args: &'a [CallArg]) -> Result<(), Al
     ensures { OnOk result (behind found.new.items ≡ behind found.old.items ++ map (λ a. a.port) args.now) }
 {
     for arg in args {
-        found.push(&arg.port)?;
+        put_name(found, &arg.port)?;
     }
     Ok(())
 }
@@ -178,10 +195,8 @@ fn put_pieces<'a>(
 fn long_name(alloc: Global, best: &mut Best, name: &Name) -> Result<(), AllocError>
     ensures { OnOk result (best.new ≡ least_after best.old (long_name name.now)) }
 {
-    if name.text.bytes().len() > MOST_NAME_BYTES {
-        best.offer(alloc, Fault::BadName, name.text.as_str(), name.at)?;
-    }
-    Ok(())
+    let is_short = name.text.bytes().len() <= MOST_NAME_BYTES;
+    best.offer_unless(alloc, is_short, Fault::BadName, name.text.as_str(), name.at)
 }
 
 fn long_among(alloc: Global, best: &mut Best, names: &[&Name]) -> Result<(), AllocError>
@@ -198,6 +213,5 @@ pub fn long_names(alloc: Global, best: &mut Best, parts: &Parts<'_>) -> Result<(
     ensures { OnOk result (best.new ≡ least_after best.old (long_names parts.now)) }
 {
     let names = names_of(alloc, parts)?;
-    long_among(alloc, best, names.as_slice())?;
-    Ok(())
+    long_among(alloc, best, names.as_slice())
 }

@@ -15,6 +15,7 @@ mod mentions;
 mod names;
 mod parts;
 mod pieces;
+mod puts;
 mod repeats;
 mod rules;
 mod scopes;

@@ -4,6 +4,7 @@ ghost use Rattle.wc_syntax.specs.Findings.{piece_mentions};
 ghost use Rattle.wc_check.specs.Flat.{seen_mentions, seen_piece};
 
 use crate::pieces::Piece;
+use crate::puts::put_mention;
 use std::alloc::{AllocError, Global};
 use wc_syntax::{CallArg, ChildPart, Expr, Exprs, Form, Name, Rule, Stmt};
 
@@ -41,11 +42,11 @@ fn put_mentions<'a>(found: &mut Vec<Mention<'a>>, value: &'a Expr) -> Result<(),
         Form::Number(_) => Ok(()),
         Form::Quoted(_) => Ok(()),
         Form::Truth(_) => Ok(()),
-        Form::Bare(name) => Ok(found.push(Mention::Bare(name))?),
-        Form::Input(at, name) => Ok(found.push(Mention::Input(*at, name))?),
-        Form::Plain(at, name) => Ok(found.push(Mention::Context(*at, name))?),
+        Form::Bare(name) => put_mention(found, Mention::Bare(name)),
+        Form::Input(at, name) => put_mention(found, Mention::Input(*at, name)),
+        Form::Plain(at, name) => put_mention(found, Mention::Context(*at, name)),
         Form::Child(at, name, index, part) => {
-            found.push(Mention::Context(*at, name))?;
+            put_mention(found, Mention::Context(*at, name))?;
             if let Some(index) = index {
                 put_mentions(found, index.get())?;
             }
@@ -61,9 +62,9 @@ fn put_mentions<'a>(found: &mut Vec<Mention<'a>>, value: &'a Expr) -> Result<(),
             put_mentions(found, first.get())?;
             put_mentions(found, second.get())
         }
-        Form::GivenBare(name) => Ok(found.push(Mention::Given(name))?),
-        Form::GivenInput(at, name) => Ok(found.push(Mention::Input(*at, name))?),
-        Form::Count(at, name) => Ok(found.push(Mention::Context(*at, name))?),
+        Form::GivenBare(name) => put_mention(found, Mention::Given(name)),
+        Form::GivenInput(at, name) => put_mention(found, Mention::Input(*at, name)),
+        Form::Count(at, name) => put_mention(found, Mention::Context(*at, name)),
         Form::List(items) => put_all_mentions(found, items),
     }
 }
@@ -84,7 +85,7 @@ fn put_part<'a>(found: &mut Vec<Mention<'a>>, part: &'a ChildPart) -> Result<(),
     ensures { OnOk result (seen_mentions found.new.items ≡ seen_mentions found.old.items ++ part_mentions part.now) }
 {
     match part {
-        ChildPart::Outputs(name) => Ok(found.push(Mention::Label(name))?),
+        ChildPart::Outputs(name) => put_mention(found, Mention::Label(name)),
         ChildPart::Status => Ok(()),
         ChildPart::Ok => Ok(()),
     }
@@ -117,10 +118,20 @@ fn mentions_of_args<'a>(alloc: Global, args: &'a [CallArg]) -> Result<Vec<Mentio
     ensures { IfOk result (λ ms. seen_mentions ms.items ≡ flat_map (λ a. mentions a.value) args.now) }
 {
     let mut found = Vec::new(alloc);
-    for arg in args {
-        put_mentions(&mut found, &arg.value)?;
-    }
+    put_args_mentions(&mut found, args)?;
     Ok(found)
+}
+
+fn put_args_mentions<'a>(
+    found: &mut Vec<Mention<'a>>,
+    args: &'a [CallArg],
+) -> Result<(), AllocError>
+    ensures { OnOk result (seen_mentions found.new.items ≡ seen_mentions found.old.items ++ flat_map (λ a. mentions a.value) args.now) }
+{
+    for arg in args {
+        put_mentions(found, &arg.value)?;
+    }
+    Ok(())
 }
 
 fn mentions_of_stmt<'a>(alloc: Global, stmt: &'a Stmt) -> Result<Vec<Mention<'a>>, AllocError>

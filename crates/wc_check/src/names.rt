@@ -7,7 +7,7 @@ use std::collections::BTreeSet;
 use std::marker::Model;
 
 /// A set of names. Contracts see the list of them.
-#[derive(Debug, Drop)]
+#[derive(Drop)]
 pub struct Names {
     set: BTreeSet<Vec<u8>>,
 }

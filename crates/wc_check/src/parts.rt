@@ -1,8 +1,9 @@
 ghost use Rattle.std.specs.Prelude.{◌≡◌, ◌++◌, map, flat_map, OnOk, IfOk};
 ghost use Rattle.wc_syntax.specs.Findings.{line_exprs, pieces_of, rules_of, stmt_of, stmts_of, call_of, calls_of};
-ghost use Rattle.wc_check.specs.Flat.{behind, seen_pieces};
+ghost use Rattle.wc_check.specs.Flat.{behind, seen_piece, seen_pieces};
 
 use crate::pieces::{Piece, pieces_of_block};
+use crate::puts::{put_call, put_expr, put_stmt};
 use std::alloc::{AllocError, Global};
 use std::marker::Model;
 use wc_syntax::{CallStmt, Definition, Expr, JobFile, JobLine, Rule, Stmt};
@@ -117,7 +118,7 @@ fn line_exprs<'a>(alloc: Global, definition: &'a Definition) -> Result<Vec<&'a E
     match definition {
         Definition::Function(_) => Ok(found),
         Definition::Job(job) => {
-            found.push(&job.program.value)?;
+            put_expr(&mut found, &job.program.value)?;
             put_args(&mut found, job.args.as_slice())?;
             put_files(&mut found, job.files.as_slice())?;
             Ok(found)
@@ -130,7 +131,7 @@ fn put_args<'a>(found: &mut Vec<&'a Expr>, lines: &'a [JobLine]) -> Result<(), A
     ensures { OnOk result (behind found.new.items ≡ behind found.old.items ++ map (λ l. l.value) lines.now) }
 {
     for line in lines {
-        found.push(&line.value)?;
+        put_expr(found, &line.value)?;
     }
     Ok(())
 }
@@ -139,7 +140,7 @@ fn put_files<'a>(found: &mut Vec<&'a Expr>, files: &'a [JobFile]) -> Result<(), 
     ensures { OnOk result (behind found.new.items ≡ behind found.old.items ++ map (λ f. f.value) files.now) }
 {
     for file in files {
-        found.push(&file.value)?;
+        put_expr(found, &file.value)?;
     }
     Ok(())
 }
@@ -160,12 +161,29 @@ fn stmts_among<'a>(alloc: Global, pieces: &[Piece<'a>]) -> Result<Vec<&'a Stmt>,
     ensures { IfOk result (λ ss. behind ss.items ≡ flat_map stmt_of (seen_pieces pieces.now)) }
 {
     let mut found = Vec::new(alloc);
-    for piece in pieces {
-        if let Piece::Does(stmt) = *piece {
-            found.push(stmt)?;
-        }
-    }
+    put_stmts(&mut found, pieces)?;
     Ok(found)
+}
+
+fn put_stmts<'a>(found: &mut Vec<&'a Stmt>, pieces: &[Piece<'a>]) -> Result<(), AllocError>
+    ensures { OnOk result (behind found.new.items ≡ behind found.old.items ++ flat_map stmt_of (seen_pieces pieces.now)) }
+{
+    for piece in pieces {
+        put_stmt_of(found, *piece)?;
+    }
+    Ok(())
+}
+
+fn put_stmt_of<'a>(found: &mut Vec<&'a Stmt>, piece: Piece<'a>) -> Result<(), AllocError>
+    ensures { OnOk result (behind found.new.items ≡ behind found.old.items ++ stmt_of (seen_piece piece.entry)) }
+{
+    match piece {
+        Piece::Begins(_) => Ok(()),
+        Piece::Named(_) => Ok(()),
+        Piece::Does(stmt) => put_stmt(found, stmt),
+        Piece::Tests(_) => Ok(()),
+        Piece::Returns(_) => Ok(()),
+    }
 }
 
 /// The calls among the statements.
@@ -173,10 +191,26 @@ fn calls_among<'a>(alloc: Global, stmts: &[&'a Stmt]) -> Result<Vec<&'a CallStmt
     ensures { IfOk result (λ cs. behind cs.items ≡ flat_map call_of (behind stmts.now)) }
 {
     let mut found = Vec::new(alloc);
-    for stmt in stmts {
-        if let Stmt::Call(call) = *stmt {
-            found.push(call)?;
-        }
-    }
+    put_calls(&mut found, stmts)?;
     Ok(found)
+}
+
+fn put_calls<'a>(found: &mut Vec<&'a CallStmt>, stmts: &[&'a Stmt]) -> Result<(), AllocError>
+    ensures { OnOk result (behind found.new.items ≡ behind found.old.items ++ flat_map call_of (behind stmts.now)) }
+{
+    for stmt in stmts {
+        put_call_of(found, *stmt)?;
+    }
+    Ok(())
+}
+
+fn put_call_of<'a>(found: &mut Vec<&'a CallStmt>, stmt: &'a Stmt) -> Result<(), AllocError>
+    ensures { OnOk result (behind found.new.items ≡ behind found.old.items ++ call_of stmt.now) }
+{
+    match stmt {
+        Stmt::Ctx(_, _, _) => Ok(()),
+        Stmt::Out(_, _, _) => Ok(()),
+        Stmt::Exit(_) => Ok(()),
+        Stmt::Call(call) => put_call(found, call),
+    }
 }

@@ -1,7 +1,8 @@
-ghost use Rattle.std.specs.Prelude.{◌≡◌, ◌++◌, flat_map, OnOk, IfOk};
-ghost use Rattle.wc_syntax.specs.Mentions.{pieces, step_pieces};
+ghost use Rattle.std.specs.Prelude.{◌≡◌, ◌++◌, map, flat_map, OnOk, IfOk};
+ghost use Rattle.wc_syntax.specs.Mentions.{Does, pieces, step_pieces};
 ghost use Rattle.wc_check.specs.Flat.{seen_pieces, pieces_of_instr, pieces_of_arm};
 
+use crate::puts::put_piece;
 use std::alloc::{AllocError, Global};
 use wc_syntax::{Arms, Block, Expr, Instr, Name, Number, Step, Stmt};
 
@@ -46,7 +47,7 @@ fn put_instr<'a>(found: &mut Vec<Piece<'a>>, instr: &'a Instr) -> Result<(), All
     match instr {
         Instr::Step(step) => put_step(found, step),
         Instr::If(at, arms, other) => {
-            found.push(Piece::Begins(*at))?;
+            put_piece(found, Piece::Begins(*at))?;
             put_arms(found, arms)?;
             match other {
                 Some(block) => {
@@ -57,16 +58,16 @@ fn put_instr<'a>(found: &mut Vec<Piece<'a>>, instr: &'a Instr) -> Result<(), All
             }
         }
         Instr::While(at, condition, block) => {
-            found.push(Piece::Begins(*at))?;
-            found.push(Piece::Tests(condition))?;
+            put_piece(found, Piece::Begins(*at))?;
+            put_piece(found, Piece::Tests(condition))?;
             put_block(found, block)?;
             Ok(())
         }
         Instr::Return(at, status) => {
-            found.push(Piece::Begins(*at))?;
+            put_piece(found, Piece::Begins(*at))?;
             match status {
                 Some(status) => {
-                    found.push(Piece::Returns(status))?;
+                    put_piece(found, Piece::Returns(status))?;
                     Ok(())
                 }
                 None => Ok(()),
@@ -80,7 +81,7 @@ fn put_arms<'a>(found: &mut Vec<Piece<'a>>, arms: &'a Arms) -> Result<(), AllocE
     ensures { OnOk result (seen_pieces found.new.items ≡ seen_pieces found.old.items ++ flat_map pieces_of_arm arms.now) }
 {
     for arm in arms.as_slice() {
-        found.push(Piece::Tests(&arm.condition))?;
+        put_piece(found, Piece::Tests(&arm.condition))?;
         put_block(found, &arm.block)?;
     }
     Ok(())
@@ -89,10 +90,17 @@ fn put_arms<'a>(found: &mut Vec<Piece<'a>>, arms: &'a Arms) -> Result<(), AllocE
 fn put_step<'a>(found: &mut Vec<Piece<'a>>, step: &'a Step) -> Result<(), AllocError>
     ensures { OnOk result (seen_pieces found.new.items ≡ seen_pieces found.old.items ++ step_pieces step.now) }
 {
-    found.push(Piece::Begins(step.at))?;
-    found.push(Piece::Named(&step.name))?;
-    for stmt in step.stmts.as_slice() {
-        found.push(Piece::Does(stmt))?;
+    put_piece(found, Piece::Begins(step.at))?;
+    put_piece(found, Piece::Named(&step.name))?;
+    put_stmts(found, step.stmts.as_slice())?;
+    Ok(())
+}
+
+fn put_stmts<'a>(found: &mut Vec<Piece<'a>>, stmts: &'a [Stmt]) -> Result<(), AllocError>
+    ensures { OnOk result (seen_pieces found.new.items ≡ seen_pieces found.old.items ++ map Does stmts.now) }
+{
+    for stmt in stmts {
+        put_piece(found, Piece::Does(stmt))?;
     }
     Ok(())
 }

@@ -30,10 +30,8 @@ fn unknown_output(
 ) -> Result<(), AllocError>
     ensures { OnOk result (best.new ≡ least_after best.old (unknown_output outputs.now name.now)) }
 {
-    if !outputs.has(name.text.as_str()) {
-        best.offer(alloc, Fault::Unknown, name.text.as_str(), name.at)?;
-    }
-    Ok(())
+    let text = name.text.as_str();
+    best.offer_unless(alloc, outputs.has(text), Fault::Unknown, text, name.at)
 }
 
 fn unknown_among(
@@ -69,10 +67,8 @@ fn undeclared(
 ) -> Result<(), AllocError>
     ensures { OnOk result (best.new ≡ least_after best.old (undeclared declared.now status)) }
 {
-    if !(status.value == 0 || declared.has(status.value)) {
-        best.offer(alloc, Fault::BadStatus, "", status.at)?;
-    }
-    Ok(())
+    let is_known = status.value == 0 || declared.has(status.value);
+    best.offer_unless(alloc, is_known, Fault::BadStatus, "", status.at)
 }
 
 fn undeclared_among(
@@ -117,12 +113,14 @@ fn is_data(value: &Expr) -> bool
 fn stmt_data(alloc: Global, best: &mut Best, stmt: &Stmt) -> Result<(), AllocError>
     ensures { OnOk result (best.new ≡ least_after best.old (stmt_data stmt.now)) }
 {
-    if let Stmt::Out(_, _, value) = stmt {
-        if !is_data(value) {
-            best.offer(alloc, Fault::NotData, "", value.at)?;
+    match stmt {
+        Stmt::Ctx(_, _, _) => Ok(()),
+        Stmt::Out(_, _, value) => {
+            best.offer_unless(alloc, is_data(value), Fault::NotData, "", value.at)
         }
+        Stmt::Exit(_) => Ok(()),
+        Stmt::Call(_) => Ok(()),
     }
-    Ok(())
 }
 
 fn not_data_among(alloc: Global, best: &mut Best, stmts: &[&Stmt]) -> Result<(), AllocError>
@@ -138,8 +136,7 @@ fn not_data_among(alloc: Global, best: &mut Best, stmts: &[&Stmt]) -> Result<(),
 pub fn not_nodes(alloc: Global, best: &mut Best, parts: &Parts<'_>) -> Result<(), AllocError>
     ensures { OnOk result (best.new ≡ least_after best.old (not_nodes parts.now)) }
 {
-    not_data_among(alloc, best, parts.stmts())?;
-    Ok(())
+    not_data_among(alloc, best, parts.stmts())
 }
 
 fn over_ports(alloc: Global, best: &mut Best, ports: &[Port]) -> Result<(), AllocError>

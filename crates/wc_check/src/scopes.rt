@@ -1,6 +1,6 @@
 ghost use Rattle.std.specs.Prelude.{◌≡◌, ◌∷◌, ◌++◌, [], flat_map, OnOk, IfOk};
 ghost use Rattle.wc_syntax.specs.Mentions.{mentions, rule_mentions};
-ghost use Rattle.wc_syntax.specs.Findings.{unknown_in, unknown_in_rules, unknown_mention, unknown_names, repeated_lets, repeated_lets_in, let_repeats, scope_after, scope_of, first_scope, reserved_in, piece_mentions};
+ghost use Rattle.wc_syntax.specs.Findings.{unless, unknown, unknown_in, unknown_in_rules, unknown_mention, unknown_names, repeated_lets, repeated_lets_in, let_repeats, scope_after, scope_of, first_scope, reserved_in, piece_mentions, line_exprs, rules_of, pieces_of};
 ghost use Rattle.wc_check.specs.Flat.{behind, seen_mention, seen_mentions, seen_piece, seen_pieces};
 ghost use Rattle.wc_check.specs.Least.{least_after, Agree};
 ghost use Rattle.wc_check.specs.Scopes.{scope_seen, Alike};
@@ -12,10 +12,10 @@ use crate::parts::Parts;
 use crate::pieces::Piece;
 use crate::repeats::{head_of, meet, names_of};
 use std::alloc::{AllocError, Global};
-use wc_syntax::{Definition, Expr, Rule};
+use wc_syntax::{Definition, Expr, Name, Rule};
 
 /// Where an expression stands.
-#[derive(Debug, Drop)]
+#[derive(Drop)]
 pub struct Scope {
     /// Whether it stands in a work chain.
     pub in_chain: bool,
@@ -84,31 +84,35 @@ fn unknown_mention(
     ensures { OnOk result (best.new ≡ least_after best.old (unknown_mention (scope_seen scope.now) (seen_mention mention.now))) }
 {
     match *mention {
-        Mention::Bare(name) => {
-            if !scope.known.has(name.text.as_str()) {
-                best.offer(alloc, Fault::Unknown, name.text.as_str(), name.at)?;
-            }
-        }
+        Mention::Bare(name) => unless_known(alloc, best, scope.known.has(name.text.as_str()), name),
         Mention::Given(name) => {
-            if !(!scope.in_chain && scope.ports.has(name.text.as_str())) {
-                best.offer(alloc, Fault::Unknown, name.text.as_str(), name.at)?;
-            }
+            let is_port = !scope.in_chain && scope.ports.has(name.text.as_str());
+            unless_known(alloc, best, is_port, name)
         }
         Mention::Input(at, name) => {
-            if !scope.in_chain {
-                best.offer(alloc, Fault::Unknown, "inputs", at)?;
-            } else if !scope.ports.has(name.text.as_str()) {
-                best.offer(alloc, Fault::Unknown, name.text.as_str(), name.at)?;
+            if scope.in_chain {
+                unless_known(alloc, best, scope.ports.has(name.text.as_str()), name)
+            } else {
+                best.offer(alloc, Fault::Unknown, "inputs", at)
             }
         }
         Mention::Context(at, _) => {
-            if !scope.in_chain {
-                best.offer(alloc, Fault::Unknown, "ctx", at)?;
-            }
+            best.offer_unless(alloc, scope.in_chain, Fault::Unknown, "ctx", at)
         }
-        Mention::Label(_) => {}
+        Mention::Label(_) => Ok(()),
     }
-    Ok(())
+}
+
+/// Finds a name, unless it is known.
+fn unless_known(
+    alloc: Global,
+    best: &mut Best,
+    is_known: bool,
+    name: &Name,
+) -> Result<(), AllocError>
+    ensures { OnOk result (best.new ≡ least_after best.old (unless is_known (unknown name.now.text name.now.at))) }
+{
+    best.offer_unless(alloc, is_known, Fault::Unknown, name.text.as_str(), name.at)
 }
 
 fn unknown_in(
@@ -134,8 +138,7 @@ fn unknown_in_expr(
     ensures { OnOk result (best.new ≡ least_after best.old (unknown_in (scope_seen scope.now) (mentions value.now))) }
 {
     let mentions = mentions_of(alloc, value)?;
-    unknown_in(alloc, best, scope, mentions.as_slice())?;
-    Ok(())
+    unknown_in(alloc, best, scope, mentions.as_slice())
 }
 
 fn unknown_in_exprs(
@@ -161,8 +164,7 @@ fn unknown_in_piece(
     ensures { OnOk result (best.new ≡ least_after best.old (unknown_in (scope_seen scope.now) (piece_mentions (seen_piece piece.now)))) }
 {
     let mentions = mentions_of_piece(alloc, *piece)?;
-    unknown_in(alloc, best, scope, mentions.as_slice())?;
-    Ok(())
+    unknown_in(alloc, best, scope, mentions.as_slice())
 }
 
 fn unknown_in_pieces(
@@ -202,8 +204,7 @@ fn unknown_in_rule(
     ensures { OnOk result (best.new ≡ least_after best.old (unknown_in (scope_seen scope.now) (rule_mentions rule.now))) }
 {
     let mentions = mentions_of_rule(alloc, rule)?;
-    unknown_in(alloc, best, scope, mentions.as_slice())?;
-    Ok(())
+    unknown_in(alloc, best, scope, mentions.as_slice())
 }
 
 /// Finds each name of rules that may not stand where it stands, where the first of them stands in the scope.
@@ -228,10 +229,8 @@ fn let_repeats(alloc: Global, best: &mut Best, scope: &Scope, rule: &Rule) -> Re
 {
     match rule {
         Rule::Let(_, name, _) => {
-            if scope.known.has(name.text.as_str()) {
-                best.offer(alloc, Fault::Twice, name.text.as_str(), name.at)?;
-            }
-            Ok(())
+            let text = name.text.as_str();
+            best.offer_unless(alloc, !scope.known.has(text), Fault::Twice, text, name.at)
         }
         Rule::Out(_, _, _) => Ok(()),
         Rule::Exit(_) => Ok(()),
@@ -253,15 +252,41 @@ fn repeated_lets_in(
     Ok(())
 }
 
+/// Finds each name in the lines of a job that may not stand there.
+fn unknown_in_lines(alloc: Global, best: &mut Best, parts: &Parts<'_>) -> Result<(), AllocError>
+    ensures { OnOk result (best.new ≡ least_after best.old (flat_map (λ e. unknown_in (scope_of parts.now) (mentions e)) (line_exprs parts.now))) }
+{
+    let scope = scope_of(alloc, parts.definition())?;
+    unknown_in_exprs(alloc, best, &scope, parts.lines())?;
+    Ok(())
+}
+
+/// Finds each name in the rules that may not stand there.
+fn unknown_in_parse(alloc: Global, best: &mut Best, parts: &Parts<'_>) -> Result<(), AllocError>
+    ensures { OnOk result (best.new ≡ least_after best.old (unknown_in_rules (first_scope parts.now) (rules_of parts.now))) }
+{
+    let mut scope = first_scope(alloc, parts.definition())?;
+    unknown_in_rules(alloc, best, &mut scope, parts.rules())?;
+    Ok(())
+}
+
+/// Finds each name in an outline that may not stand there.
+fn unknown_in_outline(alloc: Global, best: &mut Best, parts: &Parts<'_>) -> Result<(), AllocError>
+    ensures { OnOk result (best.new ≡ least_after best.old (flat_map (λ p. unknown_in (scope_of parts.now) (piece_mentions p)) (pieces_of parts.now))) }
+{
+    let around = scope_of(alloc, parts.definition())?;
+    unknown_in_pieces(alloc, best, &around, parts.pieces())?;
+    Ok(())
+}
+
 /// Each name in an expression is one that may stand there.
+#[tactic(auto, using(crate::proofs::Leasts::least_joined))]
 pub fn unknown_names(alloc: Global, best: &mut Best, parts: &Parts<'_>) -> Result<(), AllocError>
     ensures { OnOk result (best.new ≡ least_after best.old (unknown_names parts.now)) }
 {
-    let scope = scope_of(alloc, parts.definition())?;
-    let mut rules_scope = first_scope(alloc, parts.definition())?;
-    unknown_in_exprs(alloc, best, &scope, parts.lines())?;
-    unknown_in_rules(alloc, best, &mut rules_scope, parts.rules())?;
-    unknown_in_pieces(alloc, best, &scope, parts.pieces())?;
+    unknown_in_lines(alloc, best, parts)?;
+    unknown_in_parse(alloc, best, parts)?;
+    unknown_in_outline(alloc, best, parts)?;
     Ok(())
 }
 

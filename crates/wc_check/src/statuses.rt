@@ -7,7 +7,7 @@ use std::collections::BTreeSet;
 use std::marker::Model;
 
 /// A set of exit statuses. Contracts see the list of them.
-#[derive(Debug, Drop)]
+#[derive(Drop)]
 pub struct Statuses {
     set: BTreeSet<i64>,
 }

@@ -1,7 +1,4 @@
 use Rattle.std.proofs.Common.{◌≡◌, ◌++◌, take, map}
-use Rattle.std.specs.Prelude.{flat_map}
-use Rattle.wc_syntax.specs.Findings.{rule_at}
-use Rattle.wc_check.specs.Flat.{behind, seen_pieces, seen_mentions}
 use Rattle.wc_check.proofs.gather.put_file_places.Given as goal
 
 abbrev pub invariant-loop-file : goal.invariant-loop-file

@@ -1,7 +1,6 @@
-use Rattle.std.proofs.Common.{◌≡◌, ◌++◌, take, map}
+use Rattle.std.proofs.Common.{◌≡◌, ◌++◌, take}
 use Rattle.std.specs.Prelude.{flat_map}
 use Rattle.wc_syntax.specs.Findings.{rule_status}
-use Rattle.wc_check.specs.Flat.{behind, seen_pieces, seen_mentions}
 use Rattle.wc_check.proofs.gather.put_rule_statuses.Given as goal
 
 abbrev pub invariant-loop-rule : goal.invariant-loop-rule

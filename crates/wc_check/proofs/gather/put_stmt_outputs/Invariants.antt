@@ -1,7 +1,7 @@
-use Rattle.std.proofs.Common.{◌≡◌, ◌++◌, take, map}
+use Rattle.std.proofs.Common.{◌≡◌, ◌++◌, take}
 use Rattle.std.specs.Prelude.{flat_map}
+use Rattle.wc_check.specs.Flat.{behind}
 use Rattle.wc_syntax.specs.Findings.{stmt_output}
-use Rattle.wc_check.specs.Flat.{behind, seen_pieces, seen_mentions}
 use Rattle.wc_check.proofs.gather.put_stmt_outputs.Given as goal
 
 abbrev pub invariant-loop-stmt : goal.invariant-loop-stmt

@@ -1,10 +1,6 @@
-use Rattle.std.proofs.Common.{◌≡◌, ◌++◌, take, drop, map}
-use Rattle.std.specs.Prelude.{flat_map}
-use Rattle.wc_syntax.specs.Mentions.{mentions, rule_mentions}
-use Rattle.wc_syntax.specs.Findings.{long_name, mentioned_names, piece_mentions, piece_names, rule_name}
-use Rattle.wc_check.specs.Flat.{behind, seen_mentions, seen_pieces}
-use Rattle.wc_check.specs.Least.{least_after}
+use Rattle.std.proofs.Common.{◌≡◌, ◌++◌, take, map}
+use Rattle.wc_check.specs.Flat.{behind}
 use Rattle.wc_check.proofs.lengths.put_args.Given as goal
 
 abbrev pub invariant-loop-arg : goal.invariant-loop-arg
-invariant-loop-arg l = behind l.found.items ≡ behind l.fn.found.items ++ map (λ a. a.port) (take l.arg-index l.args)
+invariant-loop-arg l = behind l.found.items ≡ behind l.fn.found.items ++ map (λ x. x.port) (take l.arg-index l.args)

@@ -1,9 +1,8 @@
-use Rattle.std.proofs.Common.{◌≡◌, ◌++◌, take, drop, map}
+use Rattle.std.proofs.Common.{◌≡◌, ◌++◌, take}
 use Rattle.std.specs.Prelude.{flat_map}
-use Rattle.wc_syntax.specs.Mentions.{mentions, rule_mentions}
-use Rattle.wc_syntax.specs.Findings.{long_name, mentioned_names, piece_mentions, piece_names, rule_name}
-use Rattle.wc_check.specs.Flat.{behind, seen_mentions, seen_pieces}
-use Rattle.wc_check.specs.Least.{least_after}
+use Rattle.wc_check.specs.Flat.{behind}
+use Rattle.wc_syntax.specs.Findings.{mentioned_names}
+use Rattle.wc_syntax.specs.Mentions.{mentions}
 use Rattle.wc_check.proofs.lengths.put_exprs.Given as goal
 
 abbrev pub invariant-loop-value : goal.invariant-loop-value

@@ -1,10 +1,7 @@
-use Rattle.std.proofs.Common.{◌≡◌, ◌++◌, take, drop, map}
-use Rattle.std.specs.Prelude.{flat_map}
-use Rattle.wc_syntax.specs.Mentions.{mentions, rule_mentions}
-use Rattle.wc_syntax.specs.Findings.{long_name, mentioned_names, piece_mentions, piece_names, rule_name}
-use Rattle.wc_check.specs.Flat.{behind, seen_mentions, seen_pieces}
-use Rattle.wc_check.specs.Least.{least_after}
+use Rattle.std.proofs.Common.{◌≡◌, ◌++◌, take, map}
+use Rattle.wc_check.specs.Flat.{behind, seen_mentions}
+use Rattle.wc_syntax.specs.Mentions.{mentioned}
 use Rattle.wc_check.proofs.lengths.put_mentioned.Given as goal
 
 abbrev pub invariant-loop-mention : goal.invariant-loop-mention
-invariant-loop-mention l = behind l.found.items ≡ behind l.fn.found.items ++ mentioned_names (seen_mentions (take l.mention-index l.mentions))
+invariant-loop-mention l = behind l.found.items ≡ behind l.fn.found.items ++ map mentioned (seen_mentions (take l.mention-index l.mentions))

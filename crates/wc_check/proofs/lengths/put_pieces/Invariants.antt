@@ -1,9 +1,7 @@
-use Rattle.std.proofs.Common.{◌≡◌, ◌++◌, take, drop, map}
+use Rattle.std.proofs.Common.{◌≡◌, ◌++◌, take}
 use Rattle.std.specs.Prelude.{flat_map}
-use Rattle.wc_syntax.specs.Mentions.{mentions, rule_mentions}
-use Rattle.wc_syntax.specs.Findings.{long_name, mentioned_names, piece_mentions, piece_names, rule_name}
-use Rattle.wc_check.specs.Flat.{behind, seen_mentions, seen_pieces}
-use Rattle.wc_check.specs.Least.{least_after}
+use Rattle.wc_check.specs.Flat.{behind, seen_pieces}
+use Rattle.wc_syntax.specs.Findings.{mentioned_names, piece_names, piece_mentions}
 use Rattle.wc_check.proofs.lengths.put_pieces.Given as goal
 
 abbrev pub invariant-loop-piece : goal.invariant-loop-piece

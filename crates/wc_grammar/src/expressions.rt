@@ -5,22 +5,25 @@
 ghost use Rattle.std.specs.Prelude.{◌≡◌, ◌∷◌, [], Ok};
 ghost use Rattle.wc_grammar.specs.Kinds.{W_CTX, W_INPUTS, S_COMMA};
 ghost use Rattle.wc_grammar.specs.Rules.{turns, keys, next_at as next_of, between_at, further_at};
-ghost use Rattle.wc_grammar.specs.Grammar.{binary as binary_of, ors, ands, sums, products};
-ghost use Rattle.wc_grammar.specs.Reading.{Gives, EXPR, index_at, some_index_at, child_at, path_at, one_arg_at, two_args_at, brackets_at, listed_at, nested_in, simple_at, compared_at, expr_at, nested_at, indexed_at, primaries_at, unaries_at, products_at, sums_at, compares_at, ands_at, ors_at};
+ghost use Rattle.wc_grammar.specs.Grammar.{binary as binary_of};
+ghost use Rattle.wc_grammar.specs.Reading.{Gives, EXPR, index_at, some_index_at, child_at, path_at, one_arg_at, two_args_at, brackets_at, listed_at, nested_in, simple_at, compared_at, expr_at, nested_at, indexed_at, primaries_at, unaries_at, sums_at, compares_at};
+ghost use Rattle.wc_grammar.specs.Levels.{operators, operand_at, joined_at};
+ghost use Rattle.wc_grammar.specs.Pieces.{second_at};
 
 use crate::fault::Fault;
 use crate::kinds::{
-    K_NAME, K_NUMBER, K_QUOTED, S_AT_LEAST, S_AT_MOST, S_CLOSE, S_CLOSE_SQUARE, S_COMMA, S_DIFFERS,
-    S_DOT, S_EQUAL, S_GREATER, S_LESS, S_MINUS, S_OPEN, S_OPEN_SQUARE, S_PERCENT, S_PLUS, S_SLASH,
-    S_STAR, W_AND, W_CONTAINS, W_COUNT, W_CTX, W_FALSE, W_FILE, W_GET, W_GIVEN, W_HAS, W_INPUTS,
-    W_INT, W_LEN, W_LINE, W_MAX, W_MIN, W_NOT, W_OR, W_TEXT, W_TRIM, W_TRUE,
+    K_NAME, K_NUMBER, K_QUOTED, S_CLOSE, S_CLOSE_SQUARE, S_COMMA, S_DOT, S_MINUS, S_OPEN,
+    S_OPEN_SQUARE, W_CONTAINS, W_COUNT, W_CTX, W_FALSE, W_FILE, W_GET, W_GIVEN, W_HAS, W_INPUTS,
+    W_INT, W_LEN, W_LINE, W_MAX, W_MIN, W_NOT, W_TEXT, W_TRIM, W_TRUE,
 };
-use crate::operators::{binary, boxed, compare_op, two_of};
-use crate::parts::{count, given, member, part};
-use crate::tokens::{name, number, pick, sign, starts, text};
+use crate::operators::{Level, binary, boxed, ended, is_next, one_of, operator, two_of};
+use crate::parts::{
+    child_part, count, given, input, member, name_alone, number_alone, text_alone, truth,
+};
+use crate::tokens::{closed, pick, sign, starts};
 use std::alloc::Global;
 use wc_lexer::Spot;
-use wc_syntax::{BinaryOp, Expr, Exprs, Form, Name, OneOf, UnaryOp};
+use wc_syntax::{Expr, Exprs, Form, Name, TwoOf, UnaryOp};
 use wc_value::{Boxed, List};
 
 /// What an alternative with expressions in brackets begins with.
@@ -85,7 +88,7 @@ fn index(alloc: Global, tokens: &[Spot], bound: usize) -> Result<(Expr, &[Spot])
 {
     let (_, rest) = sign(tokens, S_OPEN_SQUARE)?;
     let (value, rest) = expr(alloc, rest, bound)?;
-    let (_, rest) = sign(rest, S_CLOSE_SQUARE)?;
+    let ((value, _), rest) = closed(value, rest, S_CLOSE_SQUARE)?;
     Ok((value, rest))
 }
 
@@ -94,14 +97,14 @@ fn some_index(
     alloc: Global,
     tokens: &[Spot],
     bound: usize,
-) -> Result<(Option<Expr>, &[Spot]), Fault>
+) -> Result<(Option<Boxed<Expr>>, &[Spot]), Fault>
     ensures { Gives (λ x. (x.0, x.1.now)) result (some_index_at (indexed_at bound) tokens.now) }
 {
     if !starts(tokens, &[S_OPEN_SQUARE]) {
         return Ok((None, tokens));
     }
     let (value, rest) = indexed(alloc, tokens, bound)?;
-    Ok((Some(value), rest))
+    Ok((Some(boxed(alloc, value)?), rest))
 }
 
 #[cycle(expr)]
@@ -115,11 +118,7 @@ fn child(
     ensures { Gives (λ x. (x.0, x.1.now)) result (child_at (indexed_at bound) (at, name) tokens.now) }
 {
     let (index, rest) = some_index(alloc, tokens, bound)?;
-    let (_, rest) = sign(rest, S_DOT)?;
-    let (part, rest) = part(rest)?;
-    let index = boxed(alloc, index)?;
-    let form = Form::Child(at, name, index, part);
-    Ok((Expr { at, form }, rest))
+    child_part(at, name, index, rest)
 }
 
 #[cycle(expr)]
@@ -138,19 +137,11 @@ fn path(alloc: Global, tokens: &[Spot], bound: usize) -> Result<(Expr, &[Spot]),
 fn one_arg(alloc: Global, tokens: &[Spot], bound: usize) -> Result<(Expr, &[Spot]), Fault>
     ensures { Gives (λ x. (x.0, x.1.now)) result (one_arg_at (expr_at bound) tokens.now) }
 {
-    let ((op, at), rest) = pick(
-        tokens,
-        &[
-            (W_TEXT, OneOf::Text),
-            (W_INT, OneOf::Int),
-            (W_TRIM, OneOf::Trim),
-            (W_LEN, OneOf::Len),
-        ],
-    )?;
+    let ((op, at), rest) = one_of(tokens)?;
     let (_, rest) = sign(rest, S_OPEN)?;
     let (value, rest) = expr(alloc, rest, bound)?;
-    let (_, rest) = sign(rest, S_CLOSE)?;
-    let form = Form::One(op, Boxed::new(alloc, value)?);
+    let ((value, _), rest) = closed(value, rest, S_CLOSE)?;
+    let form = Form::One(op, boxed(alloc, value)?);
     Ok((Expr { at, form }, rest))
 }
 
@@ -161,12 +152,25 @@ fn two_args(alloc: Global, tokens: &[Spot], bound: usize) -> Result<(Expr, &[Spo
     let ((op, at), rest) = two_of(tokens)?;
     let (_, rest) = sign(rest, S_OPEN)?;
     let (first, rest) = expr(alloc, rest, bound)?;
-    let (_, rest) = sign(rest, S_COMMA)?;
-    let (second, rest) = expr(alloc, rest, bound)?;
-    let (_, rest) = sign(rest, S_CLOSE)?;
-    let first = Boxed::new(alloc, first)?;
-    let second = Boxed::new(alloc, second)?;
-    let form = Form::Two(op, first, second);
+    let ((first, _), rest) = closed(first, rest, S_COMMA)?;
+    let first = boxed(alloc, first)?;
+    second(alloc, at, op, first, rest, bound)
+}
+
+#[cycle(expr)]
+fn second(
+    alloc: Global,
+    at: u32,
+    op: TwoOf,
+    first: Boxed<Expr>,
+    tokens: &[Spot],
+    bound: usize,
+) -> Result<(Expr, &[Spot]), Fault>
+    ensures { Gives (λ x. (x.0, x.1.now)) result (second_at (expr_at bound) at op first tokens.now) }
+{
+    let (second, rest) = expr(alloc, tokens, bound)?;
+    let ((second, _), rest) = closed(second, rest, S_CLOSE)?;
+    let form = Form::Two(op, first, boxed(alloc, second)?);
     Ok((Expr { at, form }, rest))
 }
 
@@ -176,7 +180,7 @@ fn brackets(alloc: Global, tokens: &[Spot], bound: usize) -> Result<(Expr, &[Spo
 {
     let (at, rest) = sign(tokens, S_OPEN)?;
     let (inner, rest) = expr(alloc, rest, bound)?;
-    let (_, rest) = sign(rest, S_CLOSE)?;
+    let ((inner, _), rest) = closed(inner, rest, S_CLOSE)?;
     let form = inner.form;
     Ok((Expr { at, form }, rest))
 }
@@ -282,26 +286,16 @@ fn simple(alloc: Global, tokens: &[Spot], bound: usize) -> Result<(Expr, &[Spot]
     ensures { Gives (λ x. (x.0, x.1.now)) result (simple_at (indexed_at bound) tokens.now) }
 {
     if starts(tokens, &[K_NUMBER]) {
-        let (number, rest) = number(tokens)?;
-        let at = number.at;
-        let form = Form::Number(number);
-        return Ok((Expr { at, form }, rest));
+        return number_alone(tokens);
     }
     if starts(tokens, &[K_QUOTED]) {
-        let (quoted, rest) = text(tokens)?;
-        let at = quoted.at;
-        let form = Form::Quoted(quoted);
-        return Ok((Expr { at, form }, rest));
+        return text_alone(tokens);
     }
     if starts(tokens, &[W_TRUE, W_FALSE]) {
-        let ((truth, at), rest) = pick(tokens, &[(W_TRUE, true), (W_FALSE, false)])?;
-        let form = Form::Truth(truth);
-        return Ok((Expr { at, form }, rest));
+        return truth(tokens);
     }
     if starts(tokens, &[W_INPUTS]) {
-        let ((at, name), rest) = member(tokens, W_INPUTS)?;
-        let form = Form::Input(at, name);
-        return Ok((Expr { at, form }, rest));
+        return input(tokens);
     }
     if starts(tokens, &[W_CTX]) {
         return path(alloc, tokens, bound);
@@ -312,10 +306,7 @@ fn simple(alloc: Global, tokens: &[Spot], bound: usize) -> Result<(Expr, &[Spot]
     if starts(tokens, &[W_COUNT]) {
         return count(tokens);
     }
-    let (name, rest) = name(tokens)?;
-    let at = name.at;
-    let form = Form::Bare(name);
-    Ok((Expr { at, form }, rest))
+    name_alone(tokens)
 }
 
 #[cycle(expr)]
@@ -339,116 +330,89 @@ fn unary(alloc: Global, tokens: &[Spot], bound: usize) -> Result<(Expr, &[Spot])
     }
     let ((op, at), rest) = pick(tokens, &[(S_MINUS, UnaryOp::Negate), (W_NOT, UnaryOp::Not)])?;
     let (value, rest) = primary(alloc, rest, bound)?;
-    let form = Form::Unary(op, Boxed::new(alloc, value)?);
+    let form = Form::Unary(op, boxed(alloc, value)?);
     Ok((Expr { at, form }, rest))
 }
 
 #[cycle(expr)]
-#[tactic(auto, unfolding(crate::specs::Reading::products_at))]
-fn product(alloc: Global, tokens: &[Spot], bound: usize) -> Result<(Expr, &[Spot]), Fault>
-    ensures { Gives (λ x. (x.0, x.1.now)) result (products_at bound tokens.now) }
+fn joined(
+    alloc: Global,
+    tokens: &[Spot],
+    bound: usize,
+    level: Level,
+) -> Result<(Expr, &[Spot]), Fault>
+    ensures { Gives (λ x. (x.0, x.1.now)) result (joined_at level bound tokens.now) }
 {
-    let (first, rest) = unary(alloc, tokens, bound)?;
-    more_products(alloc, first, rest, bound)
+    let (first, rest) = operand(alloc, tokens, bound, level)?;
+    more(alloc, first, rest, bound, level)
 }
 
 #[cycle(expr)]
 #[tactic(auto, using(crate::proofs::Bounds::turns_at))]
-fn more_products(
+fn more(
     alloc: Global,
     first: Expr,
     tokens: &[Spot],
     bound: usize,
+    level: Level,
 ) -> Result<(Expr, &[Spot]), Fault>
-    ensures { Gives (λ x. (x.0, x.1.now)) result (turns bound (keys products) (further_at products binary_of (unaries_at bound)) first tokens.now) }
+    ensures { Gives (λ x. (x.0, x.1.now)) result (turns bound (keys (operators level)) (further_at (operators level) binary_of (operand_at level bound)) first tokens.now) }
 {
     let mut left = first;
     let mut rest = tokens;
     for _turn in 0..bound {
-        if !starts(rest, &[S_STAR, S_SLASH, S_PERCENT]) {
+        if !is_next(rest, level) {
             return Ok((left, rest));
         }
-        let (more, next) = one_of_products(alloc, left, rest, bound)?;
+        let (more, next) = further(alloc, left, rest, bound, level)?;
         left = more;
         rest = next;
     }
-    if starts(rest, &[S_STAR, S_SLASH, S_PERCENT]) {
-        return Err(Fault::BoundReached);
-    }
-    Ok((left, rest))
+    ended(left, rest, level)
 }
 
 #[cycle(expr)]
-fn one_of_products(
+fn further(
     alloc: Global,
     left: Expr,
     tokens: &[Spot],
     bound: usize,
+    level: Level,
 ) -> Result<(Expr, &[Spot]), Fault>
-    ensures { Gives (λ x. (x.0, x.1.now)) result (further_at products binary_of (unaries_at bound) left tokens.now) }
+    ensures { Gives (λ x. (x.0, x.1.now)) result (further_at (operators level) binary_of (operand_at level bound) left tokens.now) }
 {
-    let ((op, _), rest) = pick(
-        tokens,
-        &[
-            (S_STAR, BinaryOp::Multiply),
-            (S_SLASH, BinaryOp::Divide),
-            (S_PERCENT, BinaryOp::Remainder),
-        ],
-    )?;
-    let (right, rest) = unary(alloc, rest, bound)?;
+    let left = boxed(alloc, left)?;
+    let ((op, _), rest) = operator(tokens, level)?;
+    let (right, rest) = operand(alloc, rest, bound, level)?;
     Ok((binary(alloc, op, left, right)?, rest))
 }
 
 #[cycle(expr)]
-#[tactic(auto, unfolding(crate::specs::Reading::sums_at))]
-fn sum(alloc: Global, tokens: &[Spot], bound: usize) -> Result<(Expr, &[Spot]), Fault>
-    ensures { Gives (λ x. (x.0, x.1.now)) result (sums_at bound tokens.now) }
+#[tactic(auto, unfolding(crate::specs::Reading::products_at, crate::specs::Reading::sums_at, crate::specs::Reading::ands_at))]
+fn operand(
+    alloc: Global,
+    tokens: &[Spot],
+    bound: usize,
+    level: Level,
+) -> Result<(Expr, &[Spot]), Fault>
+    ensures { Gives (λ x. (x.0, x.1.now)) result (operand_at level bound tokens.now) }
 {
-    let (first, rest) = product(alloc, tokens, bound)?;
-    more_sums(alloc, first, rest, bound)
+    match level {
+        Level::Products => unary(alloc, tokens, bound),
+        Level::Sums => joined(alloc, tokens, bound, Level::Products),
+        Level::Compares => joined(alloc, tokens, bound, Level::Sums),
+        Level::Ands => compare(alloc, tokens, bound),
+        Level::Ors => joined(alloc, tokens, bound, Level::Ands),
+    }
 }
 
 #[cycle(expr)]
-#[tactic(auto, using(crate::proofs::Bounds::turns_at))]
-fn more_sums(
-    alloc: Global,
-    first: Expr,
-    tokens: &[Spot],
-    bound: usize,
-) -> Result<(Expr, &[Spot]), Fault>
-    ensures { Gives (λ x. (x.0, x.1.now)) result (turns bound (keys sums) (further_at sums binary_of (products_at bound)) first tokens.now) }
+#[tactic(auto, unfolding(crate::specs::Reading::compares_at))]
+fn compare(alloc: Global, tokens: &[Spot], bound: usize) -> Result<(Expr, &[Spot]), Fault>
+    ensures { Gives (λ x. (x.0, x.1.now)) result (compares_at bound tokens.now) }
 {
-    let mut left = first;
-    let mut rest = tokens;
-    for _turn in 0..bound {
-        if !starts(rest, &[S_PLUS, S_MINUS]) {
-            return Ok((left, rest));
-        }
-        let (more, next) = one_of_sums(alloc, left, rest, bound)?;
-        left = more;
-        rest = next;
-    }
-    if starts(rest, &[S_PLUS, S_MINUS]) {
-        return Err(Fault::BoundReached);
-    }
-    Ok((left, rest))
-}
-
-#[cycle(expr)]
-fn one_of_sums(
-    alloc: Global,
-    left: Expr,
-    tokens: &[Spot],
-    bound: usize,
-) -> Result<(Expr, &[Spot]), Fault>
-    ensures { Gives (λ x. (x.0, x.1.now)) result (further_at sums binary_of (products_at bound) left tokens.now) }
-{
-    let ((op, _), rest) = pick(
-        tokens,
-        &[(S_PLUS, BinaryOp::Add), (S_MINUS, BinaryOp::Subtract)],
-    )?;
-    let (right, rest) = product(alloc, rest, bound)?;
-    Ok((binary(alloc, op, left, right)?, rest))
+    let (left, rest) = operand(alloc, tokens, bound, Level::Compares)?;
+    compared(alloc, left, rest, bound)
 }
 
 #[cycle(expr)]
@@ -460,122 +424,10 @@ fn compared(
 ) -> Result<(Expr, &[Spot]), Fault>
     ensures { Gives (λ x. (x.0, x.1.now)) result (compared_at (sums_at bound) left tokens.now) }
 {
-    if !starts(
-        tokens,
-        &[S_EQUAL, S_DIFFERS, S_LESS, S_AT_MOST, S_GREATER, S_AT_LEAST],
-    ) {
+    if !is_next(tokens, Level::Compares) {
         return Ok((left, tokens));
     }
-    let ((op, _), rest) = compare_op(tokens)?;
-    let (right, rest) = sum(alloc, rest, bound)?;
-    Ok((binary(alloc, op, left, right)?, rest))
-}
-
-#[cycle(expr)]
-#[tactic(auto, unfolding(crate::specs::Reading::compares_at))]
-fn compare(alloc: Global, tokens: &[Spot], bound: usize) -> Result<(Expr, &[Spot]), Fault>
-    ensures { Gives (λ x. (x.0, x.1.now)) result (compares_at bound tokens.now) }
-{
-    let (left, rest) = sum(alloc, tokens, bound)?;
-    compared(alloc, left, rest, bound)
-}
-
-#[cycle(expr)]
-#[tactic(auto, unfolding(crate::specs::Reading::ands_at))]
-fn conjunction(alloc: Global, tokens: &[Spot], bound: usize) -> Result<(Expr, &[Spot]), Fault>
-    ensures { Gives (λ x. (x.0, x.1.now)) result (ands_at bound tokens.now) }
-{
-    let (first, rest) = compare(alloc, tokens, bound)?;
-    more_ands(alloc, first, rest, bound)
-}
-
-#[cycle(expr)]
-#[tactic(auto, using(crate::proofs::Bounds::turns_at))]
-fn more_ands(
-    alloc: Global,
-    first: Expr,
-    tokens: &[Spot],
-    bound: usize,
-) -> Result<(Expr, &[Spot]), Fault>
-    ensures { Gives (λ x. (x.0, x.1.now)) result (turns bound (keys ands) (further_at ands binary_of (compares_at bound)) first tokens.now) }
-{
-    let mut left = first;
-    let mut rest = tokens;
-    for _turn in 0..bound {
-        if !starts(rest, &[W_AND]) {
-            return Ok((left, rest));
-        }
-        let (more, next) = one_of_ands(alloc, left, rest, bound)?;
-        left = more;
-        rest = next;
-    }
-    if starts(rest, &[W_AND]) {
-        return Err(Fault::BoundReached);
-    }
-    Ok((left, rest))
-}
-
-#[cycle(expr)]
-fn one_of_ands(
-    alloc: Global,
-    left: Expr,
-    tokens: &[Spot],
-    bound: usize,
-) -> Result<(Expr, &[Spot]), Fault>
-    ensures { Gives (λ x. (x.0, x.1.now)) result (further_at ands binary_of (compares_at bound) left tokens.now) }
-{
-    let ((op, _), rest) = pick(tokens, &[(W_AND, BinaryOp::And)])?;
-    let (right, rest) = compare(alloc, rest, bound)?;
-    Ok((binary(alloc, op, left, right)?, rest))
-}
-
-#[cycle(expr)]
-#[tactic(auto, unfolding(crate::specs::Reading::ors_at))]
-fn disjunction(alloc: Global, tokens: &[Spot], bound: usize) -> Result<(Expr, &[Spot]), Fault>
-    ensures { Gives (λ x. (x.0, x.1.now)) result (ors_at bound tokens.now) }
-{
-    let (first, rest) = conjunction(alloc, tokens, bound)?;
-    more_ors(alloc, first, rest, bound)
-}
-
-#[cycle(expr)]
-#[tactic(auto, using(crate::proofs::Bounds::turns_at))]
-fn more_ors(
-    alloc: Global,
-    first: Expr,
-    tokens: &[Spot],
-    bound: usize,
-) -> Result<(Expr, &[Spot]), Fault>
-    ensures { Gives (λ x. (x.0, x.1.now)) result (turns bound (keys ors) (further_at ors binary_of (ands_at bound)) first tokens.now) }
-{
-    let mut left = first;
-    let mut rest = tokens;
-    for _turn in 0..bound {
-        if !starts(rest, &[W_OR]) {
-            return Ok((left, rest));
-        }
-        let (more, next) = one_of_ors(alloc, left, rest, bound)?;
-        left = more;
-        rest = next;
-    }
-    if starts(rest, &[W_OR]) {
-        return Err(Fault::BoundReached);
-    }
-    Ok((left, rest))
-}
-
-#[cycle(expr)]
-fn one_of_ors(
-    alloc: Global,
-    left: Expr,
-    tokens: &[Spot],
-    bound: usize,
-) -> Result<(Expr, &[Spot]), Fault>
-    ensures { Gives (λ x. (x.0, x.1.now)) result (further_at ors binary_of (ands_at bound) left tokens.now) }
-{
-    let ((op, _), rest) = pick(tokens, &[(W_OR, BinaryOp::Or)])?;
-    let (right, rest) = conjunction(alloc, rest, bound)?;
-    Ok((binary(alloc, op, left, right)?, rest))
+    further(alloc, left, tokens, bound, Level::Compares)
 }
 
 #[cycle(expr)]
@@ -583,5 +435,5 @@ fn one_of_ors(
 pub fn expr(alloc: Global, tokens: &[Spot], bound: usize) -> Result<(Expr, &[Spot]), Fault>
     ensures { Gives (λ x. (x.0, x.1.now)) result (expr_at bound tokens.now) }
 {
-    disjunction(alloc, tokens, bound)
+    joined(alloc, tokens, bound, Level::Ors)
 }

@@ -11,4 +11,4 @@ mod tokens;
 pub use expressions::expr;
 pub use fault::Fault;
 pub use parts::member;
-pub use tokens::{flag, name, number, pick, sign, starts, text};
+pub use tokens::{closed, flag, name, number, pick, sign, starts, text};

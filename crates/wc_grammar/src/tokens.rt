@@ -1,6 +1,6 @@
 //! Single tokens, read from the front.
 
-ghost use Rattle.std.specs.Prelude.{◌≡◌, ◌∷◌, []};
+ghost use Rattle.std.specs.Prelude.{◌≡◌, ◌∷◌, [], IfOk};
 ghost use Rattle.wc_grammar.specs.Rules.{mem, starts as starts_with, pick as pick_of, pick_at, sign_at, flag_at};
 ghost use Rattle.wc_grammar.specs.Reading.{Gives, name_at, number_at, text_at};
 
@@ -72,6 +72,15 @@ pub fn sign(tokens: &[Spot], wanted: u8) -> Result<(u32, &[Spot]), Fault>
             }
         }
     }
+}
+
+/// The value again, with the offset of the next token, which is of this kind, and the tokens after it.
+pub fn closed<T: Drop>(value: T, tokens: &[Spot], wanted: u8) -> Result<((T, u32), &[Spot]), Fault>
+    ensures value { IfOk result (λ x. x.0.0 ≡ value) }
+    ensures sign { Gives (λ x. (x.0.1, x.1.now)) result (sign_at wanted tokens.now) }
+{
+    let (at, rest) = sign(tokens, wanted)?;
+    Ok(((value, at), rest))
 }
 
 /// Whether the next token is of this kind, which is then taken.

@@ -5,3 +5,4 @@ pub mod Nesting
 pub mod Outlines
 pub mod Parts
 pub mod Reading
+pub mod Pieces

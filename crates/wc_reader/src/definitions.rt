@@ -1,10 +1,11 @@
 //! Functions, jobs and work chains.
 
-ghost use Rattle.std.specs.Prelude.{◌≡◌, ◌∷◌, ◌++◌, []};
+ghost use Rattle.std.specs.Prelude.{◌≡◌, ◌∷◌, ◌++◌, [], IfOk};
 ghost use Rattle.wc_grammar.specs.Kinds.{W_ARG, W_FILE, W_FETCH};
 ghost use Rattle.wc_grammar.specs.Rules.{as_at, many_at};
 ghost use Rattle.wc_grammar.specs.Reading.{Gives, expr_at};
 ghost use Rattle.wc_reader.specs.Reading.{head_at, function_at, line_at, file_at, fetch_at, parse_at, job_at, chain_at, definition_at, library_at};
+ghost use Rattle.wc_reader.specs.Pieces.{head_end_at, job_body_at};
 
 use crate::outlines::instrs;
 use crate::ports::{codes, ports};
@@ -14,11 +15,11 @@ use wc_grammar::kinds::{
     S_ARROW, S_CLOSE_BRACE, S_IS, S_OPEN_BRACE, S_SEMI, W_ARG, W_CALCFUNCTION, W_CALCJOB, W_FETCH,
     W_FILE, W_PARSE, W_PROGRAM, W_WORKCHAIN,
 };
-use wc_grammar::{Fault, expr, name, sign, starts, text};
+use wc_grammar::{Fault, closed, expr, name, sign, starts, text};
 use wc_lexer::Spot;
 use wc_syntax::{
     Block, Chain, Definition, Fetch, Fetches, Function, Head, Job, JobFile, JobFiles, JobLine,
-    JobLines, Library, RuleList,
+    JobLines, Library, Name, PortList, RuleList,
 };
 
 fn head(alloc: Global, tokens: &[Spot], word: u8, bound: usize) -> Result<(Head, &[Spot]), Fault>
@@ -28,7 +29,20 @@ fn head(alloc: Global, tokens: &[Spot], word: u8, bound: usize) -> Result<(Head,
     let (name, rest) = name(rest)?;
     let (inputs, rest) = ports(alloc, rest, bound)?;
     let (_, rest) = sign(rest, S_ARROW)?;
-    let (outputs, rest) = ports(alloc, rest, bound)?;
+    head_end(alloc, at, name, inputs, rest, bound)
+}
+
+fn head_end(
+    alloc: Global,
+    at: u32,
+    name: Name,
+    inputs: PortList,
+    tokens: &[Spot],
+    bound: usize,
+) -> Result<(Head, &[Spot]), Fault>
+    ensures { Gives (λ x. (x.0, x.1.now)) result (head_end_at bound at name inputs tokens.now) }
+{
+    let (outputs, rest) = ports(alloc, tokens, bound)?;
     let (_, rest) = sign(rest, S_OPEN_BRACE)?;
     let (codes, rest) = codes(alloc, rest, bound)?;
     let head = Head {
@@ -55,7 +69,7 @@ fn line(alloc: Global, tokens: &[Spot], word: u8, bound: usize) -> Result<(JobLi
 {
     let (at, rest) = sign(tokens, word)?;
     let (value, rest) = expr(alloc, rest, bound)?;
-    let (_, rest) = sign(rest, S_SEMI)?;
+    let ((value, _), rest) = closed(value, rest, S_SEMI)?;
     Ok((JobLine { at, value }, rest))
 }
 
@@ -100,7 +114,7 @@ fn file(alloc: Global, tokens: &[Spot], bound: usize) -> Result<(JobFile, &[Spot
     let (name, rest) = text(rest)?;
     let (_, rest) = sign(rest, S_IS)?;
     let (value, rest) = expr(alloc, rest, bound)?;
-    let (_, rest) = sign(rest, S_SEMI)?;
+    let ((value, _), rest) = closed(value, rest, S_SEMI)?;
     Ok((JobFile { at, name, value }, rest))
 }
 
@@ -186,16 +200,94 @@ fn parse_rules(alloc: Global, tokens: &[Spot], bound: usize) -> Result<(RuleList
     Ok((rules, rest))
 }
 
+// What was read before is handed through the next five unseen.
+fn program_after<T: Drop>(
+    alloc: Global,
+    before: T,
+    tokens: &[Spot],
+    bound: usize,
+) -> Result<((T, JobLine), &[Spot]), Fault>
+    ensures before { IfOk result (λ x. x.0.0 ≡ before) }
+    ensures read { Gives (λ x. (x.0.1, x.1.now)) result (line_at W_PROGRAM (expr_at bound) tokens.now) }
+{
+    let (read, rest) = line(alloc, tokens, W_PROGRAM, bound)?;
+    Ok(((before, read), rest))
+}
+
+fn args_after<T: Drop>(
+    alloc: Global,
+    before: T,
+    tokens: &[Spot],
+    bound: usize,
+) -> Result<((T, JobLines), &[Spot]), Fault>
+    ensures before { IfOk result (λ x. x.0.0 ≡ before) }
+    ensures read { Gives (λ x. (x.0.1, x.1.now)) result (many_at bound (W_ARG ∷ []) (line_at W_ARG (expr_at bound)) tokens.now) }
+{
+    let (read, rest) = args(alloc, tokens, bound)?;
+    Ok(((before, read), rest))
+}
+
+fn files_after<T: Drop>(
+    alloc: Global,
+    before: T,
+    tokens: &[Spot],
+    bound: usize,
+) -> Result<((T, JobFiles), &[Spot]), Fault>
+    ensures before { IfOk result (λ x. x.0.0 ≡ before) }
+    ensures read { Gives (λ x. (x.0.1, x.1.now)) result (many_at bound (W_FILE ∷ []) (file_at (expr_at bound)) tokens.now) }
+{
+    let (read, rest) = files(alloc, tokens, bound)?;
+    Ok(((before, read), rest))
+}
+
+fn fetches_after<T: Drop>(
+    alloc: Global,
+    before: T,
+    tokens: &[Spot],
+    bound: usize,
+) -> Result<((T, Fetches), &[Spot]), Fault>
+    ensures before { IfOk result (λ x. x.0.0 ≡ before) }
+    ensures read { Gives (λ x. (x.0.1, x.1.now)) result (many_at bound (W_FETCH ∷ []) fetch_at tokens.now) }
+{
+    let (read, rest) = fetches(alloc, tokens, bound)?;
+    Ok(((before, read), rest))
+}
+
+fn parse_rules_after<T: Drop>(
+    alloc: Global,
+    before: T,
+    tokens: &[Spot],
+    bound: usize,
+) -> Result<((T, RuleList), &[Spot]), Fault>
+    ensures before { IfOk result (λ x. x.0.0 ≡ before) }
+    ensures read { Gives (λ x. (x.0.1, x.1.now)) result (parse_at bound (expr_at bound) tokens.now) }
+{
+    let (read, rest) = parse_rules(alloc, tokens, bound)?;
+    Ok(((before, read), rest))
+}
+
 fn job(alloc: Global, tokens: &[Spot], bound: usize) -> Result<(Job, &[Spot]), Fault>
     ensures { Gives (λ x. (x.0, x.1.now)) result (job_at bound tokens.now) }
 {
     let (head, rest) = head(alloc, tokens, W_CALCJOB, bound)?;
-    let (program, rest) = line(alloc, rest, W_PROGRAM, bound)?;
-    let (args, rest) = args(alloc, rest, bound)?;
-    let (files, rest) = files(alloc, rest, bound)?;
-    let (fetch, rest) = fetches(alloc, rest, bound)?;
-    let (parse, rest) = parse_rules(alloc, rest, bound)?;
-    let (_, rest) = sign(rest, S_CLOSE_BRACE)?;
+    let (start, rest) = program_after(alloc, head, rest, bound)?;
+    job_body(alloc, start, rest, bound)
+}
+
+fn job_body(
+    alloc: Global,
+    start: (Head, JobLine),
+    tokens: &[Spot],
+    bound: usize,
+) -> Result<(Job, &[Spot]), Fault>
+    ensures { Gives (λ x. (x.0, x.1.now)) result (job_body_at bound start.0 start.1 tokens.now) }
+{
+    let ((start, args), rest) = args_after(alloc, start, tokens, bound)?;
+    let ((start, files), rest) = files_after(alloc, start, rest, bound)?;
+    let ((start, fetch), rest) = fetches_after(alloc, start, rest, bound)?;
+    let ((start, parse), rest) = parse_rules_after(alloc, start, rest, bound)?;
+    let ((start, _), rest) = closed(start, rest, S_CLOSE_BRACE)?;
+    let (head, program) = start;
     let job = Job {
         head,
         program,

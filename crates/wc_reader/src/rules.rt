@@ -7,7 +7,7 @@ ghost use Rattle.wc_reader.specs.Reading.{RULE, condition_at, exit_at, set_at, r
 
 use std::alloc::Global;
 use wc_grammar::kinds::{S_IS, S_SEMI, W_EXIT, W_IF, W_LET, W_OUT};
-use wc_grammar::{Fault, expr, name, number, sign, starts};
+use wc_grammar::{Fault, closed, expr, name, number, sign, starts};
 use wc_lexer::Spot;
 use wc_syntax::{Exit, Expr, Name, Rule, RuleList};
 
@@ -29,7 +29,7 @@ pub fn exit(alloc: Global, tokens: &[Spot], bound: usize) -> Result<(Exit, &[Spo
     let (at, rest) = sign(tokens, W_EXIT)?;
     let (status, rest) = number(rest)?;
     let (condition, rest) = condition(alloc, rest, bound)?;
-    let (_, rest) = sign(rest, S_SEMI)?;
+    let ((condition, _), rest) = closed(condition, rest, S_SEMI)?;
     let exit = Exit {
         at,
         status,
@@ -51,7 +51,7 @@ pub fn set(
     let (name, rest) = name(rest)?;
     let (_, rest) = sign(rest, S_IS)?;
     let (value, rest) = expr(alloc, rest, bound)?;
-    let (_, rest) = sign(rest, S_SEMI)?;
+    let ((value, _), rest) = closed(value, rest, S_SEMI)?;
     Ok(((at, name, value), rest))
 }
 

@@ -12,7 +12,7 @@ use wc_grammar::kinds::{
     K_NAME, S_CLOSE, S_CLOSE_BRACE, S_COLON, S_COMMA, S_IS, S_OPEN, S_OPEN_BRACE, S_SEMI, W_APPEND,
     W_CALL, W_CTX, W_EXIT, W_OUT, W_STEP, W_TO,
 };
-use wc_grammar::{Fault, expr, member, name, pick, sign, starts};
+use wc_grammar::{Fault, closed, expr, member, name, pick, sign, starts};
 use wc_lexer::Spot;
 use wc_syntax::{CallArg, CallArgs, CallStmt, Name, Step, Stmt, Stmts};
 
@@ -111,7 +111,7 @@ fn assign(alloc: Global, tokens: &[Spot], bound: usize) -> Result<(Stmt, &[Spot]
     let ((at, key), rest) = member(tokens, W_CTX)?;
     let (_, rest) = sign(rest, S_IS)?;
     let (value, rest) = expr(alloc, rest, bound)?;
-    let (_, rest) = sign(rest, S_SEMI)?;
+    let ((value, _), rest) = closed(value, rest, S_SEMI)?;
     Ok((Stmt::Ctx(at, key, value), rest))
 }
 

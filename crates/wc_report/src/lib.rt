@@ -15,8 +15,3 @@ pub use list::{list_text, process_kind_name};
 pub use names::{kind_name, reason_name, state_text};
 pub use tree::tree_lines;
 pub use value::value_text;
-
-#[cfg(test)]
-mod lines_tests;
-#[cfg(test)]
-mod tests;

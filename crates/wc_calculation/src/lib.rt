@@ -10,6 +10,3 @@ pub use laws::no_offsets;
 pub use outcomes::{Parsed, calculate, calculate_job, final_status, parse_result};
 pub use requests::request_of;
 pub use rules::{environment, exit_status, fits, port_kind, takes};
-
-#[cfg(test)]
-mod tests;

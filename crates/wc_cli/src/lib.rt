@@ -3,8 +3,6 @@
 
 mod command;
 mod line;
-#[cfg(test)]
-mod tests;
 
 pub use command::{Command, Given, Givens, command_of};
 pub use line::Line;

@@ -22,6 +22,3 @@ pub use laws::{
 pub use lookups::{find_child, find_children};
 pub use outcome::Outcome;
 pub use whole::read_number;
-
-#[cfg(test)]
-mod tests;

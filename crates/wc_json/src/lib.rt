@@ -4,6 +4,3 @@
 mod writing;
 
 pub use writing::to_json;
-
-#[cfg(test)]
-mod tests;

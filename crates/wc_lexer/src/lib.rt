@@ -5,8 +5,6 @@ mod characters;
 mod error;
 mod lexer;
 mod spellings;
-#[cfg(test)]
-mod tests;
 mod token;
 
 pub use error::LexError;

@@ -2,16 +2,8 @@
 #![tactic(auto)]
 
 mod error;
-#[cfg(test)]
-mod examples;
 mod laws;
 mod parser;
-#[cfg(test)]
-mod printed;
-#[cfg(test)]
-mod shown;
-#[cfg(test)]
-mod tests;
 
 pub use error::ParseError;
 pub use laws::{

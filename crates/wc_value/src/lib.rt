@@ -39,6 +39,3 @@ pub use roomy::Roomy;
 pub use table::{Rows, Table, TableError};
 pub use text::Text;
 pub use value::{Fields, Files, Kind, Value, Values, Words};
-
-#[cfg(test)]
-mod tests;

@@ -1,4 +1,4 @@
-//! Printed texts of files, for tests, worked out by hand.
+//! Printed texts of files, worked out by hand.
 
 /// A function.
 pub const ADD: (&str, &str) = (

@@ -1,112 +1,111 @@
-//! Libraries as texts, for tests. A number behind `:` or `@` is an offset.
+//! Libraries as texts. A number behind `:` or `@` is an offset.
 
-use std::alloc::Global;
-use std::test::Fail;
+use std::alloc::{AllocError, Global};
 use wc_syntax::{
     Block, CallStmt, Chain, ChildPart, Definition, Exit, ExitCode, Expr, Form, Function, Head,
     Instr, Job, Name, Number, Port, Quoted, Rule, Step, Stmt,
 };
 
-fn shown_name(alloc: Global, name: &Name) -> Result<String, Fail> {
-    Ok(format!(in alloc; "{}:{}", name.text.as_str(), name.at)?)
+fn shown_name(alloc: Global, name: &Name) -> Result<String, AllocError> {
+    format!(in alloc; "{}:{}", name.text.as_str(), name.at)
 }
 
-fn shown_quoted(alloc: Global, quoted: &Quoted) -> Result<String, Fail> {
-    Ok(format!(in alloc; "'{}':{}", quoted.text.as_str(), quoted.at)?)
+fn shown_quoted(alloc: Global, quoted: &Quoted) -> Result<String, AllocError> {
+    format!(in alloc; "'{}':{}", quoted.text.as_str(), quoted.at)
 }
 
-fn shown_number(alloc: Global, number: Number) -> Result<String, Fail> {
-    Ok(format!(in alloc; "{}:{}", number.value, number.at)?)
+fn shown_number(alloc: Global, number: Number) -> Result<String, AllocError> {
+    format!(in alloc; "{}:{}", number.value, number.at)
 }
 
-fn shown_part(alloc: Global, part: &ChildPart) -> Result<String, Fail> {
+fn shown_part(alloc: Global, part: &ChildPart) -> Result<String, AllocError> {
     match part {
         ChildPart::Outputs(name) => {
             let name = shown_name(alloc, name)?;
-            Ok(format!(in alloc; "outputs.{}", name.as_str())?)
+            format!(in alloc; "outputs.{}", name.as_str())
         }
-        ChildPart::Status => Ok(String::from_str(alloc, "status")?),
-        ChildPart::Ok => Ok(String::from_str(alloc, "ok")?),
+        ChildPart::Status => String::from_str(alloc, "status"),
+        ChildPart::Ok => String::from_str(alloc, "ok"),
     }
 }
 
-fn shown_leaf(alloc: Global, form: &Form) -> Result<String, Fail> {
+fn shown_leaf(alloc: Global, form: &Form) -> Result<String, AllocError> {
     match form {
         Form::Number(number) => shown_number(alloc, *number),
         Form::Quoted(quoted) => shown_quoted(alloc, quoted),
-        Form::Truth(truth) => Ok(format!(in alloc; "{truth}")?),
+        Form::Truth(truth) => format!(in alloc; "{truth}"),
         Form::Bare(name) => shown_name(alloc, name),
         Form::Input(at, name) => {
             let name = shown_name(alloc, name)?;
-            Ok(format!(in alloc; "inputs:{at}.{}", name.as_str())?)
+            format!(in alloc; "inputs:{at}.{}", name.as_str())
         }
         Form::Plain(at, name) => {
             let name = shown_name(alloc, name)?;
-            Ok(format!(in alloc; "ctx:{at}.{}", name.as_str())?)
+            format!(in alloc; "ctx:{at}.{}", name.as_str())
         }
         Form::GivenBare(name) => {
             let name = shown_name(alloc, name)?;
-            Ok(format!(in alloc; "given({})", name.as_str())?)
+            format!(in alloc; "given({})", name.as_str())
         }
         Form::GivenInput(at, name) => {
             let name = shown_name(alloc, name)?;
-            Ok(format!(in alloc; "given(inputs:{at}.{})", name.as_str())?)
+            format!(in alloc; "given(inputs:{at}.{})", name.as_str())
         }
         Form::Count(at, name) => {
             let name = shown_name(alloc, name)?;
-            Ok(format!(in alloc; "count(ctx:{at}.{})", name.as_str())?)
+            format!(in alloc; "count(ctx:{at}.{})", name.as_str())
         }
-        Form::List(items) => Ok(format!(in alloc; "[{}]", items.len())?),
+        Form::List(items) => format!(in alloc; "[{}]", items.len()),
         _ => Ok(String::new(alloc)),
     }
 }
 
 /// An expression, of whose lists the lengths alone are shown.
-pub fn shown_expr(alloc: Global, expr: &Expr) -> Result<String, Fail> {
+pub fn shown_expr(alloc: Global, expr: &Expr) -> Result<String, AllocError> {
     let at = expr.at;
     match &expr.form {
         Form::Child(word, name, None, part) => {
             let name = shown_name(alloc, name)?;
             let part = shown_part(alloc, part)?;
-            Ok(format!(in alloc; "ctx:{word}.{}.{}@{at}", name.as_str(), part.as_str())?)
+            format!(in alloc; "ctx:{word}.{}.{}@{at}", name.as_str(), part.as_str())
         }
         Form::Child(word, name, Some(index), part) => {
             let name = shown_name(alloc, name)?;
             let part = shown_part(alloc, part)?;
             let index = shown_expr(alloc, index.get())?;
-            Ok(format!(in alloc;
+            format!(in alloc;
                 "ctx:{word}.{}[{}].{}@{at}",
                 name.as_str(),
                 index.as_str(),
                 part.as_str()
-            )?)
+            )
         }
         Form::Unary(op, operand) => {
             let operand = shown_expr(alloc, operand.get())?;
-            Ok(format!(in alloc; "({op:?} {})@{at}", operand.as_str())?)
+            format!(in alloc; "({op:?} {})@{at}", operand.as_str())
         }
         Form::Binary(op, left, right) => {
             let left = shown_expr(alloc, left.get())?;
             let right = shown_expr(alloc, right.get())?;
-            Ok(format!(in alloc; "({} {op:?} {})@{at}", left.as_str(), right.as_str())?)
+            format!(in alloc; "({} {op:?} {})@{at}", left.as_str(), right.as_str())
         }
         Form::One(word, operand) => {
             let operand = shown_expr(alloc, operand.get())?;
-            Ok(format!(in alloc; "{word:?}({})@{at}", operand.as_str())?)
+            format!(in alloc; "{word:?}({})@{at}", operand.as_str())
         }
         Form::Two(word, first, second) => {
             let first = shown_expr(alloc, first.get())?;
             let second = shown_expr(alloc, second.get())?;
-            Ok(format!(in alloc; "{word:?}({}, {})@{at}", first.as_str(), second.as_str())?)
+            format!(in alloc; "{word:?}({}, {})@{at}", first.as_str(), second.as_str())
         }
         form => {
             let leaf = shown_leaf(alloc, form)?;
-            Ok(format!(in alloc; "{}@{at}", leaf.as_str())?)
+            format!(in alloc; "{}@{at}", leaf.as_str())
         }
     }
 }
 
-fn put_ports(alloc: Global, shown: &mut String, ports: &[Port]) -> Result<(), Fail> {
+fn put_ports(alloc: Global, shown: &mut String, ports: &[Port]) -> Result<(), AllocError> {
     for port in ports {
         let name = shown_name(alloc, &port.name)?;
         let part = format!(in alloc;
@@ -121,7 +120,7 @@ fn put_ports(alloc: Global, shown: &mut String, ports: &[Port]) -> Result<(), Fa
     Ok(())
 }
 
-fn put_codes(alloc: Global, shown: &mut String, codes: &[ExitCode]) -> Result<(), Fail> {
+fn put_codes(alloc: Global, shown: &mut String, codes: &[ExitCode]) -> Result<(), AllocError> {
     for code in codes {
         let status = shown_number(alloc, code.status)?;
         let message = shown_quoted(alloc, &code.message)?;
@@ -137,7 +136,7 @@ fn put_codes(alloc: Global, shown: &mut String, codes: &[ExitCode]) -> Result<()
     Ok(())
 }
 
-fn shown_head(alloc: Global, word: &str, head: &Head) -> Result<String, Fail> {
+fn shown_head(alloc: Global, word: &str, head: &Head) -> Result<String, AllocError> {
     let name = shown_name(alloc, &head.name)?;
     let mut shown = format!(in alloc; "{word}@{} {}(", head.at, name.as_str())?;
     put_ports(alloc, &mut shown, head.inputs.as_slice())?;
@@ -154,29 +153,29 @@ fn shown_set(
     at: u32,
     name: &Name,
     value: &Expr,
-) -> Result<String, Fail> {
+) -> Result<String, AllocError> {
     let name = shown_name(alloc, name)?;
     let value = shown_expr(alloc, value)?;
-    Ok(format!(in alloc; "{word}@{at} {} = {}; ", name.as_str(), value.as_str())?)
+    format!(in alloc; "{word}@{at} {} = {}; ", name.as_str(), value.as_str())
 }
 
-fn shown_exit(alloc: Global, exit: &Exit) -> Result<String, Fail> {
+fn shown_exit(alloc: Global, exit: &Exit) -> Result<String, AllocError> {
     let status = shown_number(alloc, exit.status)?;
     match &exit.condition {
-        None => Ok(format!(in alloc; "exit@{} {}; ", exit.at, status.as_str())?),
+        None => format!(in alloc; "exit@{} {}; ", exit.at, status.as_str()),
         Some(condition) => {
             let condition = shown_expr(alloc, condition)?;
-            Ok(format!(in alloc;
+            format!(in alloc;
                 "exit@{} {} if {}; ",
                 exit.at,
                 status.as_str(),
                 condition.as_str()
-            )?)
+            )
         }
     }
 }
 
-fn put_rules(alloc: Global, shown: &mut String, rules: &[Rule]) -> Result<(), Fail> {
+fn put_rules(alloc: Global, shown: &mut String, rules: &[Rule]) -> Result<(), AllocError> {
     for rule in rules {
         let part = match rule {
             Rule::Let(at, name, value) => shown_set(alloc, "let", *at, name, value)?,
@@ -188,7 +187,7 @@ fn put_rules(alloc: Global, shown: &mut String, rules: &[Rule]) -> Result<(), Fa
     Ok(())
 }
 
-fn shown_function(alloc: Global, function: &Function) -> Result<String, Fail> {
+fn shown_function(alloc: Global, function: &Function) -> Result<String, AllocError> {
     let mut shown = shown_head(alloc, "calcfunction", &function.head)?;
     put_rules(alloc, &mut shown, function.rules.as_slice())?;
     Ok(shown)
@@ -200,14 +199,13 @@ fn put_line(
     word: &str,
     at: u32,
     value: &Expr,
-) -> Result<(), Fail> {
+) -> Result<(), AllocError> {
     let value = shown_expr(alloc, value)?;
     let part = format!(in alloc; "{word}@{at} {}; ", value.as_str())?;
-    shown.push_str(part.as_str())?;
-    Ok(())
+    shown.push_str(part.as_str())
 }
 
-fn shown_job(alloc: Global, job: &Job) -> Result<String, Fail> {
+fn shown_job(alloc: Global, job: &Job) -> Result<String, AllocError> {
     let mut shown = shown_head(alloc, "calcjob", &job.head)?;
     put_line(
         alloc,
@@ -234,7 +232,7 @@ fn shown_job(alloc: Global, job: &Job) -> Result<String, Fail> {
     Ok(shown)
 }
 
-fn shown_call(alloc: Global, call: &CallStmt) -> Result<String, Fail> {
+fn shown_call(alloc: Global, call: &CallStmt) -> Result<String, AllocError> {
     let callee = shown_name(alloc, &call.callee)?;
     let mut shown = format!(in alloc; "call@{} {}(", call.at, callee.as_str())?;
     for arg in call.args.as_slice() {
@@ -249,7 +247,7 @@ fn shown_call(alloc: Global, call: &CallStmt) -> Result<String, Fail> {
     Ok(shown)
 }
 
-fn shown_step(alloc: Global, step: &Step) -> Result<String, Fail> {
+fn shown_step(alloc: Global, step: &Step) -> Result<String, AllocError> {
     let name = shown_name(alloc, &step.name)?;
     let mut shown = format!(in alloc; "step@{} {} ", step.at, name.as_str())?;
     for stmt in step.stmts.as_slice() {
@@ -268,7 +266,7 @@ fn length_of(block: &Block) -> usize {
     block.instrs.len()
 }
 
-fn shown_instr(alloc: Global, instr: &Instr) -> Result<String, Fail> {
+fn shown_instr(alloc: Global, instr: &Instr) -> Result<String, AllocError> {
     match instr {
         Instr::Step(step) => shown_step(alloc, step),
         Instr::If(at, arms, other) => {
@@ -293,21 +291,21 @@ fn shown_instr(alloc: Global, instr: &Instr) -> Result<String, Fail> {
         }
         Instr::While(at, condition, block) => {
             let condition = shown_expr(alloc, condition)?;
-            Ok(format!(in alloc;
+            format!(in alloc;
                 "while@{at} {} {{{}}} ",
                 condition.as_str(),
                 length_of(block)
-            )?)
+            )
         }
-        Instr::Return(at, None) => Ok(format!(in alloc; "return@{at}; ")?),
+        Instr::Return(at, None) => format!(in alloc; "return@{at}; "),
         Instr::Return(at, Some(status)) => {
             let status = shown_number(alloc, *status)?;
-            Ok(format!(in alloc; "return@{at} {}; ", status.as_str())?)
+            format!(in alloc; "return@{at} {}; ", status.as_str())
         }
     }
 }
 
-fn shown_chain(alloc: Global, chain: &Chain) -> Result<String, Fail> {
+fn shown_chain(alloc: Global, chain: &Chain) -> Result<String, AllocError> {
     let mut shown = shown_head(alloc, "workchain", &chain.head)?;
     for instr in chain.outline.instrs.as_slice() {
         let part = shown_instr(alloc, instr)?;
@@ -317,7 +315,7 @@ fn shown_chain(alloc: Global, chain: &Chain) -> Result<String, Fail> {
 }
 
 /// The definitions, of whose blocks the lengths alone are shown.
-pub fn shown_library(alloc: Global, library: &[Definition]) -> Result<String, Fail> {
+pub fn shown_library(alloc: Global, library: &[Definition]) -> Result<String, AllocError> {
     let mut shown = String::new(alloc);
     for definition in library {
         let part = match definition {
@@ -330,13 +328,17 @@ pub fn shown_library(alloc: Global, library: &[Definition]) -> Result<String, Fa
     Ok(shown)
 }
 
-fn shown_shape(alloc: Global, head: &Head) -> Result<String, Fail> {
+fn shown_shape(alloc: Global, head: &Head) -> Result<String, AllocError> {
     let (inputs, outputs, codes) = (head.inputs.len(), head.outputs.len(), head.codes.len());
-    Ok(format!(in alloc; "{} {inputs} {outputs} {codes}", head.name.text.as_str())?)
+    format!(in alloc; "{} {inputs} {outputs} {codes}", head.name.text.as_str())
 }
 
 /// Each definition's name, its numbers of inputs, outputs and exit codes, and what is behind these.
-pub fn put_shapes(alloc: Global, shown: &mut String, library: &[Definition]) -> Result<(), Fail> {
+pub fn put_shapes(
+    alloc: Global,
+    shown: &mut String,
+    library: &[Definition],
+) -> Result<(), AllocError> {
     for definition in library {
         let part = match definition {
             Definition::Function(function) => {

@@ -1,4 +1,4 @@
-//! Whole workflow files, for tests.
+//! Whole workflow files.
 
 pub const FAN: &str = "calcfunction add(x: int, y: int) -> (sum: int) {
   out sum = x + y;

@@ -1,0 +1,158 @@
+//! Words of the command line, and the commands that they are.
+
+use crate::rows::same;
+use std::alloc::Global;
+use std::test::Fail;
+use wc_cli::{Command, Givens, command_of};
+use wc_value::{Text, Words};
+
+/// The words of a line in which single spaces part them.
+fn words_of(alloc: Global, line: &str) -> Result<Words, Fail> {
+    let mut words = Words::new(alloc);
+    for word in line.split(' ') {
+        words.push(Text::of_str(alloc, word)?)?;
+    }
+    Ok(words)
+}
+
+/// A file, a definition and inputs, in words behind the name of their command.
+fn shown_call(
+    alloc: Global,
+    command: &str,
+    file: &Text,
+    name: &Text,
+    given: &Givens,
+) -> Result<String, Fail> {
+    let mut text = format!(in alloc; "{command} {} {}", file.as_str(), name.as_str())?;
+    for (port, value) in given.as_slice() {
+        let part = format!(in alloc; " {}<{}", port.as_str(), value.as_str())?;
+        text.push_str(part.as_str())?;
+    }
+    Ok(text)
+}
+
+/// The command of a line, in words.
+fn shown(alloc: Global, line: &str) -> Result<String, Fail> {
+    let words = words_of(alloc, line)?;
+    let Some(command) = command_of(alloc, &words)? else {
+        return Ok(String::from_str(alloc, "words")?);
+    };
+    match command {
+        Command::Dry {
+            file,
+            name,
+            given,
+            fuel,
+        } => {
+            let call = shown_call(alloc, "dry", &file, &name, &given)?;
+            Ok(format!(in alloc; "{call}, {fuel}")?)
+        }
+        Command::Check { file } => Ok(format!(in alloc; "check {}", file.as_str())?),
+        Command::Init => Ok(String::from_str(alloc, "init")?),
+        Command::Submit { file, name, given } => shown_call(alloc, "submit", &file, &name, &given),
+        Command::Run => Ok(String::from_str(alloc, "run")?),
+        Command::List => Ok(String::from_str(alloc, "list")?),
+        Command::Tree { pid } => Ok(format!(in alloc; "tree {pid}")?),
+        Command::Pack => Ok(String::from_str(alloc, "pack")?),
+    }
+}
+
+/// Lines with their commands.
+const COMMANDS: [(&str, &str); 12] = [
+    ("dry f add x=2 y=3", "dry f add x<2 y<3, 100000"),
+    ("dry f add x=a=b y=", "dry f add x<a=b y<, 100000"),
+    ("dry --fuel 7 f add", "dry f add, 7"),
+    ("dry f --fuel=007 add x=1", "dry f add x<1, 7"),
+    (
+        "dry f add x=1 --fuel 1000000000",
+        "dry f add x<1, 1000000000",
+    ),
+    ("dry --fuel=0 -- f -x -y=1", "dry f -x -y<1, 0"),
+    ("dry - - -=1", "words"),
+    ("dry - - =1", "dry - - <1, 100000"),
+    ("check f", "check f"),
+    ("check -- -f", "check -f"),
+    ("check -- --", "check --"),
+    ("check ", "check "),
+];
+
+/// Lines that are no command.
+const REFUSED: [&str; 24] = [
+    "",
+    "dry",
+    "dry f",
+    "dry f add x",
+    "dry f add -x=1",
+    "dry f add --fuel",
+    "dry f add --fuel -5",
+    "dry f add --fuel --",
+    "dry f add --fuel=",
+    "dry f add --fuel=-5",
+    "dry f add --fuel=+5",
+    "dry f add --fuel=5x",
+    "dry f add --fuel=1000000001",
+    "dry f add --fuel=99999999999999999999",
+    "dry f add --fuel 1 --fuel=2",
+    "dry f add --turns 1",
+    "-- dry f add",
+    "check",
+    "check f g",
+    "check f --fuel 1",
+    "check -f",
+    "Check f",
+    "frobnicate f",
+    "--help",
+];
+
+/// Lines with their commands of a store.
+const OF_A_STORE: [(&str, &str); 28] = [
+    ("init", "init"),
+    ("init f", "words"),
+    ("submit f add x=2 y=", "submit f add x<2 y<"),
+    ("submit -- f -x -y=1", "submit f -x -y<1"),
+    ("submit f add", "submit f add"),
+    ("submit f", "words"),
+    ("submit f add x", "words"),
+    ("submit f add --fuel 1", "words"),
+    ("run", "run"),
+    ("run 1", "words"),
+    ("run --fuel=1", "words"),
+    ("list", "list"),
+    ("list 1", "words"),
+    ("tree 1", "tree 1"),
+    ("tree 007", "tree 7"),
+    ("tree 4294967295", "tree 4294967295"),
+    ("tree", "words"),
+    ("tree ", "words"),
+    ("tree 0", "words"),
+    ("tree 4294967296", "words"),
+    ("tree +1", "words"),
+    ("tree -1", "words"),
+    ("tree -- -1", "words"),
+    ("tree 1x", "words"),
+    ("tree 1 2", "words"),
+    ("pack", "pack"),
+    ("pack --", "pack"),
+    ("pack f", "words"),
+];
+
+fn reads(alloc: Global, rows: &[(&str, &str)]) -> Result<(), Fail> {
+    for (line, wanted) in rows {
+        same(line, shown(alloc, line)?.as_str(), wanted)?;
+    }
+    Ok(())
+}
+
+fn refuses(alloc: Global, lines: &[&str]) -> Result<(), Fail> {
+    for line in lines {
+        same(line, shown(alloc, line)?.as_str(), "words")?;
+    }
+    Ok(())
+}
+
+#[test]
+fn words_are_commands(rt: HostRuntime) -> Result<(), Fail> {
+    refuses(rt.alloc(), &REFUSED)?;
+    reads(rt.alloc(), &COMMANDS)?;
+    reads(rt.alloc(), &OF_A_STORE)
+}

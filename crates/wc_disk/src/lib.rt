@@ -10,8 +10,6 @@ mod memory;
 mod pick;
 mod replay;
 mod tape;
-#[cfg(test)]
-mod tests;
 
 pub use calls::Call;
 pub use disk::Disk;

@@ -9,8 +9,6 @@ mod graph;
 mod link;
 mod node;
 mod rules;
-#[cfg(test)]
-mod tests;
 
 pub use error::GraphError;
 pub use graph::{Graph, Links, Nodes};

@@ -10,8 +10,6 @@ mod pacer;
 mod schedule;
 mod shelf;
 mod sink;
-#[cfg(test)]
-mod tests;
 
 pub use host::{ClockPacer, FileShelf, StdoutSink};
 pub use memory::{MemoryPacer, MemoryShelf, MemorySink};

@@ -8,8 +8,6 @@ mod image;
 mod journal;
 mod laws;
 mod steps;
-#[cfg(test)]
-mod tests;
 
 pub use batch::Batch;
 pub use error::{Found, JournalError};

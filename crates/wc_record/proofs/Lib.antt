@@ -12,6 +12,5 @@ pub mod Whole
 pub mod Some
 pub mod Tolds
 pub mod Printed
-pub mod Writables
 pub mod Remaining
 pub mod SnapshotLength

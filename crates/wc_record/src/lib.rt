@@ -19,8 +19,3 @@ pub use laws::{
 pub use reading::read_changes;
 pub use snapshot::write_snapshot;
 pub use writing::write_changes;
-
-#[cfg(test)]
-mod places;
-#[cfg(test)]
-mod tests;

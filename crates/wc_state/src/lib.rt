@@ -12,6 +12,3 @@ pub use record::{
     Await, Awaits, Checkpoint, Frame, Frames, Ids, JobPart, Limits, Outs, Part, ProcessKind,
     ProcessRecord, Task, What,
 };
-
-#[cfg(test)]
-mod tests;

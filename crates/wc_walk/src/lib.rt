@@ -11,8 +11,6 @@ mod flood;
 mod near;
 mod ordering;
 mod reach;
-#[cfg(test)]
-mod tests;
 
 pub use choice::LinkSet;
 pub use error::WalkError;

@@ -38,8 +38,3 @@ pub use laws::{
 pub use records::Records;
 pub use trees::tree_of;
 pub use world::{Known, Libraries, World};
-
-#[cfg(test)]
-mod accepting_tests;
-#[cfg(test)]
-mod tests;

@@ -1,22 +1,70 @@
-//! Changes that a world refuses, each for one reason.
+//! Changes that a world refuses, each for one reason, and beside them changes that it takes.
 
-use crate::worlds::{awaiting, finished, library, link, process, set, submission, take};
+use crate::rows::first_wrong;
+use crate::worlds::{awaiting, finished, library, link, one, process, set, submitted, take};
 use std::alloc::{AllocError, Global};
 use std::test::Fail;
 use wc_graph::{GraphError, LinkType};
 use wc_state::{Checkpoint, CtxRef, Frame, JobPart, Part, ProcessKind, Task};
-use wc_value::{List, ProcessState, Text, Value, Values, Words};
+use wc_value::{List, ProcessState, Text, Value, Values};
 use wc_world::{Change, Changes, Kept, NewProcess, SetProcess, World, WorldError};
 
-/// A list of nothing, so many deep.
-fn nested(alloc: Global, depth: u32) -> Result<Value, AllocError> {
-    let mut value = Value::List(Values::new(alloc));
-    for _level in 1..depth {
-        let mut outside: Values = List::new(alloc);
-        outside.push(value)?;
-        value = Value::List(outside);
+/// Changes of two.
+fn two(alloc: Global, first: Change, second: Change) -> Result<Changes, AllocError> {
+    let mut changes = one(alloc, first)?;
+    changes.push(second)?;
+    Ok(changes)
+}
+
+/// Whether a world with process 3 refuses changes with this error.
+fn refuses(alloc: Global, changes: Changes, want: WorldError) -> Result<bool, Fail> {
+    let world = submitted(alloc)?;
+    Ok(world.accepts(alloc, &changes) == Err(want))
+}
+
+/// Whether a world takes changes, where they fit, and else says that this record is bad.
+fn judges(alloc: Global, world: &World, changes: &Changes, record: u32, fits: bool) -> bool {
+    match world.accepts(alloc, changes) {
+        Ok(()) => fits,
+        Err(WorldError::BadRecord(number)) => !fits && number == record,
+        Err(_) => false,
     }
-    Ok(value)
+}
+
+/// The same of a world with process 3.
+fn answers(alloc: Global, changes: Changes, record: u32, fits: bool) -> Result<bool, Fail> {
+    let world = submitted(alloc)?;
+    Ok(judges(alloc, &world, &changes, record, fits))
+}
+
+/// The same of a world of nothing.
+fn begins(alloc: Global, changes: Changes, record: u32, fits: bool) -> bool {
+    judges(alloc, &World::new(alloc), &changes, record, fits)
+}
+
+/// Whether a world of nothing refuses a link from its first data to its second.
+fn refuses_wrong_ends(alloc: Global) -> Result<bool, Fail> {
+    let world = World::new(alloc);
+    let mut changes = one(alloc, Change::Data(Value::Int(5)))?;
+    changes.push(Change::Data(Value::Int(6)))?;
+    changes.push(link(alloc, 1, LinkType::Create, 2, "sum")?)?;
+    let want = WorldError::Graph(GraphError::WrongEnds);
+    Ok(world.accepts(alloc, &changes) == Err(want))
+}
+
+/// What the graph doesn't take, and a process that isn't there.
+fn graphs(alloc: Global) -> Result<Option<usize>, Fail> {
+    let missing = one(alloc, link(alloc, 9, LinkType::InputCalc, 3, "z")?)?;
+    let repeated = one(alloc, link(alloc, 1, LinkType::InputCalc, 3, "y")?)?;
+    let no_node = WorldError::Graph(GraphError::NoNode(9));
+    let taken = WorldError::Graph(GraphError::LabelTaken);
+    let unknown = one(alloc, finished(1))?;
+    Ok(first_wrong(&[
+        refuses(alloc, missing, no_node)?,
+        refuses(alloc, repeated, taken)?,
+        refuses(alloc, unknown, WorldError::NoProcess(1))?,
+        refuses_wrong_ends(alloc)?,
+    ]))
 }
 
 /// The process `add` with another library, kind or depth.
@@ -31,6 +79,39 @@ fn new(alloc: Global, library: u32, kind: ProcessKind, depth: u32) -> Result<Cha
     }))
 }
 
+/// The library, kind and depth of a process 4, and whether it fits.
+const NEW: [(u32, ProcessKind, u32, bool); 7] = [
+    (1, ProcessKind::Function, 1, true),
+    (1, ProcessKind::Function, 16, true),
+    (2, ProcessKind::Function, 1, false),
+    (0, ProcessKind::Function, 1, false),
+    (1, ProcessKind::Job, 1, false),
+    (1, ProcessKind::Function, 0, false),
+    (1, ProcessKind::Function, 17, false),
+];
+
+/// The first of these rows with another answer.
+fn processes(alloc: Global) -> Result<Option<usize>, Fail> {
+    for (at, (library, kind, depth, fits)) in NEW.iter().enumerate() {
+        let changes = one(alloc, new(alloc, *library, *kind, *depth)?)?;
+        if !answers(alloc, changes, 4, *fits)? {
+            return Ok(Some(at));
+        }
+    }
+    Ok(None)
+}
+
+/// A list of nothing, so many deep.
+fn nested(alloc: Global, depth: u32) -> Result<Value, AllocError> {
+    let mut value = Value::List(Values::new(alloc));
+    for _level in 1..depth {
+        let mut outside: Values = List::new(alloc);
+        outside.push(value)?;
+        value = Value::List(outside);
+    }
+    Ok(value)
+}
+
 /// A library with two names that don't ascend.
 fn unsorted(alloc: Global) -> Result<Change, Fail> {
     match library(alloc)? {
@@ -43,100 +124,43 @@ fn unsorted(alloc: Global) -> Result<Change, Fail> {
     }
 }
 
-/// Changes of one.
-fn one(alloc: Global, change: Change) -> Result<Changes, AllocError> {
-    let mut changes = Changes::new(alloc);
-    changes.push(change)?;
-    Ok(changes)
+/// Values that are too deep, and names that aren't in order.
+fn values(alloc: Global) -> Result<Option<usize>, Fail> {
+    let deep = one(alloc, Change::Data(nested(alloc, 32)?))?;
+    let too_deep = one(alloc, Change::Data(nested(alloc, 33)?))?;
+    let names = one(alloc, unsorted(alloc)?)?;
+    Ok(first_wrong(&[
+        answers(alloc, deep, 4, true)?,
+        answers(alloc, too_deep, 4, false)?,
+        answers(alloc, names, 0, false)?,
+    ]))
 }
 
-/// Changes of two.
-fn two(alloc: Global, first: Change, second: Change) -> Result<Changes, AllocError> {
-    let mut changes = one(alloc, first)?;
-    changes.push(second)?;
-    Ok(changes)
-}
-
-/// Why a world with process 3 refuses changes, if it does.
-fn refusal(alloc: Global, changes: &Changes) -> Result<Option<WorldError>, Fail> {
-    let mut world = World::new(alloc);
-    take(alloc, &mut world, submission(alloc)?)?;
-    Ok(world.accepts(alloc, changes).err())
-}
-
-#[test]
-fn graphs_refuse_first(rt: HostRuntime) -> Result<(), Fail> {
-    let alloc = rt.alloc();
-    let changes = one(alloc, link(alloc, 9, LinkType::InputCalc, 3, "z")?)?;
-    let wanted = WorldError::Graph(GraphError::NoNode(9));
-    assert_eq!(rt; refusal(alloc, &changes)?, Some(wanted));
-    let changes = one(alloc, link(alloc, 1, LinkType::InputCalc, 3, "y")?)?;
-    let wanted = WorldError::Graph(GraphError::LabelTaken);
-    assert_eq!(rt; refusal(alloc, &changes)?, Some(wanted));
-    let changes = one(alloc, finished(1))?;
-    assert_eq!(rt; refusal(alloc, &changes)?, Some(WorldError::NoProcess(1)));
-    Ok(())
-}
-
-#[test]
-fn new_processes_fit(rt: HostRuntime) -> Result<(), Fail> {
-    let alloc = rt.alloc();
-    for (library, kind, depth, fits) in [
-        (1, ProcessKind::Function, 1, true),
-        (1, ProcessKind::Function, 16, true),
-        (2, ProcessKind::Function, 1, false),
-        (0, ProcessKind::Function, 1, false),
-        (1, ProcessKind::Job, 1, false),
-        (1, ProcessKind::Function, 0, false),
-        (1, ProcessKind::Function, 17, false),
-    ] {
-        let changes = one(alloc, new(alloc, library, kind, depth)?)?;
-        let wanted = if fits {
-            None
-        } else {
-            Some(WorldError::BadRecord(4))
-        };
-        assert_eq!(rt; refusal(alloc, &changes)?, wanted);
-    }
-    Ok(())
-}
-
-#[test]
-fn values_and_names_fit(rt: HostRuntime) -> Result<(), Fail> {
-    let alloc = rt.alloc();
-    let changes = one(alloc, Change::Data(nested(alloc, 32)?))?;
-    assert_eq!(rt; refusal(alloc, &changes)?, None);
-    let changes = one(alloc, Change::Data(nested(alloc, 33)?))?;
-    assert_eq!(rt; refusal(alloc, &changes)?, Some(WorldError::BadRecord(4)));
-    let changes = one(alloc, unsorted(alloc)?)?;
-    assert_eq!(rt; refusal(alloc, &changes)?, Some(WorldError::BadRecord(0)));
-    Ok(())
-}
-
-/// A chain 4 calls a function 5 of this depth and label by a link with the label `c_1`.
-fn calling(alloc: Global, depth: u32, label: &str) -> Result<Changes, Fail> {
-    let mut changes = Changes::new(alloc);
-    changes.push(process(alloc, ProcessKind::Chain, "inner", 1, "")?)?;
-    changes.push(process(alloc, ProcessKind::Function, "add", depth, label)?)?;
+/// A chain 4 that calls a function 5 of this depth and label by a link with the label `c_1`.
+fn called(alloc: Global, depth: u32, label: &str) -> Result<Changes, Fail> {
+    let chain = process(alloc, ProcessKind::Chain, "inner", 1, "")?;
+    let function = process(alloc, ProcessKind::Function, "add", depth, label)?;
+    let mut changes = two(alloc, chain, function)?;
     changes.push(link(alloc, 4, LinkType::CallCalc, 5, "c_1")?)?;
+    Ok(changes)
+}
+
+/// The same, where the chain awaits the function.
+fn calling(alloc: Global, depth: u32, label: &str) -> Result<Changes, Fail> {
+    let mut changes = called(alloc, depth, label)?;
     let part = awaiting(alloc, "c", 5)?;
     changes.push(set(4, ProcessState::Waiting, part))?;
     Ok(changes)
 }
 
-#[test]
-fn calls_fit(rt: HostRuntime) -> Result<(), Fail> {
-    let alloc = rt.alloc();
-    for (depth, label, fits) in [(2, "c_1", true), (1, "c_1", false), (2, "c_2", false)] {
-        let changes = calling(alloc, depth, label)?;
-        let wanted = if fits {
-            None
-        } else {
-            Some(WorldError::BadRecord(5))
-        };
-        assert_eq!(rt; refusal(alloc, &changes)?, wanted);
-    }
-    Ok(())
+/// Calls that fit and don't, and a chain that doesn't await what it calls.
+fn calls(alloc: Global) -> Result<Option<usize>, Fail> {
+    Ok(first_wrong(&[
+        answers(alloc, calling(alloc, 2, "c_1")?, 5, true)?,
+        answers(alloc, calling(alloc, 1, "c_1")?, 5, false)?,
+        answers(alloc, calling(alloc, 2, "c_2")?, 5, false)?,
+        answers(alloc, called(alloc, 2, "c_1")?, 4, false)?,
+    ]))
 }
 
 /// A job 4 that waits with so many failures.
@@ -159,37 +183,40 @@ fn failed(alloc: Global, fails: u8, paused: bool) -> Result<Changes, Fail> {
     Ok(two(alloc, job, Change::Set(waiting))?)
 }
 
-#[test]
-fn failures_fit(rt: HostRuntime) -> Result<(), Fail> {
-    let alloc = rt.alloc();
-    for (fails, paused, fits) in [
-        (4, false, true),
-        (5, true, true),
-        (5, false, false),
-        (6, true, false),
-    ] {
-        let wanted = if fits {
-            None
-        } else {
-            Some(WorldError::BadRecord(4))
-        };
-        assert_eq!(rt; refusal(alloc, &failed(alloc, fails, paused)?)?, wanted);
-    }
-    Ok(())
+/// Failures of a job that fit and don't.
+fn failures(alloc: Global) -> Result<Option<usize>, Fail> {
+    Ok(first_wrong(&[
+        answers(alloc, failed(alloc, 4, false)?, 4, true)?,
+        answers(alloc, failed(alloc, 5, true)?, 4, true)?,
+        answers(alloc, failed(alloc, 5, false)?, 4, false)?,
+        answers(alloc, failed(alloc, 6, true)?, 4, false)?,
+    ]))
 }
 
-#[test]
-fn states_fit(rt: HostRuntime) -> Result<(), Fail> {
-    let alloc = rt.alloc();
-    let changes = two(alloc, finished(3), finished(3))?;
-    assert_eq!(rt; refusal(alloc, &changes)?, Some(WorldError::BadRecord(3)));
-    let changes = one(alloc, set(3, ProcessState::Running, Part::Fresh))?;
-    assert_eq!(rt; refusal(alloc, &changes)?, Some(WorldError::BadRecord(3)));
-    let changes = one(alloc, set(3, ProcessState::Killed, Part::Over))?;
-    assert_eq!(rt; refusal(alloc, &changes)?, None);
-    let changes = one(alloc, set(3, ProcessState::Created, Part::Fresh))?;
-    assert_eq!(rt; refusal(alloc, &changes)?, None);
-    Ok(())
+/// Data 4 that process 3 made, which hasn't ended.
+fn unfinished(alloc: Global) -> Result<Changes, Fail> {
+    let data = Change::Data(Value::Int(5));
+    Ok(two(alloc, data, link(alloc, 3, LinkType::Create, 4, "sum")?)?)
+}
+
+/// Process 3 in this state.
+fn state(alloc: Global, state: ProcessState, part: Part) -> Result<Changes, AllocError> {
+    one(alloc, set(3, state, part))
+}
+
+/// States of process 3 that fit and don't.
+fn states(alloc: Global) -> Result<Option<usize>, Fail> {
+    let twice = two(alloc, finished(3), finished(3))?;
+    let running = state(alloc, ProcessState::Running, Part::Fresh)?;
+    let killed = state(alloc, ProcessState::Killed, Part::Over)?;
+    let created = state(alloc, ProcessState::Created, Part::Fresh)?;
+    Ok(first_wrong(&[
+        answers(alloc, twice, 3, false)?,
+        answers(alloc, running, 3, false)?,
+        answers(alloc, killed, 3, true)?,
+        answers(alloc, created, 3, true)?,
+        answers(alloc, unfinished(alloc)?, 3, false)?,
+    ]))
 }
 
 /// What is wrong with a checkpoint.
@@ -199,7 +226,6 @@ enum Wrong {
     NoFrame,
     NoBlock,
     PastTheEnd,
-    NotCalled,
     NoProcess,
     NotData,
 }
@@ -212,7 +238,6 @@ fn checkpoint(alloc: Global, wrong: Wrong) -> Result<Checkpoint, AllocError> {
         Wrong::NoFrame => checkpoint.frames = checkpoint.frames.emptied(),
         Wrong::NoBlock => checkpoint.frames.push(Frame { block: 1, next: 0 })?,
         Wrong::PastTheEnd => checkpoint.frames.push(Frame { block: 0, next: 3 })?,
-        Wrong::NotCalled => {}
         Wrong::NoProcess => {
             let key = Text::of_str(alloc, "k")?;
             checkpoint.ctx.set(key, CtxRef::One(1))?;
@@ -222,33 +247,36 @@ fn checkpoint(alloc: Global, wrong: Wrong) -> Result<Checkpoint, AllocError> {
     Ok(checkpoint)
 }
 
-/// A chain 4 with this checkpoint.
-fn standing(alloc: Global, wrong: Wrong) -> Result<Changes, Fail> {
+/// A chain 4 in this state.
+fn chain(alloc: Global, state: ProcessState, part: Part) -> Result<Changes, Fail> {
     let chain = process(alloc, ProcessKind::Chain, "inner", 1, "")?;
-    if matches!(wrong, Wrong::NotCalled) {
-        let part = awaiting(alloc, "c", 3)?;
-        return Ok(two(alloc, chain, set(4, ProcessState::Waiting, part))?);
-    }
-    let part = Part::Chain(checkpoint(alloc, wrong)?);
-    Ok(two(alloc, chain, set(4, ProcessState::Running, part))?)
+    Ok(two(alloc, chain, set(4, state, part))?)
 }
 
-#[test]
-fn checkpoints_fit(rt: HostRuntime) -> Result<(), Fail> {
-    let alloc = rt.alloc();
-    assert_eq!(rt; refusal(alloc, &standing(alloc, Wrong::Nothing)?)?, None);
-    for wrong in [
-        Wrong::NoFrame,
-        Wrong::NoBlock,
-        Wrong::PastTheEnd,
-        Wrong::NotCalled,
-        Wrong::NoProcess,
-        Wrong::NotData,
-    ] {
-        let given = refusal(alloc, &standing(alloc, wrong)?)?;
-        assert_eq!(rt; given, Some(WorldError::BadRecord(4)));
-    }
-    Ok(())
+/// A chain 4 with this checkpoint.
+fn standing(alloc: Global, wrong: Wrong) -> Result<Changes, Fail> {
+    let part = Part::Chain(checkpoint(alloc, wrong)?);
+    chain(alloc, ProcessState::Running, part)
+}
+
+/// Whether a world says that a chain with this checkpoint is bad.
+fn is_bad(alloc: Global, wrong: Wrong) -> Result<bool, Fail> {
+    answers(alloc, standing(alloc, wrong)?, 4, false)
+}
+
+/// Checkpoints, of which the first alone fits, and the last awaits a process that it didn't call.
+fn checkpoints(alloc: Global) -> Result<Option<usize>, Fail> {
+    let uncalled = awaiting(alloc, "c", 3)?;
+    let uncalled = chain(alloc, ProcessState::Waiting, uncalled)?;
+    Ok(first_wrong(&[
+        answers(alloc, standing(alloc, Wrong::Nothing)?, 4, true)?,
+        is_bad(alloc, Wrong::NoFrame)?,
+        is_bad(alloc, Wrong::NoBlock)?,
+        is_bad(alloc, Wrong::PastTheEnd)?,
+        is_bad(alloc, Wrong::NoProcess)?,
+        is_bad(alloc, Wrong::NotData)?,
+        answers(alloc, uncalled, 4, false)?,
+    ]))
 }
 
 /// A function 4 that ends with the outcome of process 3.
@@ -266,99 +294,91 @@ fn cached(alloc: Global) -> Result<Changes, Fail> {
     Ok(two(alloc, function, Change::Set(cached))?)
 }
 
-#[test]
-fn sources_fit(rt: HostRuntime) -> Result<(), Fail> {
-    let alloc = rt.alloc();
-    let given = refusal(alloc, &cached(alloc)?)?;
-    assert_eq!(rt; given, Some(WorldError::BadRecord(4)));
-    let mut world = World::new(alloc);
-    take(alloc, &mut world, submission(alloc)?)?;
+/// A source that hasn't ended, and one that has.
+fn sources(alloc: Global) -> Result<Option<usize>, Fail> {
+    let mut world = submitted(alloc)?;
+    let changes = cached(alloc)?;
+    let is_early = judges(alloc, &world, &changes, 4, false);
     take(alloc, &mut world, one(alloc, finished(3))?)?;
-    assert!(rt; world.accepts(alloc, &cached(alloc)?).is_ok());
-    Ok(())
+    Ok(first_wrong(&[is_early, judges(alloc, &world, &changes, 4, true)]))
 }
 
 #[test]
-fn processes_are_settled(rt: HostRuntime) -> Result<(), Fail> {
+fn records_fit(rt: HostRuntime) -> Result<(), Fail> {
     let alloc = rt.alloc();
-    let data = Change::Data(Value::Int(5));
-    let changes = two(alloc, data, link(alloc, 3, LinkType::Create, 4, "sum")?)?;
-    assert_eq!(rt; refusal(alloc, &changes)?, Some(WorldError::BadRecord(3)));
-    let mut changes = Changes::new(alloc);
-    changes.push(process(alloc, ProcessKind::Chain, "inner", 1, "")?)?;
-    changes.push(process(alloc, ProcessKind::Function, "add", 2, "c_1")?)?;
-    changes.push(link(alloc, 4, LinkType::CallCalc, 5, "c_1")?)?;
-    assert_eq!(rt; refusal(alloc, &changes)?, Some(WorldError::BadRecord(4)));
+    assert_eq!(rt; graphs(alloc)?, None);
+    assert_eq!(rt; processes(alloc)?, None);
+    assert_eq!(rt; values(alloc)?, None);
+    assert_eq!(rt; calls(alloc)?, None);
+    assert_eq!(rt; failures(alloc)?, None);
+    assert_eq!(rt; states(alloc)?, None);
+    assert_eq!(rt; checkpoints(alloc)?, None);
+    assert_eq!(rt; sources(alloc)?, None);
     Ok(())
+}
+
+/// The numbers of the batches in which a process started and ended.
+fn kept(pid: u32, started: u32, ended: u32) -> Change {
+    Change::Kept(Kept {
+        pid,
+        started,
+        ended,
+    })
+}
+
+/// Counts, which stand in snapshots alone, and what is kept of no process.
+fn counts(alloc: Global) -> Result<Option<usize>, Fail> {
+    let of_none = two(alloc, kept(3, 0, 0), Change::Count(1))?;
+    let twice = two(alloc, Change::Count(1), Change::Count(1))?;
+    let alone = one(alloc, kept(3, 0, 0))?;
+    Ok(first_wrong(&[
+        answers(alloc, of_none, 3, false)?,
+        answers(alloc, one(alloc, Change::Count(1))?, 0, false)?,
+        begins(alloc, one(alloc, Change::Count(7))?, 0, true),
+        begins(alloc, one(alloc, Change::Data(Value::Int(5)))?, 0, true),
+        begins(alloc, twice, 0, false),
+        begins(alloc, alone, 3, false),
+    ]))
+}
+
+/// The first snapshot of process 1, which is created, with these numbers.
+fn snapshot(alloc: Global, started: u32, ended: u32) -> Result<Changes, Fail> {
+    let mut changes = one(alloc, library(alloc)?)?;
+    changes.push(new(alloc, 1, ProcessKind::Function, 1)?)?;
+    changes.push(kept(1, started, ended))?;
+    changes.push(Change::Count(3))?;
+    Ok(changes)
+}
+
+/// Numbers of batches that fit and don't.
+fn numbers(alloc: Global) -> Result<Option<usize>, Fail> {
+    Ok(first_wrong(&[
+        begins(alloc, snapshot(alloc, 0, 0)?, 1, true),
+        begins(alloc, snapshot(alloc, 3, 0)?, 1, true),
+        begins(alloc, snapshot(alloc, 4, 0)?, 1, false),
+        begins(alloc, snapshot(alloc, 0, 1)?, 1, false),
+    ]))
+}
+
+/// As many batches as there may be, and one more.
+fn batches(alloc: Global) -> Result<Option<usize>, Fail> {
+    let mut world = World::new(alloc);
+    let too_many = one(alloc, Change::Count(4_000_000_001))?;
+    let is_too_many = judges(alloc, &world, &too_many, 0, false);
+    take(alloc, &mut world, one(alloc, Change::Count(4_000_000_000))?)?;
+    let further = one(alloc, Change::Data(Value::Int(5)))?;
+    Ok(first_wrong(&[
+        is_too_many,
+        world.batches() == 4_000_000_000,
+        judges(alloc, &world, &further, 0, false),
+    ]))
 }
 
 #[test]
 fn counts_stand_in_snapshots(rt: HostRuntime) -> Result<(), Fail> {
     let alloc = rt.alloc();
-    let kept = Change::Kept(Kept {
-        pid: 3,
-        started: 0,
-        ended: 0,
-    });
-    let changes = two(alloc, kept, Change::Count(1))?;
-    assert_eq!(rt; refusal(alloc, &changes)?, Some(WorldError::BadRecord(3)));
-    let changes = one(alloc, Change::Count(1))?;
-    assert_eq!(rt; refusal(alloc, &changes)?, Some(WorldError::BadRecord(0)));
-    let world = World::new(alloc);
-    assert!(rt; world.accepts(alloc, &changes).is_ok());
-    let changes = two(alloc, Change::Count(1), Change::Count(1))?;
-    assert_eq!(rt;
-        world.accepts(alloc, &changes).err(),
-        Some(WorldError::BadRecord(0))
-    );
-    Ok(())
-}
-
-/// The first snapshot of process 1, which is created, with these numbers.
-fn kept(alloc: Global, started: u32, ended: u32) -> Result<Changes, Fail> {
-    let mut changes = Changes::new(alloc);
-    changes.push(library(alloc)?)?;
-    changes.push(new(alloc, 1, ProcessKind::Function, 1)?)?;
-    changes.push(Change::Kept(Kept {
-        pid: 1,
-        started,
-        ended,
-    }))?;
-    changes.push(Change::Count(3))?;
-    Ok(changes)
-}
-
-#[test]
-fn kept_numbers_fit(rt: HostRuntime) -> Result<(), Fail> {
-    let alloc = rt.alloc();
-    let world = World::new(alloc);
-    for (started, ended, fits) in [(0, 0, true), (3, 0, true), (4, 0, false), (0, 1, false)] {
-        let wanted = if fits {
-            None
-        } else {
-            Some(WorldError::BadRecord(1))
-        };
-        let given = world.accepts(alloc, &kept(alloc, started, ended)?).err();
-        assert_eq!(rt; given, wanted);
-    }
-    Ok(())
-}
-
-#[test]
-fn batches_are_limited(rt: HostRuntime) -> Result<(), Fail> {
-    let alloc = rt.alloc();
-    let mut world = World::new(alloc);
-    let changes = one(alloc, Change::Count(4_000_000_001))?;
-    assert_eq!(rt;
-        world.accepts(alloc, &changes).err(),
-        Some(WorldError::BadRecord(0))
-    );
-    take(alloc, &mut world, one(alloc, Change::Count(4_000_000_000))?)?;
-    assert_eq!(rt; world.batches(), 4_000_000_000);
-    let changes = one(alloc, Change::Data(Value::Int(5)))?;
-    assert_eq!(rt;
-        world.accepts(alloc, &changes).err(),
-        Some(WorldError::BadRecord(0))
-    );
+    assert_eq!(rt; counts(alloc)?, None);
+    assert_eq!(rt; numbers(alloc)?, None);
+    assert_eq!(rt; batches(alloc)?, None);
     Ok(())
 }

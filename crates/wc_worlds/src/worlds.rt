@@ -1,15 +1,15 @@
-//! Worlds made by hand: what they take and refuse, the trees that they record, and their changes as bytes.
+//! Worlds made by hand: what they take, the trees that they record, and their environments.
 
+use crate::rows::first_wrong;
 use std::alloc::{AllocError, Global};
 use std::test::Fail;
 use wc_check::check;
-use wc_graph::{Link, LinkType};
+use wc_graph::{Link, LinkType, NodeKind};
 use wc_parser::parse;
-use wc_record::read_changes;
 use wc_report::tree_lines;
 use wc_state::{Await, Checkpoint, Part, ProcessKind};
 use wc_syntax::Checked;
-use wc_value::{ProcessState, Text, Value, Words};
+use wc_value::{ProcessState, Text, Value, Words, same_value};
 use wc_world::{Change, Changes, NewProcess, SetProcess, World, WorldError, env_of, tree_of};
 
 /// A function, a job, and two chains of which the outer calls the inner, which calls the function.
@@ -83,24 +83,75 @@ pub fn finished(pid: u32) -> Change {
     set(pid, ProcessState::Finished(0), Part::Over)
 }
 
+/// Changes of one.
+pub fn one(alloc: Global, change: Change) -> Result<Changes, AllocError> {
+    let mut changes = Changes::new(alloc);
+    changes.push(change)?;
+    Ok(changes)
+}
+
 /// The world with changes that it accepts.
-pub fn take(alloc: Global, world: &mut World, changes: Changes) -> Result<(), Fail> {
+pub fn take(alloc: Global, world: &mut World, changes: Changes) -> Result<(), WorldError> {
     world.accepts(alloc, &changes)?;
     world.reserve(alloc, &changes)?;
     world.apply(changes);
     Ok(())
 }
 
-/// The submission of `add` with 2 and 3, which is process 3.
-pub fn submission(alloc: Global) -> Result<Changes, Fail> {
+/// Whether a world has no process 1.
+fn has_none(alloc: Global, world: &World) -> bool {
+    let is_treeless = matches!(tree_of(alloc, world, 1), Err(WorldError::NoProcess(1)));
+    let is_bare = matches!(env_of(alloc, world, 1), Err(WorldError::NoProcess(1)));
+    is_treeless && is_bare && world.record_of(1).is_none()
+}
+
+/// Whether the first node is the number 5.
+fn has_five(world: &World) -> bool {
+    match world.graph().nodes().get(0) {
+        Some(NodeKind::Data(value)) => same_value(value, &Value::Int(5)),
+        _ => false,
+    }
+}
+
+/// A world of nothing, and then of one number.
+fn data(alloc: Global) -> Result<Option<usize>, Fail> {
+    let mut world = World::new(alloc);
+    let is_bare = has_none(alloc, &world);
+    let is_new = world.batches() == 0 && world.records().as_slice().is_empty();
+    take(alloc, &mut world, one(alloc, Change::Data(Value::Int(5)))?)?;
+    take(alloc, &mut world, Changes::new(alloc))?;
+    Ok(first_wrong(&[
+        is_bare,
+        is_new,
+        world.batches() == 2,
+        world.graph().nodes().len() == 1,
+        has_five(&world),
+    ]))
+}
+
+/// The inputs 2 and 3 of process 3.
+fn inputs(alloc: Global) -> Result<Changes, Fail> {
     let mut changes = Changes::new(alloc);
     changes.push(library(alloc)?)?;
     changes.push(Change::Data(Value::Int(2)))?;
     changes.push(Change::Data(Value::Int(3)))?;
+    Ok(changes)
+}
+
+/// The submission of `add` with 2 and 3, which is process 3.
+pub fn submission(alloc: Global) -> Result<Changes, Fail> {
+    let mut changes = inputs(alloc)?;
     changes.push(process(alloc, ProcessKind::Function, "add", 1, "")?)?;
     changes.push(link(alloc, 1, LinkType::InputCalc, 3, "x")?)?;
     changes.push(link(alloc, 2, LinkType::InputCalc, 3, "y")?)?;
     Ok(changes)
+}
+
+/// The world with process 3.
+pub fn submitted(alloc: Global) -> Result<World, Fail> {
+    let mut world = World::new(alloc);
+    take(alloc, &mut world, submission(alloc)?)?;
+    Ok(world)
 }
 
 /// The turn of process 3.
@@ -112,26 +163,42 @@ fn turn(alloc: Global) -> Result<Changes, Fail> {
     Ok(changes)
 }
 
-#[test]
-fn a_function_is_submitted_and_ends(rt: HostRuntime) -> Result<(), Fail> {
-    let alloc = rt.alloc();
-    let mut world = World::new(alloc);
-    take(alloc, &mut world, submission(alloc)?)?;
-    assert_eq!(rt; world.graph().nodes().len(), 3);
-    assert_eq!(rt; world.graph().links().len(), 2);
-    assert_eq!(rt; world.libraries().len(), 1);
-    assert_eq!(rt; world.batches(), 1);
+/// Whether a process finished in the batch in which it started, the second.
+fn has_finished(world: &World, pid: u32) -> bool {
+    match world.record_of(pid) {
+        Some(record) => {
+            record.state == ProcessState::Finished(0) && (record.started, record.ended) == (2, 2)
+        }
+        None => false,
+    }
+}
+
+/// Whether the tree of a process has this text.
+fn has_tree(alloc: Global, world: &World, pid: u32, want: &str) -> Result<bool, Fail> {
+    let tree = tree_of(alloc, world, pid)?;
+    Ok(tree_lines(alloc, &tree)?.as_str() == want)
+}
+
+/// A function that is submitted.
+fn function(alloc: Global) -> Result<Option<usize>, Fail> {
+    let world = submitted(alloc)?;
+    Ok(first_wrong(&[
+        world.graph().nodes().len() == 3,
+        world.graph().links().len() == 2,
+        world.libraries().len() == 1,
+        world.batches() == 1,
+    ]))
+}
+
+/// A function that ends.
+fn ended(alloc: Global) -> Result<Option<usize>, Fail> {
+    let mut world = submitted(alloc)?;
     take(alloc, &mut world, turn(alloc)?)?;
-    let record = world.record_of(3).ok_or("it is there")?;
-    assert_eq!(rt; record.state, ProcessState::Finished(0));
-    assert_eq!(rt; (record.started, record.ended), (2, 2));
-    assert!(rt; world.record_of(4).is_none());
-    let tree = tree_of(alloc, &world, 3)?;
-    assert_eq!(rt;
-        tree_lines(alloc, &tree)?.as_str(),
-        "finished 0\nsum int 5\n"
-    );
-    Ok(())
+    Ok(first_wrong(&[
+        has_finished(&world, 3),
+        world.record_of(4).is_none(),
+        has_tree(alloc, &world, 3, "finished 0\nsum int 5\n")?,
+    ]))
 }
 
 /// Data 1, and the chain `outer` as process 2.
@@ -166,8 +233,7 @@ fn call(
     key: &str,
 ) -> Result<Changes, Fail> {
     let label = format!(in alloc; "{key}_1")?;
-    let mut changes = Changes::new(alloc);
-    changes.push(called)?;
+    let mut changes = one(alloc, called)?;
     changes.push(link(alloc, 1, ends.0, pid, "x")?)?;
     changes.push(link(alloc, caller, ends.1, pid, label.as_str())?)?;
     let part = awaiting(alloc, key, pid)?;
@@ -177,23 +243,21 @@ fn call(
 
 /// A chain finishes with data that is there.
 fn returned(alloc: Global, pid: u32, data: u32) -> Result<Changes, Fail> {
-    let mut changes = Changes::new(alloc);
-    changes.push(link(alloc, pid, LinkType::Return, data, "y")?)?;
+    let mut changes = one(alloc, link(alloc, pid, LinkType::Return, data, "y")?)?;
     changes.push(finished(pid))?;
     Ok(changes)
 }
 
 /// The function 4 ends with data 5.
 fn summed(alloc: Global) -> Result<Changes, Fail> {
-    let mut changes = Changes::new(alloc);
-    changes.push(Change::Data(Value::Int(8)))?;
+    let mut changes = one(alloc, Change::Data(Value::Int(8)))?;
     changes.push(link(alloc, 4, LinkType::Create, 5, "sum")?)?;
     changes.push(finished(4))?;
     Ok(changes)
 }
 
-/// A world with calls two deep that has ended.
-fn called(alloc: Global) -> Result<World, Fail> {
+/// A world with calls two deep.
+fn calling(alloc: Global) -> Result<World, Fail> {
     let mut world = World::new(alloc);
     take(alloc, &mut world, outer(alloc)?)?;
     let inner = process(alloc, ProcessKind::Chain, "inner", 2, "b_1")?;
@@ -202,6 +266,12 @@ fn called(alloc: Global) -> Result<World, Fail> {
     let add = process(alloc, ProcessKind::Function, "add", 3, "a_1")?;
     let ends = (LinkType::InputCalc, LinkType::CallCalc);
     take(alloc, &mut world, call(alloc, 3, 4, add, ends, "a")?)?;
+    Ok(world)
+}
+
+/// That world, after each has ended.
+fn called(alloc: Global) -> Result<World, Fail> {
+    let mut world = calling(alloc)?;
     take(alloc, &mut world, summed(alloc)?)?;
     take(alloc, &mut world, returned(alloc, 3, 5)?)?;
     take(alloc, &mut world, returned(alloc, 2, 5)?)?;
@@ -217,43 +287,30 @@ call b_1 inner finished 0
     sum int 8
 ";
 
-#[test]
-fn calls_two_deep_have_their_tree(rt: HostRuntime) -> Result<(), Fail> {
-    let alloc = rt.alloc();
+/// Whether process 3 has one input, the data 1, and no key.
+fn has_input(alloc: Global, world: &World) -> Result<bool, WorldError> {
+    let env = env_of(alloc, world, 3)?;
+    match env.inputs.find(b"x") {
+        Some(input) => Ok(input.node == 1 && env.inputs.len() == 1 && env.ctx.len() == 0),
+        None => Ok(false),
+    }
+}
+
+/// Calls two deep.
+fn calls(alloc: Global) -> Result<Option<usize>, Fail> {
     let world = called(alloc)?;
-    let tree = tree_of(alloc, &world, 2)?;
-    assert_eq!(rt; tree_lines(alloc, &tree)?.as_str(), CALLED);
-    Ok(())
+    Ok(first_wrong(&[
+        has_tree(alloc, &world, 2, CALLED)?,
+        has_input(alloc, &world)?,
+    ]))
 }
 
 #[test]
-fn a_process_has_its_environment(rt: HostRuntime) -> Result<(), Fail> {
+fn worlds_take_changes(rt: HostRuntime) -> Result<(), Fail> {
     let alloc = rt.alloc();
-    let world = called(alloc)?;
-    let env = env_of(alloc, &world, 3)?;
-    assert_eq!(rt; env.inputs.len(), 1);
-    let input = env.inputs.find(b"x").ok_or("it is given")?;
-    assert_eq!(rt; input.node, 1);
-    assert_eq!(rt; env.ctx.len(), 0);
-    Ok(())
-}
-
-/// The bytes of one change, the data node 5, and of two, the second a process of a library that isn't there.
-const PAYLOADS: [&[u8]; 2] = [
-    &[0, 0, 0, 1, 2, 1, 0, 0, 0, 0, 0, 0, 0, 5],
-    &[
-        0, 0, 0, 2, 2, 2, 1, 3, 1, 0, 0, 0, 1, 102, 0, 0, 0, 1, 0, 0, 0, 1, 0, 0, 0, 0, 0,
-    ],
-];
-
-#[test]
-fn read_changes_are_taken_or_refused(rt: HostRuntime) -> Result<(), Fail> {
-    let alloc = rt.alloc();
-    let mut world = World::new(alloc);
-    take(alloc, &mut world, read_changes(alloc, PAYLOADS[0])?)?;
-    assert_eq!(rt; world.graph().nodes().len(), 1);
-    let changes = read_changes(alloc, PAYLOADS[1])?;
-    let given = world.accepts(alloc, &changes).err();
-    assert_eq!(rt; given, Some(WorldError::BadRecord(3)));
+    assert_eq!(rt; data(alloc)?, None);
+    assert_eq!(rt; function(alloc)?, None);
+    assert_eq!(rt; ended(alloc)?, None);
+    assert_eq!(rt; calls(alloc)?, None);
     Ok(())
 }

@@ -82,7 +82,7 @@ module _ (w : World) (pid now : ℕ) (cs : List Change) (s : EndsFunction w pid 
   turn_continues sound =
       let fits : IsFitting w s.process = found_holds (IsFitting w) pid w.records s.process sound.records s.found in
       subst (λ (xs : List Change). Continues w (applied w xs)) (sym s.changes)
-      (functions_continue w s.process s.function created_there (fits.started created_there.created) s.runs)
+      (functions_continue w s.process s.function created_there sound.calls (fits.started created_there.created) s.runs)
 
   pub turn_sound : IsAccepted w cs → IsSound w → OnlyFunctions w → IsSound (applied w cs) × OnlyFunctions (applied w cs)
   turn_sound accepted sound only =

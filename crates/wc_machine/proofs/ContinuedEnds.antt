@@ -1,14 +1,13 @@
--- The world in which a process has ended continues the one before.
-use Rattle.std.proofs.Common.{◌≡◌, ℕ, ℤ, ◌+◌, false, Option, Some, List, [], length, get_or, refl, sym, ap, ◌∙◌, arith}
+-- What the end of one process leaves of the records.
+use Rattle.std.proofs.Common.{◌≡◌, ℕ, ℤ, false, Option, Some, List, refl, sym, ap, ◌∙◌}
 use Rattle.std.specs.Prelude.{option_map}
-use Rattle.std.proofs.lemmas.List.{append-nil}
 use Rattle.wc_calculation.specs.declared.outcomes.Parsed.{Parsed}
 use Rattle.wc_state.specs.declared.record.ProcessRecord.{ProcessRecord}
 use Rattle.wc_world.specs.World.{World}
 use Rattle.wc_world.specs.Records.{find_record, has_ended, at_process}
-use Rattle.wc_world.proofs.ReachedLists.{find_mapped, at_one, at_one_keeps, at_one_has, AreUnique}
-use Rattle.wc_machine.specs.Continues.{Carries, Continues}
-use Rattle.wc_machine.proofs.Endings.{data_nodes, creates, end_record, ended_world}
+use Rattle.wc_world.proofs.ReachedLists.{find_mapped, at_one, at_one_keeps, at_one_has}
+use Rattle.wc_machine.specs.Continues.{Carries}
+use Rattle.wc_machine.proofs.Endings.{end_record}
 
 -- a record of this number is the one that is found by it
 pub same_found : (rs : List ProcessRecord) (q r : ProcessRecord) → find_record q.node rs ≡ Some q → find_record r.node rs ≡ Some r → q.node ≡ r.node → q ≡ r
@@ -41,7 +40,7 @@ module _ (w : World) (r : ProcessRecord) (p : Parsed) (source : Option ℕ) (cod
       find_mapped (at_one r.node (end_record w r p source code)) (at_one_keeps (λ (x : ProcessRecord). x.node) (end_record w r p source code) (λ x. refl) r.node) pid w.records
       ∙ ap (option_map (at_one r.node (end_record w r p source code))) h
 
-  carried : find_record r.node w.records ≡ Some r → has_ended r.state ≡ false → r.started ≡ 0
+  pub carried : find_record r.node w.records ≡ Some r → has_ended r.state ≡ false → r.started ≡ 0
       → (q : ProcessRecord) → find_record q.node w.records ≡ Some q → Carries q (after_end q)
   carried found live unstarted q h =
       at_one_has (λ x. Carries q x) r.node (end_record w r p source code) q
@@ -61,16 +60,3 @@ module _ (w : World) (r : ProcessRecord) (p : Parsed) (source : Option ℕ) (cod
         ended = λ over. absurd (cc (over, lives));
       })
       (λ ne. carried_itself q)
-
-  -- a process that hasn't started may end
-  pub ended_continues : AreUnique w.records → find_record r.node w.records ≡ Some r → has_ended r.state ≡ false → r.started ≡ 0
-      → Continues w (ended_world w r p source code)
-  ended_continues unique found live unstarted = record {
-    libraries = ([], sym (append-nil w.libraries));
-    nodes = (data_nodes p.outputs, refl);
-    links = (creates (length w.nodes + 1) r.node p.outputs, refl);
-    batches = omega arith;
-    records = λ i d lt.
-        let q = get_or w.records i d in
-        (after_end q, found_after q.node q (unique i d lt), carried found live unstarted q (unique i d lt));
-  }

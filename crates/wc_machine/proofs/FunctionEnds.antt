@@ -8,13 +8,12 @@ use Rattle.wc_expression.specs.declared.outcome.Outcome.TheVariants.{Gives, Faul
 use Rattle.wc_calculation.specs.Rules.{Values, End, env_of, run_rules}
 use Rattle.wc_calculation.specs.Outcomes.{concluded, calculated}
 use Rattle.wc_world.specs.Records.{has_ended}
-use Rattle.wc_world.proofs.ReachedLists.{unique}
 use Rattle.wc_world.proofs.ReachedWorlds.{reached_is_consistent}
 use Rattle.wc_machine.specs.Continues.{Continues}
 use Rattle.wc_machine.specs.Laws.{calculated_for, FunctionsAreAccepted, FunctionsContinue}
 use Rattle.wc_machine.proofs.AcceptedEnds.{ends_accepted}
 use Rattle.wc_machine.proofs.CalculatedOutputs.{calculated_set}
-use Rattle.wc_machine.proofs.ContinuedEnds.{ended_continues}
+use Rattle.wc_machine.proofs.EndedContinues.{ended_continues}
 use Rattle.wc_machine.proofs.Endings.{applied_ends}
 
 concluded_ends : (ports : List Port) (kept : Values) (o : Outcome End) → has_ended (concluded ports kept o).state ≡ true
@@ -39,7 +38,7 @@ functions_accepted w r f h d places =
     places refl
 
 pub functions_continue : FunctionsContinue
-functions_continue w r f h unstarted d =
+functions_continue w r f h calls unstarted d =
     let p = calculated_for w r f in
     subst (Continues w) (sym (applied_ends w r p None None))
-    (ended_continues w r p None None (unique 1 w.nodes w.records (reached_is_consistent w h.reached).numbered) h.found (ap has_ended h.created) unstarted)
+    (ended_continues w r p None None (reached_is_consistent w h.reached) calls h.found (ap has_ended h.created) unstarted)

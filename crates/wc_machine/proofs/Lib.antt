@@ -7,6 +7,7 @@ pub mod Upward
 pub mod EmptyWorld
 pub mod OneMore
 pub mod OneMoreCreated
+pub mod SubmittedAddition
 pub mod SubmittedInputs
 pub mod OneMorePlaced
 pub mod OneMoreMeaning
@@ -14,6 +15,9 @@ pub mod SubmittedSound
 pub mod AcceptedEnds
 pub mod CalculatedOutputs
 pub mod ContinuedEnds
+pub mod Untouched
+pub mod EndedTrees
+pub mod EndedContinues
 pub mod CreatedOutputs
 pub mod EndedWorlds
 pub mod Endings
@@ -24,3 +28,4 @@ pub mod FunctionSoundness
 pub mod FunctionTrees
 pub mod FunctionWorlds
 pub mod SoundFunctions
+pub mod FittingAnswers

@@ -2,42 +2,38 @@
 use Rattle.std.proofs.Common.{ℕ, List, [], ◌∷◌, get_or, refl, sym, ap, ◌∙◌, subst, arith}
 use Rattle.wc_syntax.specs.declared.definition.Definition.{Definition}
 use Rattle.wc_calculation.specs.Rules.{Values}
-use Rattle.wc_state.specs.declared.record.ProcessRecord.{ProcessRecord}
 use Rattle.wc_world.specs.World.{World}
 use Rattle.wc_world.specs.Applied.{applied}
 use Rattle.wc_world.specs.Consistent.{IsConsistent}
-use Rattle.wc_world.proofs.ReachedLists.{find_grown, unique, AreUnique}
+use Rattle.wc_world.proofs.ReachedLists.{unique, AreUnique}
 use Rattle.wc_world.proofs.ReachedWorlds.{reached_is_consistent}
-use Rattle.wc_machine.specs.Continues.{Carries, Continues}
+use Rattle.wc_machine.specs.Continues.{Continues}
 use Rattle.wc_machine.specs.Laws.{SubmissionsContinue}
-use Rattle.wc_machine.proofs.Submitted.{new_nodes, new_links, new_record, submitted_world, submission_gives}
-
--- a record carries over to itself
-pub carries_itself : (r : ProcessRecord) → Carries r r
-carries_itself r = record {
-  node = refl;
-  kind = refl;
-  definition = refl;
-  library = refl;
-  depth = refl;
-  label = refl;
-  caching = refl;
-  started = λ h. (refl, refl);
-  ended = λ h. refl;
-}
+use Rattle.wc_machine.proofs.ContinuedEnds.{carried_itself}
+use Rattle.wc_machine.proofs.OneMore.{grown, found_again, inputs_kept, number_within, recorded_tree_kept}
+use Rattle.wc_machine.proofs.Submitted.{submission_gives}
+use Rattle.wc_machine.proofs.SubmittedAddition.{addition}
 
 world_continues : (w : World) (library : List Definition) (caching : List (List ℕ)) (name : List ℕ) (inputs : Values) (d : Definition) → IsConsistent w
-    → Continues w (submitted_world w library caching name inputs d)
-world_continues w library caching name inputs d h = record {
-  libraries = ((library, caching) ∷ [], refl);
-  nodes = (new_nodes w library caching name inputs d, refl);
-  links = (new_links w library caching name inputs d, refl);
-  batches = omega arith;
-  records = λ i e lt.
-      let r = get_or w.records i e in
-      let there : AreUnique w.records = unique 1 w.nodes w.records h.numbered in
-      (r, find_grown r.node w.records (new_record w library caching name inputs d ∷ []) r (there i e lt), carries_itself r);
-}
+    → Continues w (grown w (addition w library caching name inputs d))
+world_continues w library caching name inputs d h =
+    let add = addition w library caching name inputs d in
+    let there : AreUnique w.records = unique 1 w.nodes w.records h.numbered in
+    record {
+      libraries = ((library, caching) ∷ [], refl);
+      nodes = (add.nodes, refl);
+      links = (add.links, refl);
+      batches = omega arith;
+      records = λ i e lt.
+          let r = get_or w.records i e in
+          (r, found_again w h add r.node r (there i e lt), carried_itself r);
+      inputs = λ i e lt.
+          let r = get_or w.records i e in
+          inputs_kept w h add r.node (number_within w h add r.node r (there i e lt));
+      trees = λ i e lt over.
+          let r = get_or w.records i e in
+          recorded_tree_kept w h add r.node (number_within w h add r.node r (there i e lt));
+    }
 
 pub submissions_continue : SubmissionsContinue
 submissions_continue w library caching name inputs cs reached s =

@@ -29,10 +29,10 @@ use Rattle.wc_machine.proofs.OneMore.{Addition, added, grown, stands, every}
 use Rattle.wc_machine.proofs.OneMoreCreated.{created_kept}
 use Rattle.wc_machine.proofs.OneMoreMeaning.{function_is_created, fresh_on_track, meant_stays, fresh_stays}
 use Rattle.wc_machine.proofs.OneMorePlaced.{fuel_kept, fitting_kept, placed_kept, placed_new, calls_kept, calls_new, awaits_kept, names_kept}
-use Rattle.wc_machine.proofs.Submitted.{linked, new_process, new_nodes, new_links, new_definition, submission_gives}
+use Rattle.wc_machine.proofs.Submitted.{linked, new_nodes, new_links, new_definition, submission_gives}
 use Rattle.wc_machine.proofs.SubmittedAccepted.{inputs_are}
+use Rattle.wc_machine.proofs.SubmittedAddition.{addition}
 use Rattle.wc_machine.proofs.SubmittedInputs.{inputs_gathered}
-use Rattle.wc_machine.proofs.SubmittedLinks.{linked_no_output, linked_no_calls, linked_no_input}
 use Rattle.wc_machine.proofs.Upward.{upward_is_acyclic}
 
 abbrev IsPlainFunctionRecord : ProcessRecord → Type 0
@@ -50,36 +50,23 @@ no_caching : (v w : World) (r : ProcessRecord) → r.caching ≡ false → Keeps
 no_caching v w r off k = ((λ is on started. absurd (cc (off, on))), k.1, k.2, k.3)
 
 module _ (w : World) (library : List Definition) (caching : List (List ℕ)) (name : List ℕ) (inputs : Values) (d : Definition) where
-  abbrev pub addition : Addition w
-  addition =
-      let k : ProcessKind = kind_of_definition d in
-      let number : ℕ = submitted_number w inputs in
-      record {
-        nodes = new_nodes w library caching name inputs d;
-        links = new_links w library caching name inputs d;
-        number = number;
-        process = new_process w library caching name inputs d;
-        libraries = (library, caching) ∷ [];
-        batches = w.batches + 1;
-        beyond = omega arith;
-        outputs = λ q. linked_no_output k (length w.nodes + 1) number q inputs;
-        calls = linked_no_calls k (length w.nodes + 1) number inputs;
-        inputs = λ q ne. linked_no_input (input_link k) (length w.nodes + 1) number q inputs ne;
-      }
+  -- what is added
+  abbrev more : Addition w
+  more = addition w library caching name inputs d
 
   module _ (h : IsSound w) (only : OnlyFunctions w) (there : definition_named name library ≡ Some d) (is_function : kind_of_definition d ≡ kind.Function)
       (uncached : is_among name caching ≡ false) (ascend : Ascends inputs) (takes : bad_input (head_of d).inputs inputs ≡ None) (checked : IsKeptLibrary library)
-      (consistent : IsConsistent (grown w addition)) where
-    new_inputs : recorded_inputs (grown w addition) (submitted_number w inputs) ≡ inputs
+      (consistent : IsConsistent (grown w more)) where
+    new_inputs : recorded_inputs (grown w more) (submitted_number w inputs) ≡ inputs
     new_inputs =
         inputs_gathered (kind_of_definition d) w.nodes (new_nodes w library caching name inputs d) w.links (length w.nodes + 1) (submitted_number w inputs) inputs
         (omega arith) h.consistent.links.ends (inputs_are w h.consistent library caching name inputs d there) ascend
 
-    new_fits : IsFitting (grown w addition) (added w addition)
+    new_fits : IsFitting (grown w more) (added w more)
     new_fits =
-        let is : its_definition (grown w addition) (added w addition) ≡ Some d = new_definition w library caching name inputs d ∙ there in
+        let is : its_definition (grown w more) (added w more) ≡ Some d = new_definition w library caching name inputs d ∙ there in
         record {
-          inputs = subst (TakesItsInputs (grown w addition) (added w addition)) (sym is) (ap (bad_input (head_of d).inputs) new_inputs ∙ takes);
+          inputs = subst (TakesItsInputs (grown w more) (added w more)) (sym is) (ap (bad_input (head_of d).inputs) new_inputs ∙ takes);
           request = λ e. absurd (cc e);
           code = λ e. refl;
           source = λ e. refl;
@@ -91,29 +78,29 @@ module _ (w : World) (library : List Definition) (caching : List (List ℕ)) (na
     function_of : (r : ProcessRecord) → find_record r.node w.records ≡ Some r → IsPlainFunctionRecord r
     function_of r found = found_has IsPlainFunctionRecord r.node w.records r found only
 
-    live_stays : (r : ProcessRecord) → find_record r.node w.records ≡ Some r → has_ended r.state ≡ false → IsOnTrack (grown w addition) r
+    live_stays : (r : ProcessRecord) → find_record r.node w.records ≡ Some r → has_ended r.state ≡ false → IsOnTrack (grown w more) r
     live_stays r found alive =
-        let s : Stands w r = stands w h.consistent addition r.node r found in
+        let s : Stands w r = stands w h.consistent more r.node r found in
         let fits : part_fits kind.Function r.state r.part ≡ true
         = ap (λ (k : ProcessKind). part_fits k r.state r.part) (sym (function_of r found).0) ∙ s.part in
         let fresh = function_is_created r.state r.part fits alive in
-        fresh_stays w h.consistent addition r found fresh.1 fresh.0 (found_has (λ x. has_ended x.state ≡ false → IsOnTrack w x) r.node w.records r found h.live alive)
+        fresh_stays w h.consistent more r found fresh.1 fresh.0 (found_has (λ x. has_ended x.state ≡ false → IsOnTrack w x) r.node w.records r found h.live alive)
 
-    upward : All GoesUp (grown w addition).links
+    upward : All GoesUp (grown w more).links
     upward =
         All-append GoesUp w.links (new_links w library caching name inputs d) h.upward
         (linked_up (input_link (kind_of_definition d)) (length w.nodes + 1) (submitted_number w inputs) inputs (omega arith))
 
-    sources : KeepsCacheRule (grown w addition)
+    sources : KeepsCacheRule (grown w more)
     sources =
-        let v = grown w addition in
-        every w h.consistent addition (KeepsRule v)
+        let v = grown w more in
+        every w h.consistent more (KeepsRule v)
         (λ r found. no_caching v w r (function_of r found).1 (found_has (KeepsRule w) r.node w.records r found h.sources))
         ((λ is on started. absurd (cc (uncached, on))), (λ e. refl), (λ e. refl), (λ e. refl))
 
-    pub grown_is_sound : IsSound (grown w addition)
+    pub grown_is_sound : IsSound (grown w more)
     grown_is_sound =
-        let v = grown w addition in
+        let v = grown w more in
         let c : IsConsistent w = h.consistent in
         record {
           consistent = consistent;
@@ -121,31 +108,31 @@ module _ (w : World) (library : List Definition) (caching : List (List ℕ)) (na
           links = consistent.links;
           acyclic = upward_is_acyclic v.links upward;
           upward = upward;
-          created = created_kept w c addition h.created;
+          created = created_kept w c more h.created;
           sources = sources;
-          records = every w c addition (IsFitting v) (λ r found. fitting_kept w c addition r found (found_has (IsFitting w) r.node w.records r found h.records)) new_fits;
+          records = every w c more (IsFitting v) (λ r found. fitting_kept w c more r found (found_has (IsFitting w) r.node w.records r found h.records)) new_fits;
           placed =
-              every w c addition (IsPlaced v) (λ r found. placed_kept w c addition r (found_has (IsPlaced w) r.node w.records r found h.placed))
-              (placed_new w c addition refl refl);
+              every w c more (IsPlaced v) (λ r found. placed_kept w c more r (found_has (IsPlaced w) r.node w.records r found h.placed))
+              (placed_new w c more refl refl);
           calls =
-              every w c addition (CallsAreKept v) (λ r found. calls_kept w c addition r (found_has (CallsAreKept w) r.node w.records r found h.calls))
-              (calls_new w c addition);
+              every w c more (CallsAreKept v) (λ r found. calls_kept w c more r (found_has (CallsAreKept w) r.node w.records r found h.calls))
+              (calls_new w c more);
           awaits =
-              every w c addition (λ r. AwaitsLastCalls v r r.part)
-              (λ r found. awaits_kept w c addition r r.part (found_has (λ x. AwaitsLastCalls w x x.part) r.node w.records r found h.awaits)) tt;
+              every w c more (λ r. AwaitsLastCalls v r r.part)
+              (λ r found. awaits_kept w c more r r.part (found_has (λ x. AwaitsLastCalls w x x.part) r.node w.records r found h.awaits)) tt;
           names =
-              every w c addition (λ r. NamesKnown v r r.part)
-              (λ r found. names_kept w c addition r r.part (found_has (λ x. NamesKnown w x x.part) r.node w.records r found h.names)) tt;
-          live = every w c addition (λ r. has_ended r.state ≡ false → IsOnTrack v r) live_stays (λ e. fresh_on_track v (added w addition) refl refl refl);
+              every w c more (λ r. NamesKnown v r r.part)
+              (λ r found. names_kept w c more r r.part (found_has (λ x. NamesKnown w x x.part) r.node w.records r found h.names)) tt;
+          live = every w c more (λ r. has_ended r.state ≡ false → IsOnTrack v r) live_stays (λ e. fresh_on_track v (added w more) refl refl refl);
           ended =
-              every w c addition (λ r. has_ended r.state ≡ true → IsMeant v r)
-              (λ r found over. meant_stays w c addition r found (found_has (λ x. has_ended x.state ≡ true → IsMeant w x) r.node w.records r found h.ended over))
+              every w c more (λ r. has_ended r.state ≡ true → IsMeant v r)
+              (λ r found over. meant_stays w c more r found (found_has (λ x. has_ended x.state ≡ true → IsMeant w x) r.node w.records r found h.ended over))
               (λ over. absurd (cc over));
-          fuel = fuel_kept w c addition h.fuel refl;
+          fuel = fuel_kept w c more h.fuel refl;
         }
 
-    pub grown_has_functions : OnlyFunctions (grown w addition)
-    grown_has_functions = All-push IsPlainFunctionRecord w.records (added w addition) only (is_function, uncached)
+    pub grown_has_functions : OnlyFunctions (grown w more)
+    grown_has_functions = All-push IsPlainFunctionRecord w.records (added w more) only (is_function, uncached)
 
 same_definition : (o : Option Definition) (d e : Definition) → o ≡ Some d → o ≡ Some e → d ≡ e
 same_definition o d e p q = cc

@@ -1,5 +1,6 @@
--- Laws of the machine on worlds of functions that take no other's outcome.
-use Rattle.std.specs.Prelude.{◌≡◌, ℕ, ◌+◌, ◌<◌, ◌≤◌, true, false, List, length, All, Some, None}
+-- Laws of the machine, most of them on worlds of functions that take no other's outcome.
+use Rattle.std.specs.Prelude.{◌≡◌, ◌↔◌, ◌⊎◌, ℕ, ◌+◌, ◌<◌, ◌≤◌, true, false, List, length, All, Some, None}
+use Rattle.wc_value.specs.declared.process.JobResult.{JobResult}
 use Rattle.wc_value.specs.declared.process.ProcessState.TheVariants as state
 use Rattle.wc_syntax.specs.Findings.{definition_named, is_among}
 use Rattle.wc_syntax.specs.declared.definition.Definition.{Definition}
@@ -8,18 +9,26 @@ use Rattle.wc_syntax.specs.declared.definition.Function.{Function}
 use Rattle.wc_calculation.specs.Outcomes.{calculated}
 use Rattle.wc_calculation.specs.Rules.{Values}
 use Rattle.wc_calculation.specs.declared.outcomes.Parsed.{Parsed}
+use Rattle.wc_state.specs.declared.record.JobPart.{JobPart}
 use Rattle.wc_state.specs.declared.record.ProcessKind.TheVariants as kind
 use Rattle.wc_state.specs.declared.record.ProcessRecord.{ProcessRecord}
+use Rattle.wc_state.specs.declared.record.Task.TheVariants as task
 use Rattle.wc_world.specs.declared.change.Change.{Change}
 use Rattle.wc_world.specs.World.{World, empty}
 use Rattle.wc_world.specs.Accepted.{IsAccepted, IsReached}
 use Rattle.wc_world.specs.Applied.{applied}
+use Rattle.wc_world.specs.Consistent.{IsConsistent}
 use Rattle.wc_world.specs.Records.{find_record, is_calculation}
+use Rattle.wc_machine.specs.declared.answer.TaskAnswer.{TaskAnswer}
+use Rattle.wc_machine.specs.declared.answer.TaskAnswer.TheVariants as answer
+use Rattle.wc_machine.specs.Asking.{need, fits, fits_task}
 use Rattle.wc_machine.specs.Continues.{Continues}
 use Rattle.wc_machine.specs.Ending.{ends}
 use Rattle.wc_machine.specs.Recorded.{its_definition, recorded_inputs}
-use Rattle.wc_machine.specs.Sound.{IsSound}
+use Rattle.wc_machine.specs.Sound.{CallsAreKept, IsSound}
 use Rattle.wc_machine.specs.Submitting.{Submits, submitted_number}
+use Rattle.wc_machine.specs.Tasks.{Moved, after}
+use Rattle.wc_machine.specs.Turning.{TurnGives}
 
 -- every process is a function without caching
 abbrev pub OnlyFunctions : World → Type 0
@@ -69,9 +78,10 @@ abbrev pub FunctionsAreAccepted : Type 0
 FunctionsAreAccepted = (w : World) (r : ProcessRecord) (f : Function) → IsCreatedCalculation w r → its_definition w r ≡ Some (definition.Function f)
     → HasPlaces w (length w.nodes + length (calculated_for w r f).outputs) → IsAccepted w (ends w r (calculated_for w r f) None None)
 
+-- The function hasn't started, and what an ended process of the world has called has ended: so no tree of one changes.
 abbrev pub FunctionsContinue : Type 0
-FunctionsContinue = (w : World) (r : ProcessRecord) (f : Function) → IsCreatedCalculation w r → r.started ≡ 0 → its_definition w r ≡ Some (definition.Function f)
-    → Continues w (applied w (ends w r (calculated_for w r f) None None))
+FunctionsContinue = (w : World) (r : ProcessRecord) (f : Function) → IsCreatedCalculation w r → All (CallsAreKept w) w.records → r.started ≡ 0
+    → its_definition w r ≡ Some (definition.Function f) → Continues w (applied w (ends w r (calculated_for w r f) None None))
 
 abbrev pub FunctionsKeepSound : Type 0
 FunctionsKeepSound = (w : World) (r : ProcessRecord) (f : Function) → IsCreatedCalculation w r → its_definition w r ≡ Some (definition.Function f)
@@ -82,3 +92,15 @@ FunctionsKeepSound = (w : World) (r : ProcessRecord) (f : Function) → IsCreate
 
 abbrev pub EmptyIsSound : Type 0
 EmptyIsSound = IsSound empty
+
+-- ---- answers
+
+-- An answer to a task moves a job, or is a result that is retrieved, exactly where it fits.
+abbrev pub FittingAnswersLead : Type 0
+FittingAnswersLead = (j : JobPart) (a : TaskAnswer) (now poll : ℕ)
+    → (fits_task j.task a ≡ true) ↔ (((m : Moved) × (after j a now poll j.task ≡ Some m)) ⊎ ((j.task ≡ task.Retrieve) × ((r : JobResult) × (a ≡ answer.Result r))))
+
+-- In a consistent world a turn is one with an answer that fits what the process asks.
+abbrev pub TurnsFitNeeds : Type 0
+TurnsFitNeeds = (poll now : ℕ) (w : World) (r : ProcessRecord) (a : TaskAnswer) (cs : List Change) → IsConsistent w → find_record r.node w.records ≡ Some r
+    → TurnGives poll now w r a cs → fits (need w r) a ≡ true

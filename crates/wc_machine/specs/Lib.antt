@@ -1,6 +1,6 @@
-pub mod Continues
 pub mod Paths
 pub mod Recorded
+pub mod Continues
 pub mod Created
 pub mod Sources
 pub mod Agreeing
@@ -15,6 +15,7 @@ pub mod Stepping
 pub mod Advancing
 pub mod Calling
 pub mod Turning
+pub mod Asking
 pub mod Killing
 pub mod Machine
 pub mod Laws

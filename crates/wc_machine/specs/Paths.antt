@@ -1,5 +1,5 @@
 -- Call paths in a world, and the kills along them.
-use Rattle.std.specs.Prelude.{ℕ, ◌&&◌, if◌then◌else◌, List, [], ◌∷◌, Option, Some, None, option_and_then}
+use Rattle.std.specs.Prelude.{ℕ, ◌&&◌, if◌then◌else◌, List, [], ◌∷◌, Option, Some, None, option_and_then, filter}
 use Rattle.std.specs.Str.{bytes_eq}
 use Rattle.wc_graph.specs.declared.link.Link.{Link}
 use Rattle.wc_run.specs.Tables.{Label, Path, Kills}
@@ -18,6 +18,10 @@ called_under (l ∷ ls) pid label = if is_call_from pid l && bytes_eq l.label la
 abbrev pub follow : List Link → ℕ → Path → Option ℕ
 follow links pid [] = Some pid
 follow links pid (label ∷ path) = option_and_then (λ q. follow links q path) (called_under links pid label)
+
+-- the call links of a process, in order
+abbrev pub call_links : World → ℕ → List Link
+call_links w pid = filter (is_call_from pid) w.links
 
 -- how many processes a killed one had called
 abbrev pub cut_after : World → ProcessRecord → Option ℕ

@@ -29,9 +29,9 @@ use Rattle.wc_state.specs.declared.record.Part.TheVariants as part
 use Rattle.wc_state.specs.declared.record.ProcessRecord.{ProcessRecord}
 use Rattle.wc_world.specs.World.{World}
 use Rattle.wc_world.specs.Records.{find_record, library_at, is_call_from}
-use Rattle.wc_world.specs.Trees.{branches, tree_within, environment_at, value_of}
+use Rattle.wc_world.specs.Trees.{branches, recorded_tree, environment_at, value_of}
 use Rattle.wc_machine.specs.Outlines.{blocks, left}
-use Rattle.wc_machine.specs.Paths.{kills}
+use Rattle.wc_machine.specs.Paths.{call_links, kills}
 use Rattle.wc_machine.specs.Recorded.{its_definition, recorded_inputs}
 use Rattle.wc_machine.specs.Agreeing.{Agrees}
 
@@ -90,10 +90,13 @@ progress_with (Some env) None calls = None
 progress_with (Some env) (Some outputs) None = None
 progress_with (Some env) (Some outputs) (Some calls) = Some (record { env = env; outputs = outputs; calls = map as_call calls })
 
+-- the recorded trees of the calls that are bound, which are its first; the others, which it awaits, may still change
+abbrev pub bound_trees : World → ProcessRecord → Checkpoint → Option (List (Label × Tree))
+bound_trees w r c = branches (recorded_tree w) r.node (take (bound_calls c) (call_links w r.node))
+
 -- its environment, the outputs that were set, and the recorded trees of the calls that are bound
 abbrev pub progress_of : World → ProcessRecord → Checkpoint → Option Progress
-progress_of w r c =
-    progress_with (option_map env_alone (environment_at w r.node)) (set_values w c.outputs) (option_map (take (bound_calls c)) (branches (tree_within 16 w) r.node w.links))
+progress_of w r c = progress_with (option_map env_alone (environment_at w r.node)) (set_values w c.outputs) (bound_trees w r c)
 
 abbrev pub planned_of : World → Await → Option ProcessRecord → Option Planned
 planned_of w a None = None
@@ -160,6 +163,6 @@ pub record IsOnTrack (w : World) (r : ProcessRecord) : Type 0 where
   pub comes : (table : Table) (cuts : Kills) → Agrees table w r.node → FitKills cuts w r → (n : ℕ) (t : Tree)
       → GivesTree (meant w r table cuts n) t → (m : ℕ) × GivesTree (rest w table cuts None m r) t
   pub cut : (table : Table) → Agrees table w r.node → r.state ≡ state.Running → (c : Checkpoint) → r.part ≡ part.Chain c → 0 < c.calls
-      → (calls : List (Label × Tree)) × (branches (tree_within 16 w) r.node w.links ≡ Some calls)
+      → (calls : List (Label × Tree)) × (branches (recorded_tree w) r.node w.links ≡ Some calls)
       × ((t : Tree) × GivesTree (meant w r table (with_stop (kills w r.node) (Some c.calls)) r.fuel) t
       × ((out-Tree t).state ≡ state.Killed) × ((out-Tree t).calls ≡ calls))

@@ -1,5 +1,5 @@
 -- Sound worlds.
-use Rattle.std.specs.Prelude.{◌≡◌, ◌≢◌, ◌⊎◌, ℕ, suc, ◌+◌, ◌<◌, ◌≤◌, ◌==◌, Bool, true, false, not, ◌&&◌, ◌||◌, if◌then◌else◌, List, [], ◌∷◌, All, Option, Some, None, length, map, filter, drop}
+use Rattle.std.specs.Prelude.{◌≡◌, ◌≢◌, ◌⊎◌, ℕ, suc, ◌+◌, ◌<◌, ◌≤◌, ◌==◌, Bool, true, false, not, ◌&&◌, ◌||◌, if◌then◌else◌, List, [], ◌∷◌, All, Option, Some, None, length, map, drop}
 use Rattle.std.specs.List.{list_any}
 use Rattle.wc_value.specs.Ascending.{Ascends}
 use Rattle.wc_value.specs.declared.process.ProcessState.TheVariants as state
@@ -23,10 +23,10 @@ use Rattle.wc_state.specs.declared.record.Part.{Part}
 use Rattle.wc_state.specs.declared.record.Part.TheVariants as part
 use Rattle.wc_state.specs.declared.record.ProcessRecord.{ProcessRecord}
 use Rattle.wc_world.specs.World.{World}
-use Rattle.wc_world.specs.Records.{find_record, has_ended, has_called, is_call_from, is_output_of, is_input_of, calls}
+use Rattle.wc_world.specs.Records.{find_record, has_ended, has_called, is_output_of, is_input_of, calls}
 use Rattle.wc_world.specs.Trees.{recorded_tree}
 use Rattle.wc_world.specs.Consistent.{IsConsistent}
-use Rattle.wc_machine.specs.Paths.{kills}
+use Rattle.wc_machine.specs.Paths.{call_links, kills}
 use Rattle.wc_machine.specs.Recorded.{its_definition, recorded_inputs, recorded_request}
 use Rattle.wc_machine.specs.Created.{IsCreatedByInputs}
 use Rattle.wc_machine.specs.Submitting.{IsKeptLibrary}
@@ -90,10 +90,6 @@ pub record IsFitting (w : World) (r : ProcessRecord) : Type 0 where
   pub outputs : OutputsAscend r.part
 
 -- ---- calls
-
--- the call links of a process, in order
-abbrev pub call_links : World → ℕ → List Link
-call_links w pid = filter (is_call_from pid) w.links
 
 -- each call has a label of its own number, where the first has this one
 abbrev pub AreNumbered : ℕ → List Link → Type 0

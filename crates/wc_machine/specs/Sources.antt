@@ -46,7 +46,8 @@ IsLowestSource w batch p (Some source) =
     ((q : ProcessRecord) × (find_record source w.records ≡ Some q) × IsSourceFor w batch p q)
     × All (λ q. q.node < source → ¬ IsSourceFor w batch p q) w.records
 
--- a calculation with caching on that has started took the lowest source; any other process none
+-- A calculation with caching on that has started took the lowest source, and one with caching off took none: that is the cache rule. The
+-- last two parts are more than it says: what hasn't started, and what is no calculation, took none.
 abbrev pub KeepsRule : World → ProcessRecord → Type 0
 KeepsRule w r =
     (is_calculation r.kind ≡ true → r.caching ≡ true → r.started ≢ 0 → IsLowestSource w r.started r r.cached_from)

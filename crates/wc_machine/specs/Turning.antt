@@ -47,7 +47,8 @@ StandsAt state.Created part.Fresh c = c ≡ first
 StandsAt state.Running (part.Chain d) c = c ≡ d
 StandsAt _ _ c = ⊥
 
--- The changes of a turn of a ready process, at a moment, with what the transport answered.
+-- The changes of a turn of a ready process, at a moment, with what the transport answered. In a consistent world there is at most one such
+-- list: there only a created process has the part of one, and the kind of a process is that of its definition. Elsewhere several cases may fit.
 pub data TurnGives (poll now : ℕ) (w : World) (r : ProcessRecord) : TaskAnswer → List Change → Type 0 where
   -- a function is evaluated, and ends
   calculates : (f : Function) → its_definition w r ≡ Some (definition.Function f) → r.state ≡ state.Created → TakesSource w r None

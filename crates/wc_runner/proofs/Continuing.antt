@@ -1,13 +1,15 @@
 -- A world continues itself, and what it continues continues.
-use Rattle.std.proofs.Common.{◌≡◌, true, List, [], ◌++◌, get_or, Some, sym, ap, subst, ◌∙◌, append_assoc, append-nil, arith}
+use Rattle.std.proofs.Common.{◌≡◌, true, List, [], ◌++◌, get_or, Some, refl, sym, ap, subst, ◌∙◌, append_assoc, append-nil, arith}
 use Rattle.std.specs.Prelude.{All}
 use Rattle.wc_state.specs.declared.record.ProcessRecord.{ProcessRecord}
 use Rattle.wc_world.specs.World.{World}
 use Rattle.wc_world.specs.Records.{find_record, has_ended}
+use Rattle.wc_world.specs.Trees.{recorded_tree}
 use Rattle.wc_world.proofs.FoundRecords.{found_holds}
 use Rattle.wc_world.proofs.ReachedLists.{unique}
 use Rattle.wc_world.proofs.ReachedWorlds.{reached_is_consistent}
 use Rattle.wc_machine.specs.Continues.{Begins, Carries}
+use Rattle.wc_machine.specs.Recorded.{recorded_inputs}
 use Rattle.wc_machine.proofs.ContinuedEnds.{carried_itself}
 use Rattle.wc_runner.specs.Laws.{WorldsContinueThemselves, ContinuingGoesOn}
 
@@ -45,6 +47,8 @@ continues_itself w reached = record {
   records = λ i d lt.
       let r = get_or w.records i d in
       (r, unique 1 w.nodes w.records (reached_is_consistent w reached).numbered i d lt, carried_itself r);
+  inputs = λ i d lt. refl;
+  trees = λ i d lt over. refl;
 }
 
 -- a process of the first world stands in the last
@@ -56,6 +60,23 @@ stands_on v w all r h =
     let next : StandsIn w h.0 = found_holds (StandsIn w) r.node v.records h.0 all h.1 in
     (next.0, subst (λ (n : _). find_record n w.records ≡ Some next.0) h.2.node next.1, carries_on r h.0 next.0 h.2 next.2)
 
+-- a process that stands in the middle world has the same inputs in the last one
+inputs_on : (v w : World) → All (λ r. recorded_inputs w r.node ≡ recorded_inputs v r.node) v.records → (r : ProcessRecord) → StandsIn v r
+    → recorded_inputs w r.node ≡ recorded_inputs v r.node
+inputs_on v w all r h =
+    let next : recorded_inputs w h.0.node ≡ recorded_inputs v h.0.node
+    = found_holds (λ s. recorded_inputs w s.node ≡ recorded_inputs v s.node) r.node v.records h.0 all h.1 in
+    subst (λ (n : _). recorded_inputs w n ≡ recorded_inputs v n) h.2.node next
+
+-- and, where it has ended, the same tree
+tree_on : (v w : World) → All (λ r. has_ended r.state ≡ true → recorded_tree w r.node ≡ recorded_tree v r.node) v.records → (r : ProcessRecord) → StandsIn v r
+    → has_ended r.state ≡ true → recorded_tree w r.node ≡ recorded_tree v r.node
+tree_on v w all r h over =
+    let still : has_ended h.0.state ≡ true = ap (λ (x : ProcessRecord). has_ended x.state) (h.2.ended over) ∙ over in
+    let next : recorded_tree w h.0.node ≡ recorded_tree v h.0.node
+    = found_holds (λ s. has_ended s.state ≡ true → recorded_tree w s.node ≡ recorded_tree v s.node) r.node v.records h.0 all h.1 still in
+    subst (λ (n : _). recorded_tree w n ≡ recorded_tree v n) h.2.node next
+
 pub continues_on : ContinuingGoesOn
 continues_on u v w a b = record {
   libraries = begins_on u.libraries v.libraries w.libraries a.libraries b.libraries;
@@ -63,4 +84,6 @@ continues_on u v w a b = record {
   links = begins_on u.links v.links w.links a.links b.links;
   batches = omega (arith, a.batches, b.batches);
   records = λ i d lt. stands_on v w b.records (get_or u.records i d) (a.records i d lt);
+  inputs = λ i d lt. inputs_on v w b.inputs (get_or u.records i d) (a.records i d lt) ∙ a.inputs i d lt;
+  trees = λ i d lt over. tree_on v w b.trees (get_or u.records i d) (a.records i d lt) over ∙ a.trees i d lt over;
 }

@@ -52,7 +52,7 @@ sound_on w v sound only e =
     record {
       sound = subst IsSound (sym e.after) kept.0;
       functions = subst OnlyFunctions (sym e.after) kept.1;
-      continues = subst (Continues w) (sym e.after) (functions_continue w r e.function e.created (fits.started e.created.created) e.runs);
+      continues = subst (Continues w) (sym e.after) (functions_continue w r e.function e.created sound.calls (fits.started e.created.created) e.runs);
       reached = reached_after w v e;
     }
 

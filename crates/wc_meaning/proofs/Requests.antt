@@ -43,7 +43,7 @@ files_itself [] = refl
 files_itself (f ∷ fs) = both (bytes_eq f.0 f.0 && bytes_eq f.1 f.1) (files_eq fs fs)
     (both (bytes_eq f.0 f.0) (bytes_eq f.1 f.1) ((bytes_eq-Decides f.0 f.0).1 refl) ((bytes_eq-Decides f.1 f.1).1 refl)) (files_itself fs)
 
-request_same : (q r : Request) → request_eq q r ≡ true → q ≡ r
+pub request_same : (q r : Request) → request_eq q r ≡ true → q ≡ r
 request_same q r h =
     let a = bytes_eq q.program r.program in
     let b = texts_eq q.args r.args in
@@ -58,7 +58,7 @@ request_same q r h =
       fetch = texts_same q.fetch r.fetch (right c d last) i;
     }
 
-request_itself : (q : Request) → request_eq q q ≡ true
+pub request_itself : (q : Request) → request_eq q q ≡ true
 request_itself q = both (bytes_eq q.program q.program) _ ((bytes_eq-Decides q.program q.program).1 refl)
     (both (texts_eq q.args q.args) _ (texts_itself q.args) (both (files_eq q.files q.files) _ (files_itself q.files) (texts_itself q.fetch)))
 

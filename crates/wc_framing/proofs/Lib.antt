@@ -1,0 +1,4 @@
+pub mod Blind
+pub mod Unnumbered
+pub mod CalledLabels
+pub mod Touched

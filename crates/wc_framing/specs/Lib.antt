@@ -1,0 +1,3 @@
+pub mod Instead
+pub mod Touching
+pub mod Laws

@@ -1,0 +1,43 @@
+-- Events that touch one process.
+use Rattle.std.specs.Prelude.{◌≡◌, ◌≢◌, ◌⊎◌, ℕ, ◌<◌, ◌≤◌, true, false, List, ◌++◌, length, All, Some}
+use Rattle.wc_graph.specs.declared.link.Link.{Link}
+use Rattle.wc_graph.specs.declared.node.NodeKind.{NodeKind}
+use Rattle.wc_state.specs.declared.record.ProcessRecord.{ProcessRecord}
+use Rattle.wc_run.specs.Tables.{Path}
+use Rattle.wc_world.specs.World.{World}
+use Rattle.wc_world.specs.Records.{find_record, has_ended, takes_input, is_call_from, is_output_of}
+use Rattle.wc_world.specs.Trees.{recorded_tree}
+use Rattle.wc_machine.specs.Continues.{Begins}
+use Rattle.wc_machine.specs.Paths.{kills}
+use Rattle.wc_machine.specs.Recorded.{recorded_inputs, recorded_outputs}
+use Rattle.wc_machine.specs.Sound.{IsMeant}
+
+-- A link that an event adds for a process: to an output of it, or, where the node at its target is new, as a call from it or as an input.
+abbrev pub AddsFor : List NodeKind → ℕ → Link → Type 0
+AddsFor nodes pid l =
+    (is_output_of pid l ≡ true)
+    ⊎ ((is_call_from pid l ≡ true) × (length nodes < l.target))
+    ⊎ ((takes_input l.link ≡ true) × (length nodes < l.target))
+
+-- The world w is v after an event that touches this process alone, or makes it: lists grow, each new link is for the process, and each other
+-- record stays.
+pub record Touches (v w : World) (pid : ℕ) : Type 0 where
+  pub libraries : Begins v.libraries w.libraries
+  pub nodes : Begins v.nodes w.nodes
+  pub new : List Link
+  pub links : w.links ≡ v.links ++ new
+  pub added : All (AddsFor v.nodes pid) new
+  pub records : (q : ℕ) → pid ≢ q → q ≤ length v.nodes → find_record q w.records ≡ find_record q v.records
+
+-- the process hasn't ended, or isn't there yet
+abbrev pub MayBeTouched : World → ℕ → Type 0
+MayBeTouched w pid = (r : ProcessRecord) → find_record pid w.records ≡ Some r → has_ended r.state ≡ false
+
+-- What has ended has its record, inputs, outputs, tree and kills as before, and is meant.
+pub record StaysEnded (v w : World) (r : ProcessRecord) : Type 0 where
+  pub found : find_record r.node w.records ≡ Some r
+  pub inputs : recorded_inputs w r.node ≡ recorded_inputs v r.node
+  pub outputs : recorded_outputs w r.node ≡ recorded_outputs v r.node
+  pub tree : recorded_tree w r.node ≡ recorded_tree v r.node
+  pub kills : (path : Path) → kills w r.node path ≡ kills v r.node path
+  pub meant : IsMeant w r

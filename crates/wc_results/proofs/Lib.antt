@@ -1,0 +1,4 @@
+pub mod WellKept
+pub mod FoundResults
+pub mod PlainTables
+pub mod OneMeaning

@@ -1,0 +1,24 @@
+//! Laws of recorded results and of agreeing tables.
+ghost use Rattle.wc_results.specs.Laws.{ResultsAreFound, OneResult, KilledHaveNoResult, ItsTableAgrees, PlainTablesExactly, OneMeaning};
+
+/// A process of a sound world has at most one recorded result, which a function finds; a killed one has none.
+pub fn one_result()
+    ensures found { ResultsAreFound }
+    ensures one { OneResult }
+    ensures killed { KilledHaveNoResult }
+{}
+
+/// Each process of a sound world has a table that agrees with it.
+pub fn each_process_has_a_table()
+    ensures { ItsTableAgrees }
+{}
+
+/// A plain table agrees with a sound world exactly where equal requests have equal results.
+pub fn plain_tables_exactly()
+    ensures { PlainTablesExactly }
+{}
+
+/// Ended processes that run the same have the same tree, in whichever sound worlds, where one table agrees with both.
+pub fn one_meaning()
+    ensures { OneMeaning }
+{}

@@ -2,7 +2,7 @@
 use Rattle.std.proofs.Common.{◌≡◌, ◌≢◌, ℕ, suc, ◌<◌, ◌≤◌, Bool, true, false, Option, Some, None, List, [], ◌∷◌, ◌++◌, get_or, length, inl, inr, refl, sym, ap, subst, ◌∙◌, arith}
 use Rattle.std.specs.Prelude.{All, ◌==◌, ◌&&◌, if◌then◌else◌, option_map, option_and_then, codes}
 use Rattle.std.specs.Str.{bytes_eq}
-use Rattle.std.proofs.lemmas.Bool.{eqb-true, ne_eqb}
+use Rattle.std.proofs.lemmas.Bool.{cases_eq, eqb-true, ne_eqb}
 use Rattle.std.proofs.lemmas.List.Elements.{All-head, All-tail}
 use Rattle.wc_value.specs.Ascending.{lookup}
 use Rattle.wc_value.specs.declared.process.JobResult.{JobResult}
@@ -24,16 +24,18 @@ use Rattle.wc_world.specs.Fits.{calls_from, is_of_kind}
 use Rattle.wc_world.specs.Records.{find_record, has_ended, has_called, calls, gives_output, takes_input, is_call_from, is_input_of, is_output_of, library_at}
 use Rattle.wc_world.specs.Trees.{branches, recorded_tree, values_alone, inputs_after, outputs_after}
 use Rattle.wc_world.proofs.FoundRecords.{IsDeeper, call_is_deeper, found_holds, left, right}
-use Rattle.wc_world.proofs.ReachedLists.{found_node}
+use Rattle.wc_world.proofs.ReachedLists.{AreUnique, found_node, unique}
 use Rattle.wc_machine.specs.Agreeing.{Agrees}
+use Rattle.wc_machine.specs.Continues.{Carries}
 use Rattle.wc_machine.specs.Paths.{called_under, follow, kills, cut_after}
 use Rattle.wc_machine.specs.Recorded.{recorded_inputs, recorded_outputs, recorded_request, request_by, folder_of, HasResult, own, cached}
 use Rattle.wc_machine.specs.Resting.{GivesTree, levels_of, meant}
 use Rattle.wc_machine.specs.Sound.{CallsAreKept, IsFitting, IsMeant, IsSound}
+use Rattle.wc_machine.proofs.ContinuedEnds.{carried_itself}
 use Rattle.wc_machine.proofs.EndedTrees.{call_is_called}
 use Rattle.wc_machine.proofs.Frames.{NoInput, NoOutput, NoCallFrom, and_false, branches_before, called_before, calls_before, inputs_stay, outputs_stay, library_stays, records_below}
 use Rattle.wc_machine.proofs.Untouched.{AreUntouched, tree_stays}
-use Rattle.wc_framing.specs.Laws.{TablesNarrow, EndedStay}
+use Rattle.wc_framing.specs.Laws.{TablesNarrow, EndedStay, TouchingContinues}
 use Rattle.wc_framing.specs.Touching.{AddsFor, Touches, MayBeTouched, StaysEnded}
 
 -- ---- types of links
@@ -346,3 +348,26 @@ tables_narrow v w pid s t may r found table agrees = agreed_before v w pid s t m
 
 pub ended_stay : EndedStay
 ended_stay v w pid s t may r found over = stays_ended v w pid s t may r found over
+
+carried_on : (v w : World) (pid : ℕ) (s : IsSound v) (t : Touches v w pid) (may : MayBeTouched v pid) (r : ProcessRecord) → find_record r.node v.records ≡ Some r
+    → (q : ProcessRecord) × (find_record r.node w.records ≡ Some q) × Carries r q
+carried_on v w pid s t may r found =
+    elim (cases_eq pid r.node) [
+      | inl e ↦
+          let c = t.carried r (ap (λ (n : ℕ). find_record n v.records) e ∙ found) in
+          (c.0, ap (λ (n : ℕ). find_record n w.records) (sym e) ∙ c.1, c.2)
+      | inr ne ↦ (r, found_kept v w pid s t may r found ne, carried_itself r)
+    ]
+
+pub touching_continues : TouchingContinues
+touching_continues v w pid s t may =
+    let there : AreUnique v.records = unique 1 v.nodes v.records s.consistent.numbered in
+    record {
+      libraries = t.libraries;
+      nodes = t.nodes;
+      links = (t.new, t.links);
+      batches = t.batches;
+      records = λ i d lt. carried_on v w pid s t may (get_or v.records i d) (there i d lt);
+      inputs = λ i d lt. inputs_kept v w pid s t may (get_or v.records i d).node (within v w pid s t may (get_or v.records i d).node (get_or v.records i d) (there i d lt));
+      trees = λ i d lt over. (stays_ended v w pid s t may (get_or v.records i d) (there i d lt) over).tree;
+    }

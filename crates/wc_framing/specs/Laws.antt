@@ -1,5 +1,6 @@
 -- Laws of what a run sees of what was before it.
-use Rattle.std.specs.Prelude.{◌≡◌, ℕ, true, List, ◌∷◌, length, map, All, Option, Some}
+use Rattle.std.specs.Prelude.{◌≡◌, ℕ, ℤ, true, false, List, ◌∷◌, length, map, All, Option, Some}
+use Rattle.wc_syntax.specs.declared.definition.Definition.{Definition}
 use Rattle.wc_syntax.specs.declared.definition.Port.{Port}
 use Rattle.wc_syntax.specs.declared.expression.Expr.{Expr}
 use Rattle.wc_syntax.specs.declared.outline.Instr.{Instr}
@@ -7,17 +8,25 @@ use Rattle.wc_state.specs.declared.environment.Env.{Env}
 use Rattle.wc_state.specs.declared.record.ProcessRecord.{ProcessRecord}
 use Rattle.wc_graph.specs.declared.link.Link.{Link}
 use Rattle.wc_expression.specs.Val.{val}
+use Rattle.wc_calculation.specs.Rules.{Values}
+use Rattle.wc_calculation.specs.declared.outcomes.Parsed.{Parsed}
 use Rattle.wc_run.specs.declared.progress.Planned.{Planned}
 use Rattle.wc_run.specs.declared.progress.Progress.{Progress}
 use Rattle.wc_run.specs.Meaning.{ended, its_tree}
 use Rattle.wc_run.specs.Run.{Around, run, make_calls, ◌>->◌}
 use Rattle.wc_run.specs.Tables.{Path, Table, under}
+use Rattle.wc_world.specs.declared.change.Change.{Change}
 use Rattle.wc_world.specs.World.{World}
+use Rattle.wc_world.specs.Accepted.{IsReached}
+use Rattle.wc_world.specs.Applied.{applied}
 use Rattle.wc_world.specs.Records.{find_record, has_ended, is_call_from}
 use Rattle.wc_machine.specs.Agreeing.{Agrees}
+use Rattle.wc_machine.specs.Continues.{Continues}
+use Rattle.wc_machine.specs.Ending.{ends}
 use Rattle.wc_machine.specs.Paths.{called_under, kills}
 use Rattle.wc_machine.specs.Resting.{env_alone}
 use Rattle.wc_machine.specs.Sound.{IsSound}
+use Rattle.wc_machine.specs.Submitting.{Submits, submitted_number}
 use Rattle.wc_framing.specs.Instead.{flow_instead, GiveOneTree}
 use Rattle.wc_framing.specs.Touching.{Touches, MayBeTouched, StaysEnded}
 
@@ -62,3 +71,16 @@ TablesNarrow = (v w : World) (pid : ℕ) → IsSound v → Touches v w pid → M
 abbrev pub EndedStay : Type 0
 EndedStay = (v w : World) (pid : ℕ) → IsSound v → Touches v w pid → MayBeTouched v pid → (r : ProcessRecord) → find_record r.node v.records ≡ Some r
     → has_ended r.state ≡ true → StaysEnded v w r
+
+-- The world after such an event continues the one before.
+abbrev pub TouchingContinues : Type 0
+TouchingContinues = (v w : World) (pid : ℕ) → IsSound v → Touches v w pid → MayBeTouched v pid → Continues v w
+
+-- A submission, and the end of a calculation that hasn't started, are such events.
+abbrev pub SubmissionsTouch : Type 0
+SubmissionsTouch = (w : World) (library : List Definition) (caching : List (List ℕ)) (name : List ℕ) (inputs : Values) (cs : List Change)
+    → IsReached w → Submits w library caching name inputs cs → Touches w (applied w cs) (submitted_number w inputs)
+
+abbrev pub EndsTouch : Type 0
+EndsTouch = (w : World) (r : ProcessRecord) (p : Parsed) (source : Option ℕ) (code : Option ℤ) → find_record r.node w.records ≡ Some r
+    → has_ended r.state ≡ false → r.started ≡ 0 → Touches w (applied w (ends w r p source code)) r.node

@@ -7,7 +7,7 @@ use Rattle.wc_run.specs.Tables.{Path}
 use Rattle.wc_world.specs.World.{World}
 use Rattle.wc_world.specs.Records.{find_record, has_ended, takes_input, is_call_from, is_output_of}
 use Rattle.wc_world.specs.Trees.{recorded_tree}
-use Rattle.wc_machine.specs.Continues.{Begins}
+use Rattle.wc_machine.specs.Continues.{Begins, Carries}
 use Rattle.wc_machine.specs.Paths.{kills}
 use Rattle.wc_machine.specs.Recorded.{recorded_inputs, recorded_outputs}
 use Rattle.wc_machine.specs.Sound.{IsMeant}
@@ -19,8 +19,8 @@ AddsFor nodes pid l =
     ⊎ ((is_call_from pid l ≡ true) × (length nodes < l.target))
     ⊎ ((takes_input l.link ≡ true) × (length nodes < l.target))
 
--- The world w is v after an event that touches this process alone, or makes it: lists grow, each new link is for the process, and each other
--- record stays.
+-- The world w is v after an event that touches this process alone, or makes it: lists grow, each new link is for the process, its record is
+-- carried over, and each other record stays.
 pub record Touches (v w : World) (pid : ℕ) : Type 0 where
   pub libraries : Begins v.libraries w.libraries
   pub nodes : Begins v.nodes w.nodes
@@ -28,6 +28,8 @@ pub record Touches (v w : World) (pid : ℕ) : Type 0 where
   pub links : w.links ≡ v.links ++ new
   pub added : All (AddsFor v.nodes pid) new
   pub records : (q : ℕ) → pid ≢ q → q ≤ length v.nodes → find_record q w.records ≡ find_record q v.records
+  pub carried : (r : ProcessRecord) → find_record pid v.records ≡ Some r → (s : ProcessRecord) × (find_record pid w.records ≡ Some s) × Carries r s
+  pub batches : v.batches ≤ w.batches
 
 -- the process hasn't ended, or isn't there yet
 abbrev pub MayBeTouched : World → ℕ → Type 0

@@ -1,5 +1,5 @@
 //! Laws of what a run sees.
-ghost use Rattle.wc_framing.specs.Laws.{ValuesForgetNumbers, RunsSeeNumbers, EqualTreesEndAlike, CallsAreUnderTheirLabels, TablesNarrow, EndedStay};
+ghost use Rattle.wc_framing.specs.Laws.{ValuesForgetNumbers, RunsSeeNumbers, EqualTreesEndAlike, CallsAreUnderTheirLabels, TablesNarrow, EndedStay, TouchingContinues, SubmissionsTouch, EndsTouch};
 
 /// The numbers of nodes play no part in the value of an expression.
 pub fn values_forget_numbers()
@@ -29,4 +29,19 @@ pub fn tables_narrow()
 /// After an event that touches one live process of a sound world, or makes one, what has ended stays as it is.
 pub fn ended_stay()
     ensures { EndedStay }
+{}
+
+/// The world after such an event continues the one before.
+pub fn touching_continues()
+    ensures { TouchingContinues }
+{}
+
+/// A submission touches the process that it makes alone.
+pub fn submissions_touch()
+    ensures { SubmissionsTouch }
+{}
+
+/// The end of a calculation that hasn't started touches it alone.
+pub fn ends_touch()
+    ensures { EndsTouch }
 {}

@@ -18,7 +18,7 @@ use Rattle.wc_machine.specs.Paths.{kills}
 use Rattle.wc_machine.specs.Recorded.{recorded_inputs}
 use Rattle.wc_machine.specs.Resting.{GivesTree, levels_of, meant}
 use Rattle.wc_machine.specs.Sound.{IsMeant}
-use Rattle.wc_results.specs.Laws.{RunAlike, OneMeaning}
+use Rattle.wc_results.specs.Laws.{RunAlike, OneMeaning, RecordedIsMeant}
 
 -- with more fuel the tree is the same
 more_fuel : (w : World) (r : ProcessRecord) (table : Table) (cuts : Kills) (n k : ℕ) (t : Tree) → GivesTree (meant w r table cuts n) t
@@ -35,6 +35,11 @@ more_fuel w r table cuts n k t g =
       ap (option_map (λ library. meaning (levels_of r) library table cuts (n + k) r.definition inputs)) l.1 ∙ ap (λ (a : Answer). Some a) gave,
       g.3,
     )
+
+pub recorded_is_meant : RecordedIsMeant
+recorded_is_meant w r table k s ended agrees =
+    let m = found_holds (λ q. has_ended q.state ≡ true → IsMeant w q) r.node w.records r s.ended ended.found ended.ended table agrees in
+    (m.0, m.1, more_fuel w r table (kills w r.node) r.fuel k m.0 m.2)
 
 -- an answer is one tree
 one_tree : (a : Option Answer) (t u : Tree) → GivesTree a t → GivesTree a u → t ≡ u

@@ -1,7 +1,8 @@
 -- Laws of recorded results in sound worlds, and of the tables that agree with them.
-use Rattle.std.specs.Prelude.{◌≡◌, ◌↔◌, ℕ, true, Some}
+use Rattle.std.specs.Prelude.{◌≡◌, ◌↔◌, ℕ, ◌+◌, true, Some}
 use Rattle.wc_value.specs.declared.process.JobResult.{JobResult}
 use Rattle.wc_value.specs.declared.process.ProcessState.TheVariants.{Killed}
+use Rattle.wc_value.specs.declared.process.Tree.{Tree}
 use Rattle.wc_run.specs.Tables.{Path, Table}
 use Rattle.wc_state.specs.declared.record.ProcessRecord.{ProcessRecord}
 use Rattle.wc_world.specs.World.{World}
@@ -10,6 +11,7 @@ use Rattle.wc_world.specs.Trees.{recorded_tree}
 use Rattle.wc_machine.specs.Agreeing.{Agrees, AgreesWithWorld}
 use Rattle.wc_machine.specs.Paths.{kills}
 use Rattle.wc_machine.specs.Recorded.{recorded_inputs, HasResult}
+use Rattle.wc_machine.specs.Resting.{GivesTree, meant}
 use Rattle.wc_machine.specs.Sound.{IsSound}
 use Rattle.wc_results.specs.Results.{result_of, table_of, HasResultsByRequest}
 
@@ -49,6 +51,11 @@ pub record RunAlike (v w : World) (p q : ProcessRecord) : Type 0 where
 pub record IsEnded (w : World) (r : ProcessRecord) : Type 0 where
   pub found : find_record r.node w.records ≡ Some r
   pub ended : has_ended r.state ≡ true
+
+-- The recorded tree of an ended process is the one that it means, for each agreeing table, with its kills, and with any fuel from the kept one on.
+abbrev pub RecordedIsMeant : Type 0
+RecordedIsMeant = (w : World) (r : ProcessRecord) (table : Table) (k : ℕ) → IsSound w → IsEnded w r → Agrees table w r.node
+    → (t : Tree) × (recorded_tree w r.node ≡ Some t) × GivesTree (meant w r table (kills w r.node) (r.fuel + k)) t
 
 -- Whatever happened between, processes that run the same have the same tree, where one table agrees with both.
 abbrev pub OneMeaning : Type 0

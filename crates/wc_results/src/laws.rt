@@ -1,5 +1,5 @@
 //! Laws of recorded results and of agreeing tables.
-ghost use Rattle.wc_results.specs.Laws.{ResultsAreFound, OneResult, KilledHaveNoResult, ItsTableAgrees, PlainTablesExactly, OneMeaning};
+ghost use Rattle.wc_results.specs.Laws.{ResultsAreFound, OneResult, KilledHaveNoResult, ItsTableAgrees, PlainTablesExactly, RecordedIsMeant, OneMeaning};
 
 /// A process of a sound world has at most one recorded result, which a function finds; a killed one has none.
 pub fn one_result()
@@ -18,7 +18,8 @@ pub fn plain_tables_exactly()
     ensures { PlainTablesExactly }
 {}
 
-/// Ended processes that run the same have the same tree, in whichever sound worlds, where one table agrees with both.
+/// The recorded tree of an ended process is what it means, with any fuel from the kept one on. Ended processes that run the same have the same tree, in whichever sound worlds, where one table agrees with both.
 pub fn one_meaning()
-    ensures { OneMeaning }
+    ensures meant { RecordedIsMeant }
+    ensures one { OneMeaning }
 {}

@@ -1,0 +1,163 @@
+//! Jobs as programs of this machine. What the system does is trusted: this transport tells nothing of content.
+ghost use Rattle.std.specs.Prelude.{◌≡◌, None, false};
+ghost use Rattle.wc_io.specs.Counts.{RisesByOne};
+ghost use Rattle.wc_transport.specs.Outside.{CountsTaskFault};
+
+use crate::folder::{done, has_ended, holds, must_hold, place, result_of};
+use std::alloc::{AllocError, Global};
+use std::fs::File;
+use std::io;
+use std::process::{Command, Processes, Stdio};
+use std::rt::Files;
+use std::string::String;
+use wc_transport::{Progress, TaskError, Transport};
+use wc_value::{JobResult, Request, Text};
+
+/// Programs of this machine, each in a folder below this one that is named by its number. A program is run by a script,
+/// which makes a folder first and ends where that is there, so that the program is started once.
+#[derive(Drop)]
+pub struct LocalTransport<R: Drop> {
+    rt: R,
+    alloc: Global,
+    folder: Text,
+    asked: u64,
+    faults: u64,
+}
+
+impl<R: Files<File = File> + Processes + Drop> LocalTransport<R> {
+    /// The programs of this machine, below a folder. No call of the system is made yet.
+    pub fn new(rt: R, alloc: Global, folder: Text) -> LocalTransport<R>
+        ensures untold { ⟦<LocalTransport<R> as Transport>⟧.table result ≡ None }
+        ensures unplaced { ⟦<LocalTransport<R> as Transport>⟧.placed result ≡ None }
+        ensures unfinished { ⟦<LocalTransport<R> as Transport>⟧.tells_finished result ≡ false }
+        ensures asked { result.asked ≡ 0 }
+        ensures faults { result.faults ≡ 0 }
+    {
+        LocalTransport {
+            rt,
+            alloc,
+            folder,
+            asked: 0,
+            faults: 0,
+        }
+    }
+
+    /// The folder of a job.
+    fn folder_of(&self, dir: u32) -> Result<String, AllocError> {
+        let folder = self.folder.as_str();
+        format!(in self.alloc; "{folder}/{dir}")
+    }
+
+    /// Counts a call, and its fault if it failed.
+    fn count<T>(&mut self, outcome: &Result<T, TaskError>)
+        ensures asked { RisesByOne self.old.asked self.new.asked }
+        ensures faults { CountsTaskFault outcome.now self.old.faults self.new.faults }
+    {
+        self.asked = self.asked.saturating_add(1);
+        if let Err(TaskError::Failed) = outcome {
+            self.faults = self.faults.saturating_add(1);
+        }
+    }
+
+    /// Places a request, where the folder doesn't hold it yet.
+    fn uploaded(&self, dir: u32, request: &Request) -> Result<(), TaskError> {
+        let folder = self.folder_of(dir)?;
+        if holds(&self.rt, self.alloc, folder.as_str(), request)? {
+            return Ok(());
+        }
+        place(&self.rt, self.alloc, folder.as_str(), request)
+    }
+
+    /// Starts the script, and doesn't wait for it: the `sh` that is waited for starts another in the background.
+    fn started(&self, folder: &str) -> Result<io::Result<bool>, AllocError> {
+        let mut command = Command::new(self.alloc, "sh")?;
+        command.arg("-c")?.arg("sh ./_wc_run.sh &")?;
+        command.current_dir(folder)?;
+        command.stdin(Stdio::null());
+        command.stdout(Stdio::null());
+        command.stderr(Stdio::null());
+        match command.status(&self.rt) {
+            Ok(status) => Ok(Ok(status.success())),
+            Err(error) => Ok(Err(error)),
+        }
+    }
+
+    /// Starts the program of a job.
+    fn submitted(&self, dir: u32, request: &Request) -> Result<(), TaskError> {
+        let folder = self.folder_of(dir)?;
+        must_hold(&self.rt, self.alloc, folder.as_str(), request)?;
+        if done(self.started(folder.as_str())?)? {
+            return Ok(());
+        }
+        Err(TaskError::Failed)
+    }
+
+    /// Whether the program of a job has ended.
+    fn progress(&self, dir: u32, request: &Request) -> Result<Progress, TaskError> {
+        let folder = self.folder_of(dir)?;
+        must_hold(&self.rt, self.alloc, folder.as_str(), request)?;
+        if has_ended(&self.rt, self.alloc, folder.as_str())? {
+            return Ok(Progress::Done);
+        }
+        Ok(Progress::Running)
+    }
+
+    /// What the program of a job left.
+    fn retrieved(
+        &self,
+        alloc: Global,
+        dir: u32,
+        request: &Request,
+    ) -> Result<JobResult, TaskError> {
+        let folder = self.folder_of(dir)?;
+        must_hold(&self.rt, self.alloc, folder.as_str(), request)?;
+        result_of(&self.rt, alloc, folder.as_str(), request)
+    }
+}
+
+impl<R: Files<File = File> + Processes + Drop> Transport for LocalTransport<R> {
+    ghost use Rattle.std.specs.Prelude.{None, false};
+
+    ghost table = { λ _. None };
+
+    ghost placed = { λ _. None };
+
+    ghost tells_finished = { λ _. false };
+
+    ghost finished = { λ _ _. ⊥ };
+
+    ghost asked = { λ t. t.asked };
+
+    ghost gave = { λ _ _ _ _ _. Unit {0} };
+
+    ghost faults = { λ t. t.faults };
+
+    fn upload(&mut self, dir: u32, request: &Request) -> Result<(), TaskError> {
+        let outcome = self.uploaded(dir, request);
+        self.count(&outcome);
+        outcome
+    }
+
+    fn submit(&mut self, dir: u32, request: &Request) -> Result<(), TaskError> {
+        let outcome = self.submitted(dir, request);
+        self.count(&outcome);
+        outcome
+    }
+
+    fn update(&mut self, dir: u32, request: &Request) -> Result<Progress, TaskError> {
+        let outcome = self.progress(dir, request);
+        self.count(&outcome);
+        outcome
+    }
+
+    fn retrieve(
+        &mut self,
+        alloc: Global,
+        dir: u32,
+        request: &Request,
+    ) -> Result<JobResult, TaskError> {
+        let outcome = self.retrieved(alloc, dir, request);
+        self.count(&outcome);
+        outcome
+    }
+}

@@ -1,0 +1,59 @@
+//! The script of a job.
+
+use crate::quoting::quoted;
+use std::alloc::{AllocError, Global};
+use wc_value::{Bytes, Request};
+
+/// What comes before the program: the folder of the lock, which the first run alone can make, and a slot.
+const BEFORE: &str =
+    r#"# Runs the program of this job, once: a second run ends at the folder _wc_lock.
+# What the program writes is in stdout.txt and stderr.txt, and its exit code then in _wc_status.
+case $0 in */*) cd "${0%/*}" || exit 1 ;; esac
+mkdir _wc_lock 2>/dev/null || exit 0
+trap '' HUP
+# Waits for a slot, one of as many files in ../slots as jobs may run beside each other: MAROONCLAMP_JOBS, or else one a
+# processor; 0 is no limit, and without the command flock there is none. The system frees the slot when this ends.
+_wc_slot() {
+  _wc_slots=${MAROONCLAMP_JOBS-}
+  case $_wc_slots in
+    '' | *[!0-9]* | ??????????*)
+      _wc_slots=$(getconf _NPROCESSORS_ONLN 2>/dev/null || nproc 2>/dev/null) || _wc_slots=0 ;;
+  esac
+  [ "$_wc_slots" -gt 0 ] && command -v flock >/dev/null && mkdir -p ../slots || return
+  # One waiting script at a time looks for a free slot.
+  true >>../slots/queue && exec 8>>../slots/queue && flock 8 || return
+  while :; do
+    _wc_at=1
+    while [ "$_wc_at" -le "$_wc_slots" ]; do
+      true >>"../slots/$_wc_at" && exec 9>>"../slots/$_wc_at" || return
+      flock -n 9 && exec 8>&- && return
+      _wc_at=$((_wc_at + 1))
+    done
+    sleep 0.2 2>/dev/null || sleep 1
+  done
+}
+_wc_slot
+(exec"#;
+
+/// What comes behind the program.
+const BEHIND: &str = r#") </dev/null >stdout.txt 2>stderr.txt 8>&- 9>&-
+echo "$?" >_wc_status.tmp && mv _wc_status.tmp _wc_status
+"#;
+
+/// Puts a word, in quotes, behind a blank.
+fn put_word(alloc: Global, script: &mut Bytes, word: &[u8]) -> Result<(), AllocError> {
+    script.push(b' ')?;
+    script.extend(quoted(alloc, word)?.bytes())
+}
+
+/// The script that runs the program of a request.
+pub fn script_of(alloc: Global, request: &Request) -> Result<Bytes, AllocError> {
+    let mut script = Bytes::new(alloc);
+    script.extend(BEFORE.as_bytes())?;
+    put_word(alloc, &mut script, request.program.bytes())?;
+    for word in request.args.as_slice() {
+        put_word(alloc, &mut script, word.bytes())?;
+    }
+    script.extend(BEHIND.as_bytes())?;
+    Ok(script)
+}

@@ -1,7 +1,8 @@
 //! The tasks of a job: its request, and what follows an answer of the transport.
 #![tactic(auto)]
 
+mod request;
 mod tasks;
 
+pub use request::request_of;
 pub use tasks::{Answer, JobStep, after};
-pub use wc_calculation::request_of;

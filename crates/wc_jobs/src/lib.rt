@@ -1,0 +1,8 @@
+//! The tasks of jobs in tables: what follows an answer, and what a transport in memory answers to calls. What is wanted
+//! was worked out by hand from the rules.
+#![tactic(auto)]
+
+#[cfg(test)]
+mod tables;
+#[cfg(test)]
+mod tasks;

@@ -1,6 +1,7 @@
 //! Trees of work chains, worked out by hand from the rules.
 
 use crate::files::FAN;
+use crate::session::bytes_of;
 use std::alloc::{AllocError, Global};
 use std::test::Fail;
 use wc_check::check;
@@ -9,7 +10,7 @@ use wc_parser::parse;
 use wc_report::tree_lines;
 use wc_run::Kills;
 use wc_syntax::Checked;
-use wc_value::{Bytes, Fields, Files, JobResult, Request, Rows, Table, Text, Value, Words};
+use wc_value::{Fields, Files, JobResult, Request, Rows, Table, Text, Tree, Value, Words};
 
 /// Climbs to 3 in a loop and calls a function there. It leaves with a status where it began above.
 const CLIMB: &str = "
@@ -26,7 +27,9 @@ workchain climb(x: int) -> (r: int) {
 const WELL: &str = "finished 0\nr int 4\ncall c_1 next finished 0\n  r int 4\n";
 
 /// The input, the fuel, what is killed with the number of its calls, a child by its label or the root, and the text.
-const CASES: [(i64, u64, Option<(&str, u32)>, &str); 8] = [
+type Case<'a> = (i64, u64, Option<(&'a str, u32)>, &'a str);
+
+const CASES: [Case; 8] = [
     (0, 4, None, WELL),
     (0, 3, None, "none"),
     (4, 0, None, "finished 400\n"),
@@ -72,26 +75,67 @@ fn input(alloc: Global, port: &str, number: i64) -> Result<Fields, AllocError> {
     Ok(inputs)
 }
 
+/// The text of a tree, or none.
+fn told(alloc: Global, tree: Option<&Tree>) -> Result<Text, AllocError> {
+    match tree {
+        Some(tree) => tree_lines(alloc, tree),
+        None => Text::of_str(alloc, "none"),
+    }
+}
+
 /// The text of the tree of a climb, or none.
 fn climb(alloc: Global, x: i64, fuel: u64, kills: &Kills) -> Result<Text, Fail> {
     let library = library(alloc, CLIMB)?;
     let inputs = input(alloc, "x", x)?;
     let table = Table::new(alloc, Rows::new(alloc))?;
     let name = Text::of_str(alloc, "climb")?;
-    match replay(alloc, &library, &name, &inputs, 1, &table, kills, fuel)? {
-        Some(replayed) => Ok(tree_lines(alloc, &replayed.tree)?),
-        None => Ok(Text::of_str(alloc, "none")?),
+    let replayed = replay(alloc, &library, &name, &inputs, 1, &table, kills, fuel)?;
+    Ok(told(alloc, replayed.as_ref().map(|r| &r.tree))?)
+}
+
+/// Fails where a climb has another tree.
+fn expect_climb(alloc: Global, case: &Case) -> Result<(), Fail> {
+    let (x, fuel, row, text) = *case;
+    let told = climb(alloc, x, fuel, &kills(alloc, row)?)?;
+    if told.as_str() == text {
+        return Ok(());
     }
+    Err(format!(in alloc; "{x} {fuel}: {} for {text}", told.as_str())?)?
 }
 
 #[test]
 fn chains_have_trees(rt: HostRuntime) -> Result<(), Fail> {
-    let alloc = rt.alloc();
-    for (x, fuel, row, text) in CASES {
-        let given = climb(alloc, x, fuel, &kills(alloc, row)?)?;
-        assert_eq!(rt; given.as_str(), text, "at {x} {fuel}");
+    for case in &CASES {
+        expect_climb(rt.alloc(), case)?;
     }
     Ok(())
+}
+
+/// One word.
+fn one_word(alloc: Global, word: &str) -> Result<Words, AllocError> {
+    let mut words = Words::new(alloc);
+    words.push(Text::of_str(alloc, word)?)?;
+    Ok(words)
+}
+
+/// One file, `out.txt`.
+fn one_file(alloc: Global, content: &str) -> Result<Files, AllocError> {
+    let content = bytes_of(alloc, content.as_bytes())?;
+    let mut files = Files::new(alloc);
+    files.set(Text::of_str(alloc, "out.txt")?, content)?;
+    Ok(files)
+}
+
+/// What is asked of the program `double` for an argument.
+fn asked(alloc: Global, argument: &str) -> Result<Request, AllocError> {
+    let args = one_word(alloc, argument)?;
+    let fetch = one_word(alloc, "out.txt")?;
+    Ok(Request {
+        program: Text::of_str(alloc, "double")?,
+        args,
+        files: Files::new(alloc),
+        fetch,
+    })
 }
 
 /// A result of the program `double`: its argument, and what it writes.
@@ -100,21 +144,16 @@ fn doubled(
     argument: &str,
     output: &str,
 ) -> Result<(Request, JobResult), AllocError> {
-    let mut args = Words::new(alloc);
-    args.push(Text::of_str(alloc, argument)?)?;
-    let mut fetch = Words::new(alloc);
-    fetch.push(Text::of_str(alloc, "out.txt")?)?;
-    let request = Request {
-        program: Text::of_str(alloc, "double")?,
-        args,
-        files: Files::new(alloc),
-        fetch,
-    };
-    let mut content = Bytes::new(alloc);
-    content.extend(output.as_bytes())?;
-    let mut files = Files::new(alloc);
-    files.set(Text::of_str(alloc, "out.txt")?, content)?;
-    Ok((request, JobResult { code: 0, files }))
+    let files = one_file(alloc, output)?;
+    Ok((asked(alloc, argument)?, JobResult { code: 0, files }))
+}
+
+/// What `double` gives for 2 and for 3.
+fn doubles(alloc: Global) -> Result<Rows, AllocError> {
+    let mut rows = Rows::new(alloc);
+    rows.push(doubled(alloc, "2", "4\n")?)?;
+    rows.push(doubled(alloc, "3", "6\n")?)?;
+    Ok(rows)
 }
 
 /// The tree of a fan of 2.
@@ -131,20 +170,23 @@ call parts_3 add finished 0
   sum int 4
 ";
 
+/// The text of the tree of a fan of 2, or none.
+fn fanned(alloc: Global, fuel: u64) -> Result<Text, Fail> {
+    let library = library(alloc, FAN)?;
+    let inputs = input(alloc, "a", 2)?;
+    let table = Table::new(alloc, doubles(alloc)?)?;
+    let name = Text::of_str(alloc, "fan")?;
+    let tree = dry(alloc, &library, &name, &inputs, &table, fuel)?;
+    Ok(told(alloc, tree.as_ref())?)
+}
+
 #[test]
 fn a_fan_has_its_tree(rt: HostRuntime) -> Result<(), Fail> {
-    let alloc = rt.alloc();
-    let mut rows = Rows::new(alloc);
-    rows.push(doubled(alloc, "2", "4\n")?)?;
-    rows.push(doubled(alloc, "3", "6\n")?)?;
-    let table = Table::new(alloc, rows)?;
-    let library = library(alloc, FAN)?;
-    let name = Text::of_str(alloc, "fan")?;
-    let inputs = input(alloc, "a", 2)?;
-    match dry(alloc, &library, &name, &inputs, &table, 3)? {
-        Some(tree) => assert_eq!(rt; tree_lines(alloc, &tree)?.as_str(), FANNED),
-        None => assert!(rt; false),
+    if fanned(rt.alloc(), 3)?.as_str() != FANNED {
+        Err("the fan has this tree")?;
     }
-    assert!(rt; dry(alloc, &library, &name, &inputs, &table, 2)?.is_none());
+    if fanned(rt.alloc(), 2)?.as_str() != "none" {
+        Err("the fan has no tree for so little fuel")?;
+    }
     Ok(())
 }

@@ -1,12 +1,12 @@
 //! The command `check`: one fault a file, with the line that it is refused with, and files that are taken.
 
+use crate::cases::expect_case;
 use crate::files::{EOS, FAN};
-use crate::session::{call, call_bytes};
+use crate::wrong::Wrong;
 use std::alloc::{AllocError, Global};
-use std::test::Fail;
 
 /// A file, and the line that `check` writes.
-const CASES: [(&str, &str); 68] = [
+const CASES: [(&str, &str); 70] = [
     ("", "definitions 0\n"),
     (" # nothing\n", "definitions 0\n"),
     ("calcfunction f() -> () { }", "definitions 1\n"),
@@ -255,125 +255,169 @@ const CASES: [(&str, &str); 68] = [
         "calcfunction f() -> (r: int) { out r = aaaaaaaaaaaaaaaaaaaaaaaaaaaaaaaaaaaaaaaaaaaaaaaaaaaaaaaaaaaaaaaaa; }",
         "refused: unknown aaaaaaaaaaaaaaaaaaaaaaaaaaaaaaaaaaaaaaaaaaaaaaaaaaaaaaaaaaaaaaaaa at 39\n",
     ),
+    (FAN, "definitions 3\n"),
+    (EOS, "definitions 3\n"),
 ];
 
+/// Fails where `check` writes something else for a file. What isn't taken is refused, with status 1.
+fn expect_check(alloc: Global, content: &str, text: &str) -> Result<(), Wrong> {
+    let code = if text.starts_with("refused: ") { 1 } else { 0 };
+    expect_case(alloc, "check add.wcf", content.as_bytes(), code, text)
+}
+
 #[test]
-fn each_file_has_its_line(rt: HostRuntime) -> Result<(), Fail> {
-    for (content, text) in CASES {
-        let ended = call(rt.alloc(), "check add.wcf", content)?;
-        assert_eq!(rt; ended.text.as_slice(), text.as_bytes(), "at {content}");
+fn each_file_has_its_line(rt: HostRuntime) -> Result<(), Wrong> {
+    for (content, text) in &CASES {
+        expect_check(rt.alloc(), content, text)?;
+    }
+    Ok(())
+}
+
+/// A file that repeats something.
+#[derive(Clone, Copy)]
+struct Long {
+    /// What stands in front.
+    front: &'static str,
+    /// What is repeated.
+    part: &'static str,
+    /// What stands behind the number of each part, where the parts are numbered from zero on.
+    numbered: Option<&'static str>,
+    /// How many parts there are.
+    times: usize,
+    /// What stands behind them.
+    behind: &'static str,
+    /// The line that `check` writes.
+    text: &'static str,
+}
+
+/// Files with more of something than there may be.
+const TOO_MANY: [Long; 3] = [
+    // Definitions.
+    Long {
+        front: "",
+        part: "calcfunction f",
+        numbered: Some("() -> () { } "),
+        times: 65,
+        behind: "",
+        text: "refused: too many at 1846\n",
+    },
+    // Rules of a function.
+    Long {
+        front: "calcfunction f() -> () { ",
+        part: "let a",
+        numbered: Some(" = 1; "),
+        times: 513,
+        behind: "}",
+        text: "refused: too many at 7083\n",
+    },
+    // Operators of an expression.
+    Long {
+        front: "calcfunction f() -> (r: int) { out r = 1",
+        part: " + 1",
+        numbered: None,
+        times: 101,
+        behind: "; }",
+        text: "refused: too deep at 441\n",
+    },
+];
+
+/// A file that is as long as a file may be, and a longer one.
+const LONGEST: [Long; 2] = [
+    Long {
+        front: "",
+        part: " ",
+        numbered: None,
+        times: 1_048_576,
+        behind: "",
+        text: "definitions 0\n",
+    },
+    Long {
+        front: "",
+        part: " ",
+        numbered: None,
+        times: 1_048_577,
+        behind: "",
+        text: "refused: too long\n",
+    },
+];
+
+/// Files whose printed text is as long as a text may be, or longer.
+const LONGEST_PRINTED: [Long; 2] = [
+    Long {
+        front: "calcfunction f() -> () {",
+        part: "exit 0;",
+        numbered: None,
+        times: 100_000,
+        behind: "}",
+        text: "refused: too many at 3608\n",
+    },
+    Long {
+        front: "calcfunction f() -> () {",
+        part: "exit 0;",
+        numbered: None,
+        times: 120_000,
+        behind: "}",
+        text: "refused: too long\n",
+    },
+];
+
+/// Puts a part of a file behind those before it.
+fn put_part(
+    alloc: Global,
+    file: &mut String,
+    long: &Long,
+    number: usize,
+) -> Result<(), AllocError> {
+    file.push_str(long.part)?;
+    if let Some(behind) = long.numbered {
+        let digits = format!(in alloc; "{number}{behind}")?;
+        file.push_str(digits.as_str())?;
+    }
+    Ok(())
+}
+
+/// The file that repeats something.
+fn written(alloc: Global, long: &Long) -> Result<String, AllocError> {
+    let mut file = String::from_str(alloc, long.front)?;
+    for number in 0..long.times {
+        put_part(alloc, &mut file, long, number)?;
+    }
+    file.push_str(long.behind)?;
+    Ok(file)
+}
+
+/// Fails where `check` writes something else for one of such files.
+fn expect_long(alloc: Global, files: &[Long]) -> Result<(), Wrong> {
+    for long in files {
+        let file = written(alloc, long)?;
+        expect_check(alloc, file.as_str(), long.text)?;
     }
     Ok(())
 }
 
 #[test]
-fn whole_files_are_taken(rt: HostRuntime) -> Result<(), Fail> {
-    for (content, text) in [(FAN, "definitions 3\n"), (EOS, "definitions 3\n")] {
-        let ended = call(rt.alloc(), "check add.wcf", content)?;
-        assert_eq!(rt; ended.status.code(), 0);
-        assert_eq!(rt; ended.text.as_slice(), text.as_bytes());
-    }
-    Ok(())
-}
-
-/// A text so many times.
-fn repeated(alloc: Global, text: &str, times: usize) -> Result<String, AllocError> {
-    let mut all = String::new(alloc);
-    for _ in 0..times {
-        all.push_str(text)?;
-    }
-    Ok(all)
-}
-
-/// Numbered texts, each between two others.
-fn numbered(alloc: Global, before: &str, after: &str, times: usize) -> Result<String, AllocError> {
-    let mut all = String::new(alloc);
-    for number in 0..times {
-        let one = format!(in alloc; "{before}{number}{after}")?;
-        all.push_str(one.as_str())?;
-    }
-    Ok(all)
-}
-
-/// What `check` writes for a file.
-fn checked(alloc: Global, file: &str) -> Result<Vec<u8>, Fail> {
-    let ended = call(alloc, "check add.wcf", file)?;
-    Ok(ended.text)
+fn what_a_file_repeats_has_its_limit(rt: HostRuntime) -> Result<(), Wrong> {
+    expect_long(rt.alloc(), &TOO_MANY)
 }
 
 #[test]
-fn definitions_have_their_limit(rt: HostRuntime) -> Result<(), Fail> {
-    let many = numbered(rt.alloc(), "calcfunction f", "() -> () { } ", 65)?;
-    let text = checked(rt.alloc(), many.as_str())?;
-    assert_eq!(rt; text.as_slice(), b"refused: too many at 1846\n".as_slice());
-    Ok(())
+fn a_file_has_a_longest_length(rt: HostRuntime) -> Result<(), Wrong> {
+    expect_long(rt.alloc(), &LONGEST)
 }
 
 #[test]
-fn rules_have_their_limit(rt: HostRuntime) -> Result<(), Fail> {
-    let alloc = rt.alloc();
-    let lets = numbered(alloc, "let a", " = 1; ", 513)?;
-    let file = format!(in alloc; "calcfunction f() -> () {{ {}}}", lets.as_str())?;
-    let text = checked(alloc, file.as_str())?;
-    assert_eq!(rt; text.as_slice(), b"refused: too many at 7083\n".as_slice());
-    Ok(())
+fn a_printed_text_has_a_longest_length(rt: HostRuntime) -> Result<(), Wrong> {
+    expect_long(rt.alloc(), &LONGEST_PRINTED)
 }
 
 #[test]
-fn operators_have_their_limit(rt: HostRuntime) -> Result<(), Fail> {
-    let alloc = rt.alloc();
-    let sum = repeated(alloc, " + 1", 101)?;
-    let file = format!(in alloc;
-        "calcfunction f() -> (r: int) {{ out r = 1{}; }}",
-        sum.as_str()
-    )?;
-    let text = checked(alloc, file.as_str())?;
-    assert_eq!(rt; text.as_slice(), b"refused: too deep at 441\n".as_slice());
-    Ok(())
+fn a_file_is_there(rt: HostRuntime) -> Result<(), Wrong> {
+    let text = "refused: no file no.wcf\n";
+    expect_case(rt.alloc(), "check no.wcf", b"", 1, text)
 }
 
 #[test]
-fn a_file_has_a_longest_length(rt: HostRuntime) -> Result<(), Fail> {
-    let alloc = rt.alloc();
-    for (length, text) in [
-        (1_048_576, "definitions 0\n"),
-        (1_048_577, "refused: too long\n"),
-    ] {
-        let spaces = repeated(alloc, " ", length)?;
-        let ended = call(alloc, "check add.wcf", spaces.as_str())?;
-        assert_eq!(rt; ended.text.as_slice(), text.as_bytes());
-    }
-    Ok(())
-}
-
-#[test]
-fn a_printed_text_has_a_longest_length(rt: HostRuntime) -> Result<(), Fail> {
-    let alloc = rt.alloc();
-    for (count, text) in [
-        (100_000, "refused: too many at 3608\n"),
-        (120_000, "refused: too long\n"),
-    ] {
-        let rules = repeated(alloc, "exit 0;", count)?;
-        let file = format!(in alloc; "calcfunction f() -> () {{{}}}", rules.as_str())?;
-        let ended = call(alloc, "check add.wcf", file.as_str())?;
-        assert_eq!(rt; ended.text.as_slice(), text.as_bytes());
-    }
-    Ok(())
-}
-
-#[test]
-fn files_are_there_and_are_texts(rt: HostRuntime) -> Result<(), Fail> {
-    let alloc = rt.alloc();
-    let ended = call(alloc, "check no.wcf", "")?;
-    assert_eq!(rt;
-        ended.text.as_slice(),
-        b"refused: no file no.wcf\n".as_slice()
-    );
-    let ended = call_bytes(alloc, "check add.wcf", &[0x20, 0xff])?;
-    assert_eq!(rt; ended.status.code(), 1);
-    assert_eq!(rt;
-        ended.text.as_slice(),
-        b"refused: not utf-8 add.wcf\n".as_slice()
-    );
-    Ok(())
+fn a_file_is_a_text(rt: HostRuntime) -> Result<(), Wrong> {
+    let text = "refused: not utf-8 add.wcf\n";
+    expect_case(rt.alloc(), "check add.wcf", &[0x20, 0xff], 1, text)
 }

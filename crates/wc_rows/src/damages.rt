@@ -1,69 +1,99 @@
 //! Images that are cut, changed, or gone on with by a batch that doesn't fit.
 
-use crate::images::{NEW, NEW_FIVE, OLD, OLD_FIVE, OPEN, SHUT, added_image, joined};
-use crate::machine::{End, LISTED, Machine, Row, SHOWN};
-use std::alloc::{AllocError, Global};
-use std::test::Fail;
+use crate::images::{
+    ADDED_IMAGE, NEW, NEW_FIRST, NEW_FIVE, NEW_NEXT, OLD, OLD_FIVE, OPEN, SHUT, SUBMITTED, TURNED,
+};
+use crate::script::{LISTED, SHOWN, Step, play};
+use crate::session::{End, Pieces, Row, joined};
+use crate::wrong::Wrong;
+use std::alloc::Global;
 
 /// Fails where disk one with these bytes isn't damaged at its end.
-fn expect_cut(alloc: Global, image: &[u8], line: &str) -> Result<(), Fail> {
+fn expect_cut(alloc: Global, image: &[u8], line: &str) -> Result<(), Wrong> {
     let len = image.len();
     let text = format!(in alloc; "damaged: disk 1 at {len} end\n")?;
-    let mut machine = Machine::new(alloc, image, &[])?;
-    machine.expect((line, End::Damaged(1, len as u64, None), text.as_str()))
+    let row = (line, End::Damaged(1, len as u64, None), text.as_str());
+    play(alloc, &[&[image]], &[], &[Step::Calls(&[row])])
 }
 
-/// Fails where disk one with these bytes is no store of no process.
-fn expect_empty(alloc: Global, image: &[u8]) -> Result<(), Fail> {
-    Machine::new(alloc, image, &[])?.expect(("list", End::Ok, ""))
-}
-
-#[test]
-fn an_image_of_version_1_is_cut(rt: HostRuntime) -> Result<(), Fail> {
-    let alloc = rt.alloc();
-    let shut = joined(alloc, &[OLD, SHUT, OLD_FIVE])?;
-    let open = joined(alloc, &[OLD, OPEN, OLD_FIVE])?;
-    assert!(rt; shut.len() == 36);
-    assert!(rt; open.len() == 36);
-    expect_empty(alloc, &open)?;
-    for len in 17..37 {
-        expect_empty(alloc, &shut[..len])?;
+/// Fails where a whole image has another length, or where it isn't damaged at its end when it is cut to a length from this one on.
+fn expect_cuts(
+    alloc: Global,
+    pieces: Pieces,
+    length: usize,
+    from: usize,
+    line: &str,
+) -> Result<(), Wrong> {
+    let image = joined(alloc, pieces)?;
+    if image.len() != length {
+        return Err(Wrong::Not("the image has this length"));
     }
-    for len in 17..36 {
-        expect_cut(alloc, &open[..len], "list")?;
+    for len in from..length {
+        let cut = image.as_slice().get(..len);
+        expect_cut(alloc, cut.ok_or(Wrong::Not("the image is longer"))?, line)?;
     }
     Ok(())
 }
 
-#[test]
-fn an_image_of_version_2_is_cut(rt: HostRuntime) -> Result<(), Fail> {
-    let alloc = rt.alloc();
-    let open = joined(alloc, &[NEW, OPEN, NEW_FIVE])?;
-    assert!(rt; open.len() == 41);
-    expect_empty(alloc, &open)?;
-    for len in 17..41 {
-        expect_cut(alloc, &open[..len], "list")?;
+/// Fails where a whole image has another length, or where it is no store of no process when it is cut to a length from this one on, or
+/// isn't cut.
+fn expect_passed_over(
+    alloc: Global,
+    pieces: Pieces,
+    length: usize,
+    from: usize,
+) -> Result<(), Wrong> {
+    let image = joined(alloc, pieces)?;
+    if image.len() != length {
+        return Err(Wrong::Not("the image has this length"));
+    }
+    for len in from..=length {
+        let cut = image.as_slice().get(..len);
+        let cut = cut.ok_or(Wrong::Not("the image is as long"))?;
+        play(alloc, &[&[cut]], &[], &EMPTY)?;
     }
     Ok(())
 }
 
+/// A store of no process.
+const EMPTY: [Step; 1] = [Step::Calls(&[("list", End::Ok, "")])];
+
 #[test]
-fn the_image_of_a_process_is_cut(rt: HostRuntime) -> Result<(), Fail> {
-    let alloc = rt.alloc();
-    let image = added_image(alloc)?;
-    assert!(rt; image.len() == 250);
-    for len in 0..2 {
-        let mut machine = Machine::new(alloc, &image[..len], &[])?;
-        machine.expect(("tree 3", End::NoStore, "refused: no store\n"))?;
-    }
-    for len in 2..250 {
-        expect_cut(alloc, &image[..len], "tree 3")?;
-    }
-    Machine::new(alloc, &image, &[])?.expect(SHOWN)
+fn an_image_of_version_1_is_cut(rt: HostRuntime) -> Result<(), Wrong> {
+    expect_cuts(rt.alloc(), &[&[OLD, OPEN, OLD_FIVE]], 36, 17, "list")
+}
+
+#[test]
+fn an_image_of_version_2_is_cut(rt: HostRuntime) -> Result<(), Wrong> {
+    expect_cuts(rt.alloc(), &[&[NEW, OPEN, NEW_FIVE]], 41, 17, "list")
+}
+
+#[test]
+fn whole_images_and_what_is_passed_over_are_no_damage(rt: HostRuntime) -> Result<(), Wrong> {
+    expect_passed_over(rt.alloc(), &[&[OLD, SHUT, OLD_FIVE]], 36, 17)?;
+    expect_passed_over(rt.alloc(), &[&[OLD, OPEN, OLD_FIVE]], 36, 36)?;
+    expect_passed_over(rt.alloc(), &[&[NEW, OPEN, NEW_FIVE]], 41, 41)
+}
+
+#[test]
+fn the_image_of_a_process_is_cut(rt: HostRuntime) -> Result<(), Wrong> {
+    expect_cuts(rt.alloc(), ADDED_IMAGE, 250, 2, "tree 3")
+}
+
+/// What is told of its first byte alone, or of none.
+const TOO_SHORT: [Step; 1] = [Step::Calls(&[("tree 3", End::NoStore, "refused: no store\n")])];
+
+#[test]
+fn the_image_of_a_process_is_whole_or_no_store(rt: HostRuntime) -> Result<(), Wrong> {
+    play(rt.alloc(), &[], &[], &TOO_SHORT)?;
+    play(rt.alloc(), &[&[&[0x57]]], &[], &TOO_SHORT)?;
+    play(rt.alloc(), ADDED_IMAGE, &[], &[Step::Calls(&[SHOWN])])
 }
 
 /// A place in the image of a store with process 3, another byte for it, and what is told then.
-const CHANGED: [(usize, u8, End, &str); 22] = [
+type Change<'a> = (usize, u8, End, &'a str);
+
+const CHANGED: [Change; 22] = [
     (
         0,
         0x58,
@@ -187,67 +217,120 @@ const CHANGED: [(usize, u8, End, &str); 22] = [
 ];
 
 /// Fails where a byte of the image of a store with process 3 is another one, and `list` tells something else or the image changes.
-fn expect_changed(alloc: Global, at: usize, byte: u8, end: End, text: &str) -> Result<(), Fail> {
-    let mut image = added_image(alloc)?;
-    match image.get_mut(at) {
-        Some(place) => *place = byte,
-        None => Err("the image has such a place")?,
-    }
-    let mut machine = Machine::new(alloc, &image, &[])?;
-    machine.expect(("list", end, text))?;
-    machine.expect_images(&image, &[])
+fn expect_changed(alloc: Global, change: &Change) -> Result<(), Wrong> {
+    let (at, byte, end, text) = *change;
+    let steps = [
+        Step::Alters(at, byte),
+        Step::Mark,
+        Step::Calls(&[("list", end, text)]),
+        Step::Unchanged,
+    ];
+    play(alloc, ADDED_IMAGE, &[], &steps)
 }
 
 #[test]
-fn a_byte_of_an_image_is_changed(rt: HostRuntime) -> Result<(), Fail> {
-    for (at, byte, end, text) in CHANGED {
-        expect_changed(rt.alloc(), at, byte, end, text)?;
+fn a_byte_of_an_image_is_changed(rt: HostRuntime) -> Result<(), Wrong> {
+    for change in &CHANGED {
+        expect_changed(rt.alloc(), change)?;
     }
     Ok(())
 }
 
-/// A batch for the store with process 3, whose payload doesn't fit.
-const MISFITS: [&[u8]; 5] = [
+/// Batches for the store with process 3, whose payload doesn't fit, behind the image of 250 bytes, whose last gate opens.
+const MISFITS: [Pieces; 5] = [
     // A link from the process to itself, as if it were called.
-    b"\x01\x00\x00\x00\x00\x00\x00\x00\x12\x00\x00\x00\x01\x04\x00\x00\x00\x03\x00\x00\x00\x03\x06\x00\x00\x00\x00",
+    &[
+        &[NEW, OPEN, NEW_FIRST],
+        &SUBMITTED,
+        &[OPEN, NEW_NEXT],
+        &TURNED,
+        &[
+            OPEN,
+            b"\x01\x00\x00\x00\x00\x00\x00\x00\x12\x00\x00\x00\x01\x04\x00\x00\x00\x03\x00\x00\x00\x03\x06\x00\x00\x00\x00",
+            SHUT,
+        ],
+    ],
     // A second creator of its result.
-    b"\x01\x00\x00\x00\x00\x00\x00\x00\x13\x00\x00\x00\x01\x04\x00\x00\x00\x03\x00\x00\x00\x04\x03\x00\x00\x00\x01s",
+    &[
+        &[NEW, OPEN, NEW_FIRST],
+        &SUBMITTED,
+        &[OPEN, NEW_NEXT],
+        &TURNED,
+        &[
+            OPEN,
+            b"\x01\x00\x00\x00\x00\x00\x00\x00\x13\x00\x00\x00\x01\x04\x00\x00\x00\x03\x00\x00\x00\x04\x03\x00\x00\x00\x01s",
+            SHUT,
+        ],
+    ],
     // It ends once more.
-    b"\x01\x00\x00\x00\x00\x00\x00\x00\x1D\x00\x00\x00\x01\x05\x00\x00\x00\x03\x04\x00\x00\x00\x00\x00\x00\x00\x00\x00\x00\x00\x00\x00\x00\x00\x00\x00\x00\x03",
+    &[
+        &[NEW, OPEN, NEW_FIRST],
+        &SUBMITTED,
+        &[OPEN, NEW_NEXT],
+        &TURNED,
+        &[
+            OPEN,
+            b"\x01\x00\x00\x00\x00\x00\x00\x00\x1D\x00\x00\x00\x01\x05\x00\x00\x00\x03\x04\x00\x00\x00\x00\x00\x00\x00\x00\x00\x00\x00\x00\x00\x00\x00\x00\x00\x00\x03",
+            SHUT,
+        ],
+    ],
     // A process of a library that isn't there.
-    b"\x01\x00\x00\x00\x00\x00\x00\x00\x1A\x00\x00\x00\x01\x03\x01\x00\x00\x00\x03add\x00\x00\x00\x02\x00\x00\x00\x01\x00\x00\x00\x00\x00",
+    &[
+        &[NEW, OPEN, NEW_FIRST],
+        &SUBMITTED,
+        &[OPEN, NEW_NEXT],
+        &TURNED,
+        &[
+            OPEN,
+            b"\x01\x00\x00\x00\x00\x00\x00\x00\x1A\x00\x00\x00\x01\x03\x01\x00\x00\x00\x03add\x00\x00\x00\x02\x00\x00\x00\x01\x00\x00\x00\x00\x00",
+            SHUT,
+        ],
+    ],
     // A number of batches, which a snapshot alone has.
-    b"\x01\x00\x00\x00\x00\x00\x00\x00\x09\x00\x00\x00\x01\x06\x00\x00\x00\x03",
+    &[
+        &[NEW, OPEN, NEW_FIRST],
+        &SUBMITTED,
+        &[OPEN, NEW_NEXT],
+        &TURNED,
+        &[
+            OPEN,
+            b"\x01\x00\x00\x00\x00\x00\x00\x00\x09\x00\x00\x00\x01\x06\x00\x00\x00\x03",
+            SHUT,
+        ],
+    ],
 ];
 
-/// What is told of such a batch behind the image of 250 bytes.
-const OF_A_MISFIT: (End, &str) = (
-    End::Damaged(1, 259, Some(0)),
-    "damaged: disk 1 at 259 byte 0\n",
-);
-
-/// Fails where a batch behind the image of a store with process 3 isn't damage, or the image changes.
-fn expect_misfit(alloc: Global, batch: &[u8]) -> Result<(), Fail> {
-    let mut image = added_image(alloc)?;
-    // The gate of that image opens.
-    image.pop();
-    image.extend_from_slice(&joined(alloc, &[OPEN, batch, SHUT])?)?;
-    let mut machine = Machine::new(alloc, &image, &[])?;
-    let (end, text) = OF_A_MISFIT;
-    for line in ["tree 3", "list", "pack", "submit add.wcf add x=2 y=3"] {
-        machine.expect((line, end, text))?;
-    }
-    machine.expect_images(&image, &[])
-}
+/// What is told of such a batch.
+const OF_A_MISFIT: [Row; 4] = [
+    (
+        "tree 3",
+        End::Damaged(1, 259, Some(0)),
+        "damaged: disk 1 at 259 byte 0\n",
+    ),
+    (
+        "list",
+        End::Damaged(1, 259, Some(0)),
+        "damaged: disk 1 at 259 byte 0\n",
+    ),
+    (
+        "pack",
+        End::Damaged(1, 259, Some(0)),
+        "damaged: disk 1 at 259 byte 0\n",
+    ),
+    (
+        "submit add.wcf add x=2 y=3",
+        End::Damaged(1, 259, Some(0)),
+        "damaged: disk 1 at 259 byte 0\n",
+    ),
+];
 
 #[test]
-fn changes_that_do_not_fit_are_damage(rt: HostRuntime) -> Result<(), Fail> {
-    let alloc = rt.alloc();
-    Machine::new(alloc, &added_image(alloc)?, &[])?.expect(LISTED)?;
-    for batch in MISFITS {
-        expect_misfit(alloc, batch)?;
+fn changes_that_do_not_fit_are_damage(rt: HostRuntime) -> Result<(), Wrong> {
+    for image in &MISFITS {
+        let steps = [Step::Calls(&OF_A_MISFIT), Step::Unchanged];
+        play(rt.alloc(), image, &[], &steps)?;
     }
-    Ok(())
+    play(rt.alloc(), ADDED_IMAGE, &[], &[Step::Calls(&[LISTED])])
 }
 
 /// A library with a work chain that returns its input, the number 7, the chain as process 2, and its input.
@@ -273,14 +356,6 @@ const CALLED: [&[u8]; 2] = [
     b"\x04\x00\x00\x00\x02\x00\x00\x00\x02\x06\x00\x00\x00\x00",
 ];
 
-/// The image of the store in which a work chain has finished as process 2, without its last gate.
-fn chain_image(alloc: Global) -> Result<Vec<u8>, AllocError> {
-    let mut image = joined(alloc, &[NEW, OPEN])?;
-    image.extend_from_slice(&joined(alloc, &CHAIN)?)?;
-    image.extend_from_slice(&joined(alloc, &RETURNED)?)?;
-    Ok(image)
-}
-
 /// What is told of that store.
 const OF_A_CHAIN: [Row; 3] = [
     ("list", End::Ok, "2 workchain same finished 0\n"),
@@ -288,20 +363,29 @@ const OF_A_CHAIN: [Row; 3] = [
     ("run", End::Later, "refused: later same\n"),
 ];
 
+/// What is told where the chain calls itself.
+const OF_A_CIRCLE: [Row; 1] = [(
+    "tree 2",
+    End::Damaged(1, 227, Some(0)),
+    "damaged: disk 1 at 227 byte 0\n",
+)];
+
 #[test]
-fn a_chain_that_calls_itself_is_damage(rt: HostRuntime) -> Result<(), Fail> {
-    let alloc = rt.alloc();
-    let mut image = chain_image(alloc)?;
-    let whole = joined(alloc, &[&image, SHUT])?;
-    Machine::new(alloc, &whole, &[])?.expect_all(&OF_A_CHAIN)?;
-    image.extend_from_slice(OPEN)?;
-    image.extend_from_slice(&joined(alloc, &CALLED)?)?;
-    image.extend_from_slice(SHUT)?;
-    let mut machine = Machine::new(alloc, &image, &[])?;
-    machine.expect((
-        "tree 2",
-        End::Damaged(1, 227, Some(0)),
-        "damaged: disk 1 at 227 byte 0\n",
-    ))?;
-    machine.expect_images(&image, &[])
+fn a_chain_has_returned(rt: HostRuntime) -> Result<(), Wrong> {
+    play(
+        rt.alloc(),
+        &[&[NEW, OPEN], &CHAIN, &RETURNED, &[SHUT]],
+        &[],
+        &[Step::Calls(&OF_A_CHAIN)],
+    )
+}
+
+#[test]
+fn a_chain_that_calls_itself_is_damage(rt: HostRuntime) -> Result<(), Wrong> {
+    play(
+        rt.alloc(),
+        &[&[NEW, OPEN], &CHAIN, &RETURNED, &[OPEN], &CALLED, &[SHUT]],
+        &[],
+        &[Step::Calls(&OF_A_CIRCLE), Step::Unchanged],
+    )
 }

@@ -1,17 +1,21 @@
 //! The command `dry`.
 
-use crate::session::{ADD, Sipping, call, call_on, numbers, shelf};
-use std::test::Fail;
+use crate::cases::{Case, expect_cases};
+use crate::files::ADD;
+use crate::script::{Step, play};
+use crate::session::{Called, End, Sipping, disk_of, numbers, one_file, sipped, words};
+use crate::wrong::Wrong;
+use std::alloc::{AllocError, Global};
 use wc_engine::{Cause, Status};
-use wc_io::MemorySink;
+use wc_io::{MemoryShelf, MemorySink};
 use wc_state::What;
-use wc_value::Text;
+use wc_value::{List, Text};
 
 /// The line of the first example.
 const DRY: &str = "dry add.wcf add x=2 y=3";
 
-/// A line of words, the file, the exit status, and the text.
-const CASES: [(&str, &str, u8, &str); 35] = [
+/// Lines, files, exit statuses and texts.
+const CASES: [Case; 35] = [
     ("dry add.wcf add x=2 y=3", ADD, 0, "finished 0\nsum int 5\n"),
     (
         "dry add.wcf add y=3 x=-5",
@@ -150,69 +154,79 @@ const CASES: [(&str, &str, u8, &str); 35] = [
 ];
 
 #[test]
-fn each_line_has_its_status_and_text(rt: HostRuntime) -> Result<(), Fail> {
-    for (line, content, code, text) in CASES {
-        let ended = call(rt.alloc(), line, content)?;
-        assert_eq!(rt; ended.status.code(), code, "at {line}");
-        assert_eq!(rt; ended.text.as_slice(), text.as_bytes(), "at {line}");
+fn each_line_has_its_status_and_text(rt: HostRuntime) -> Result<(), Wrong> {
+    expect_cases(rt.alloc(), &CASES)
+}
+
+/// A shelf or a sink fails, and nothing is written. No file is asked for by words that are no command.
+const FAULTS: [Step; 4] = [
+    Step::Failing((DRY, End::ReadFault, ""), &[1], &[9]),
+    Step::Failing((DRY, End::WriteFault, ""), &[9], &[1]),
+    Step::Failing((DRY, End::ReadFault, ""), &[1], &[1]),
+    Step::Failing(("frobnicate", End::Words, "refused: words\n"), &[1], &[]),
+];
+
+#[test]
+fn a_failing_shelf_or_sink_writes_nothing(rt: HostRuntime) -> Result<(), Wrong> {
+    play(rt.alloc(), &[], &[], &FAULTS)
+}
+
+/// Calls the program with the words of a line on two empty disks, with a sink that takes one byte in a call.
+fn sip_words(alloc: Global, sink: &mut Sipping) -> Result<Status, AllocError> {
+    let words = words(alloc, DRY)?;
+    let mut shelf = MemoryShelf::new(one_file(alloc, ADD.as_bytes())?, List::new(alloc));
+    let mut one = disk_of(alloc, List::new(alloc), &[])?;
+    let mut two = disk_of(alloc, List::new(alloc), &[])?;
+    Ok(sipped(alloc, &words, &mut shelf, sink, &mut one, &mut two))
+}
+
+/// Fails where such a sink, of which this call fails, leads to another exit status or another text.
+fn expect_sips(alloc: Global, failing: u64, code: u8, text: &str) -> Result<(), Wrong> {
+    let inner = MemorySink::new(alloc, numbers(alloc, &[failing])?);
+    let mut sink = Sipping { inner };
+    let status = sip_words(alloc, &mut sink)?;
+    let called = Called::of(alloc, &status, sink.inner.bytes())?;
+    called.expect_code(alloc, DRY, code, text)
+}
+
+#[test]
+fn a_sink_that_takes_one_byte_in_a_call(rt: HostRuntime) -> Result<(), Wrong> {
+    expect_sips(rt.alloc(), 99, 0, "finished 0\nsum int 5\n")?;
+    expect_sips(rt.alloc(), 4, 8, "fin")
+}
+
+/// The exit statuses of what names nothing.
+fn plain_codes() -> [u8; 9] {
+    [
+        Status::Ok.code(),
+        Status::Refused(Cause::Words).code(),
+        Status::Refused(Cause::Fuel).code(),
+        Status::OutOfMemory.code(),
+        Status::Spent.code(),
+        Status::Resting.code(),
+        Status::DiskFault.code(),
+        Status::ReadFault.code(),
+        Status::WriteFault.code(),
+    ]
+}
+
+/// The exit statuses of what names something.
+fn naming_codes(alloc: Global) -> Result<[u8; 3], AllocError> {
+    let port = Text::of_str(alloc, "x")?;
+    Ok([
+        Status::Refused(Cause::BadInput(port)).code(),
+        Status::Damaged(1, 21, None).code(),
+        Status::Full(What::Nodes, 11, 10).code(),
+    ])
+}
+
+#[test]
+fn statuses_have_their_codes(rt: HostRuntime) -> Result<(), Wrong> {
+    if plain_codes() != [0, 1, 1, 2, 3, 4, 5, 7, 8] {
+        return Err(Wrong::Not("each status has its code"));
     }
-    Ok(())
-}
-
-#[test]
-fn a_failing_shelf_or_sink_writes_nothing(rt: HostRuntime) -> Result<(), Fail> {
-    let alloc = rt.alloc();
-    for (reading, writing, code) in [(1, 9, 7), (9, 1, 8), (1, 1, 7)] {
-        let mut shelf = shelf(alloc, "add.wcf", ADD, &[reading])?;
-        let mut sink = MemorySink::new(alloc, numbers(alloc, &[writing])?);
-        let status = call_on(alloc, DRY, &mut shelf, &mut sink)?;
-        assert_eq!(rt; status.code(), code);
-        assert!(rt; sink.bytes().is_empty());
+    if naming_codes(rt.alloc())? != [1, 6, 9] {
+        return Err(Wrong::Not("each status that names something has its code"));
     }
-    Ok(())
-}
-
-#[test]
-fn words_that_are_no_command_ask_no_file(rt: HostRuntime) -> Result<(), Fail> {
-    let alloc = rt.alloc();
-    let mut shelf = shelf(alloc, "add.wcf", ADD, &[1])?;
-    let mut sink = MemorySink::new(alloc, numbers(alloc, &[])?);
-    let status = call_on(alloc, "frobnicate", &mut shelf, &mut sink)?;
-    assert_eq!(rt; status.code(), 1);
-    assert_eq!(rt; sink.bytes(), b"refused: words\n".as_slice());
-    Ok(())
-}
-
-#[test]
-fn a_sink_that_takes_one_byte_in_a_call(rt: HostRuntime) -> Result<(), Fail> {
-    let alloc = rt.alloc();
-    for (failing, code, text) in [(99, 0, "finished 0\nsum int 5\n"), (4, 8, "fin")] {
-        let mut shelf = shelf(alloc, "add.wcf", ADD, &[])?;
-        let mut sink = Sipping {
-            inner: MemorySink::new(alloc, numbers(alloc, &[failing])?),
-        };
-        let status = call_on(alloc, DRY, &mut shelf, &mut sink)?;
-        assert_eq!(rt; status.code(), code);
-        let Sipping { inner } = sink;
-        assert_eq!(rt; inner.bytes(), text.as_bytes());
-    }
-    Ok(())
-}
-
-#[test]
-fn statuses_have_their_codes(rt: HostRuntime) -> Result<(), Fail> {
-    assert_eq!(rt; Status::Ok.code(), 0);
-    assert_eq!(rt; Status::Refused(Cause::Words).code(), 1);
-    assert_eq!(rt; Status::Refused(Cause::Fuel).code(), 1);
-    let port = Text::of_str(rt.alloc(), "x")?;
-    assert_eq!(rt; Status::Refused(Cause::BadInput(port)).code(), 1);
-    assert_eq!(rt; Status::OutOfMemory.code(), 2);
-    assert_eq!(rt; Status::Spent.code(), 3);
-    assert_eq!(rt; Status::Resting.code(), 4);
-    assert_eq!(rt; Status::DiskFault.code(), 5);
-    assert_eq!(rt; Status::Damaged(1, 21, None).code(), 6);
-    assert_eq!(rt; Status::ReadFault.code(), 7);
-    assert_eq!(rt; Status::WriteFault.code(), 8);
-    assert_eq!(rt; Status::Full(What::Nodes, 11, 10).code(), 9);
     Ok(())
 }

@@ -1,50 +1,65 @@
 //! A disk, the sink or the shelf fails in a command of a store.
 
-use crate::machine::{End, LISTED, Machine, Row, SHOWN, Side, added};
-use std::test::Fail;
+use crate::machine::{Machine, Side};
+use crate::script::{ADDED, LISTED, SHOWN, Step, play};
+use crate::session::{End, Row};
+use crate::wrong::Wrong;
+use std::alloc::Global;
 
-/// Commands of a store that has process 3, each of which reads both disks.
-const ON_A_STORE: [&str; 6] = [
-    "init",
-    "list",
-    "run",
-    "tree 3",
-    "pack",
-    "submit add.wcf add x=2 y=3",
+/// Commands of a store that has process 3, each of which reads both disks and meets the fault of one.
+const FAULTY: [[Row; 1]; 6] = [
+    [("init", End::DiskFault, "")],
+    [("list", End::DiskFault, "")],
+    [("run", End::DiskFault, "")],
+    [("tree 3", End::DiskFault, "")],
+    [("pack", End::DiskFault, "")],
+    [("submit add.wcf add x=2 y=3", End::DiskFault, "")],
 ];
 
 /// Fails where a command doesn't meet the fault of a disk's first call, or changes something.
-fn expect_first_fault(store: &Machine, side: Side, line: &'static str) -> Result<(), Fail> {
-    let mut machine = store.failing(side, &[1])?;
-    machine.expect((line, End::DiskFault, ""))?;
-    machine.expect_same(store)?;
-    machine.expect(LISTED)
+fn expect_first_fault(alloc: Global, side: Side, rows: &[Row]) -> Result<(), Wrong> {
+    let steps = [
+        Step::Calls(&ADDED),
+        Step::FailsFirst(side),
+        Step::Mark,
+        Step::Calls(rows),
+        Step::Unchanged,
+        Step::Calls(&[LISTED]),
+    ];
+    play(alloc, &[], &[], &steps)
 }
 
 #[test]
-fn a_disk_fails_its_first_call(rt: HostRuntime) -> Result<(), Fail> {
-    let store = added(rt.alloc())?;
-    for line in ON_A_STORE {
-        expect_first_fault(&store, Side::One, line)?;
-        expect_first_fault(&store, Side::Two, line)?;
+fn a_disk_fails_its_first_call(rt: HostRuntime) -> Result<(), Wrong> {
+    for rows in &FAULTY {
+        expect_first_fault(rt.alloc(), Side::One, rows)?;
+        expect_first_fault(rt.alloc(), Side::Two, rows)?;
     }
     Ok(())
 }
 
+/// A store is made on a disk that failed its first call.
+const MADE_LATER: [Row; 2] = [("init", End::Ok, "initialised\n"), ("list", End::Ok, "")];
+
 /// Fails where a store is made on a disk that fails its first call, or isn't made then.
-fn expect_made_later(empty: &Machine, side: Side) -> Result<(), Fail> {
-    let mut machine = empty.failing(side, &[1])?;
-    machine.expect(("init", End::DiskFault, ""))?;
-    machine.expect_same(empty)?;
-    machine.expect(("init", End::Ok, "initialised\n"))?;
-    machine.expect(("list", End::Ok, ""))
+fn expect_made_later(alloc: Global, side: Side) -> Result<(), Wrong> {
+    play(
+        alloc,
+        &[],
+        &[],
+        &[
+            Step::FailsFirst(side),
+            Step::Calls(&[("init", End::DiskFault, "")]),
+            Step::Unchanged,
+            Step::Calls(&MADE_LATER),
+        ],
+    )
 }
 
 #[test]
-fn no_store_is_made_on_a_disk_that_fails(rt: HostRuntime) -> Result<(), Fail> {
-    let empty = Machine::empty(rt.alloc())?;
-    expect_made_later(&empty, Side::One)?;
-    expect_made_later(&empty, Side::Two)
+fn no_store_is_made_on_a_disk_that_fails(rt: HostRuntime) -> Result<(), Wrong> {
+    expect_made_later(rt.alloc(), Side::One)?;
+    expect_made_later(rt.alloc(), Side::Two)
 }
 
 /// What asks no disk.
@@ -69,86 +84,121 @@ const ON_NO_DISK: [Row; 5] = [
 ];
 
 #[test]
-fn what_asks_no_disk_meets_no_fault(rt: HostRuntime) -> Result<(), Fail> {
-    let empty = Machine::empty(rt.alloc())?;
-    for row in ON_NO_DISK {
-        empty.failing(Side::One, &[1])?.expect(row)?;
-        empty.failing(Side::Two, &[1])?.expect(row)?;
-    }
-    Ok(())
+fn what_asks_no_disk_meets_no_fault(rt: HostRuntime) -> Result<(), Wrong> {
+    play(
+        rt.alloc(),
+        &[],
+        &[],
+        &[
+            Step::FailsFirst(Side::One),
+            Step::Calls(&ON_NO_DISK),
+            Step::FailsFirst(Side::Two),
+            Step::Calls(&ON_NO_DISK),
+        ],
+    )
 }
 
-/// A command, what it tells where the sink fails, and what `list` tells then.
-const STAYING: [(&str, &str); 4] = [
-    ("init", ""),
-    ("submit add.wcf add x=2 y=3", "3 calcfunction add created\n"),
-    ("run", "3 calcfunction add finished 0\n"),
-    ("pack", "3 calcfunction add finished 0\n"),
+/// Where the sink fails, what was committed stays.
+const STAYING: [Step; 9] = [
+    Step::Failing(("init", End::WriteFault, ""), &[], &[1]),
+    Step::Calls(&[("list", End::Ok, "")]),
+    Step::Failing(
+        ("submit add.wcf add x=2 y=3", End::WriteFault, ""),
+        &[],
+        &[1],
+    ),
+    Step::Calls(&[("list", End::Ok, "3 calcfunction add created\n")]),
+    Step::Failing(("run", End::WriteFault, ""), &[], &[1]),
+    Step::Calls(&[LISTED]),
+    Step::Failing(("pack", End::WriteFault, ""), &[], &[1]),
+    Step::Calls(&[LISTED]),
+    Step::Calls(&[SHOWN, ("pack", End::Ok, "packed 3\n")]),
 ];
 
 #[test]
-fn what_was_committed_stays_where_the_sink_fails(rt: HostRuntime) -> Result<(), Fail> {
-    let mut machine = Machine::empty(rt.alloc())?;
-    for (line, list) in STAYING {
-        machine.expect_failing((line, End::WriteFault, ""), &[], &[1])?;
-        machine.expect(("list", End::Ok, list))?;
-    }
-    machine.expect(SHOWN)?;
-    machine.expect(("pack", End::Ok, "packed 3\n"))
+fn what_was_committed_stays_where_the_sink_fails(rt: HostRuntime) -> Result<(), Wrong> {
+    play(rt.alloc(), &[], &[], &STAYING)
 }
 
-/// Fails where a file that can't be read changes the disks.
-fn expect_unread(mut machine: Machine) -> Result<(), Fail> {
-    let before = machine.failing(Side::One, &[])?;
-    let row = ("submit add.wcf add x=2 y=3", End::ReadFault, "");
-    machine.expect_failing(row, &[1], &[])?;
-    machine.expect_same(&before)
-}
+/// A file that can't be read changes neither empty disks nor a store.
+const UNREAD: [Step; 6] = [
+    Step::Failing(
+        ("submit add.wcf add x=2 y=3", End::ReadFault, ""),
+        &[1],
+        &[],
+    ),
+    Step::Unchanged,
+    Step::Calls(&ADDED),
+    Step::Mark,
+    Step::Failing(
+        ("submit add.wcf add x=2 y=3", End::ReadFault, ""),
+        &[1],
+        &[],
+    ),
+    Step::Unchanged,
+];
 
 #[test]
-fn a_file_that_cannot_be_read_changes_no_store(rt: HostRuntime) -> Result<(), Fail> {
-    expect_unread(Machine::empty(rt.alloc())?)?;
-    expect_unread(added(rt.alloc())?)
+fn a_file_that_cannot_be_read_changes_no_store(rt: HostRuntime) -> Result<(), Wrong> {
+    play(rt.alloc(), &[], &[], &UNREAD)
 }
 
 /// What asks for no file, on a store that has process 3.
-const ON_NO_FILE: [Row; 4] = [
-    LISTED,
-    SHOWN,
-    ("run", End::Ok, "committed 0 live 0 paused 0\n"),
-    ("pack", End::Ok, "packed 2\n"),
+const ON_NO_FILE: [Step; 5] = [
+    Step::Calls(&ADDED),
+    Step::Failing(LISTED, &[1], &[]),
+    Step::Failing(SHOWN, &[1], &[]),
+    Step::Failing(("run", End::Ok, "committed 0 live 0 paused 0\n"), &[1], &[]),
+    Step::Failing(("pack", End::Ok, "packed 2\n"), &[1], &[]),
 ];
 
 #[test]
-fn commands_of_a_store_alone_read_no_file(rt: HostRuntime) -> Result<(), Fail> {
-    let mut machine = added(rt.alloc())?;
-    for row in ON_NO_FILE {
-        machine.expect_failing(row, &[1], &[])?;
-    }
-    Ok(())
+fn commands_of_a_store_alone_read_no_file(rt: HostRuntime) -> Result<(), Wrong> {
+    play(rt.alloc(), &[], &[], &ON_NO_FILE)
 }
 
-/// How many of several commands meet the fault of a disk, where a call and the next one of it fail.
-fn faults_met(empty: &Machine, side: Side, call: u64) -> Result<u32, Fail> {
+/// Commands that read both disks, of which the first three make a store where there is none.
+const READING: [&str; 8] = [
+    "init", "init", "init", "list", "list", "list", "list", "list",
+];
+
+/// Whether a command meets the fault of a disk.
+fn meets_fault(machine: &mut Machine, line: &str) -> Result<bool, Wrong> {
+    Ok(machine.call(line)?.end == End::DiskFault)
+}
+
+/// How many of the commands meet the fault of a disk, where a call and the next one of it fail.
+fn faults_met(alloc: Global, side: Side, call: u64) -> Result<u32, Wrong> {
+    let empty = Machine::new(alloc, &[], &[])?;
     let mut machine = empty.failing(side, &[call, call.saturating_add(1)])?;
     let mut faults: u32 = 0;
-    for line in [
-        "init", "init", "init", "list", "list", "list", "list", "list",
-    ] {
-        if machine.call(line)?.end == End::DiskFault {
+    for line in &READING {
+        if meets_fault(&mut machine, line)? {
             faults = faults.saturating_add(1);
         }
     }
     Ok(faults)
 }
 
+/// Fails where not each of both faults ends a command of its own. The call behind the failed one is the first of the next command.
+fn expect_two_faults(alloc: Global, side: Side, call: u64) -> Result<(), Wrong> {
+    let faults = faults_met(alloc, side, call)?;
+    if faults == 2 {
+        return Ok(());
+    }
+    let disk = match side {
+        Side::One => 1,
+        Side::Two => 2,
+    };
+    let found = format!(in alloc; "disk {disk}: {faults} faults met at {call}")?;
+    Err(Wrong::Found(found))
+}
+
 #[test]
-fn a_disk_that_failed_is_not_asked_again(rt: HostRuntime) -> Result<(), Fail> {
-    let empty = Machine::empty(rt.alloc())?;
-    // The call behind the failed one is the first of the next command.
+fn a_disk_that_failed_is_not_asked_again(rt: HostRuntime) -> Result<(), Wrong> {
     for call in 1..9 {
-        assert_eq!(rt; faults_met(&empty, Side::One, call)?, 2, "one {call}");
-        assert_eq!(rt; faults_met(&empty, Side::Two, call)?, 2, "two {call}");
+        expect_two_faults(rt.alloc(), Side::One, call)?;
+        expect_two_faults(rt.alloc(), Side::Two, call)?;
     }
     Ok(())
 }

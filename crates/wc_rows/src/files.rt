@@ -1,5 +1,16 @@
 //! Whole workflow files.
 
+/// The file of the examples.
+pub const ADD: &str = "calcfunction add(x: int, y: int) -> (sum: int) {\n  out sum = x + y;\n}\n";
+
+/// Functions that end in every way.
+pub const ENDS: &str = "calcfunction half(a: int) -> (y: int, x: int) { out x = a; }
+calcfunction stop(a: int) -> (x: int) { exit_code 310 \"no\"; out x = a; exit 310 if a < 0; }
+calcfunction ratio(a: int, b: int) -> (x: int, r: int) { out r = a % b; out x = a / b; }
+calcfunction nothing() -> () { }
+calcfunction show(t: text, n?: int) -> (t: text, l: list, b: bool) { out t = t + \"!\"; out l = [t, [1, true]]; out b = given(n); }
+";
+
 pub const FAN: &str = "calcfunction add(x: int, y: int) -> (sum: int) {
   out sum = x + y;
 }

@@ -1,8 +1,9 @@
 //! The bytes of a store: what the commands write, worked out by hand from the format, and what they tell of images made by hand.
 
-use crate::machine::{ADDED, End, LISTED, Machine, Row, SHOWN, Side, added};
-use std::alloc::{AllocError, Global};
-use std::test::Fail;
+use crate::script::{ADDED, LISTED, SHOWN, Step, play};
+use crate::session::{End, Pieces, Row};
+use crate::wrong::Wrong;
+use std::alloc::Global;
 use wc_state::What;
 
 /// A header of version 1.
@@ -67,9 +68,9 @@ const KEPT: &[u8] = &[7, 0, 0, 0, 3, 0, 0, 0, 2, 0, 0, 0, 2];
 const COUNT: &[u8] = &[6, 0, 0, 0, 2];
 
 /// The submission's payload of 157 bytes, and the turn's of 56.
-const SUBMITTED: [&[u8]; 7] = [&[0, 0, 0, 6], LIBRARY, TWO, THREE, PROCESS, LINK_X, LINK_Y];
+pub const SUBMITTED: [&[u8]; 7] = [&[0, 0, 0, 6], LIBRARY, TWO, THREE, PROCESS, LINK_X, LINK_Y];
 
-const TURNED: [&[u8]; 4] = [&[0, 0, 0, 3], FIVE, LINK_SUM, FINISHED];
+pub const TURNED: [&[u8]; 4] = [&[0, 0, 0, 3], FIVE, LINK_SUM, FINISHED];
 
 /// The snapshot of 227 bytes, with its batch's kind and length.
 const SNAPSHOT: [&[u8]; 13] = [
@@ -93,73 +94,54 @@ const OLD_FIRST: &[u8] = &[0, 0, 0, 0x9D];
 
 const OLD_NEXT: &[u8] = &[0, 0, 0, 0x38];
 
-const NEW_FIRST: &[u8] = &[1, 0, 0, 0, 0, 0, 0, 0, 0x9D];
+pub const NEW_FIRST: &[u8] = &[1, 0, 0, 0, 0, 0, 0, 0, 0x9D];
 
-const NEW_NEXT: &[u8] = &[1, 0, 0, 0, 0, 0, 0, 0, 0x38];
-
-/// Pieces, one after another.
-pub fn joined(alloc: Global, pieces: &[&[u8]]) -> Result<Vec<u8>, AllocError> {
-    let mut image = Vec::new(alloc);
-    for piece in pieces {
-        image.extend_from_slice(piece)?;
-    }
-    Ok(image)
-}
-
-/// A header, an open gate and the submission's batch, without the gate behind it.
-fn submitted(alloc: Global, header: &[u8], front: &[u8]) -> Result<Vec<u8>, AllocError> {
-    let mut image = joined(alloc, &[header, OPEN, front])?;
-    image.extend_from_slice(&joined(alloc, &SUBMITTED)?)?;
-    Ok(image)
-}
-
-/// The same with the turn's batch behind it, without the gate behind that.
-fn turned(alloc: Global, header: &[u8], first: &[u8], next: &[u8]) -> Result<Vec<u8>, AllocError> {
-    let mut image = submitted(alloc, header, first)?;
-    image.extend_from_slice(&joined(alloc, &[OPEN, next])?)?;
-    image.extend_from_slice(&joined(alloc, &TURNED)?)?;
-    Ok(image)
-}
-
-/// A journal of this header with the snapshot alone.
-fn packed(alloc: Global, header: &[u8]) -> Result<Vec<u8>, AllocError> {
-    let mut image = joined(alloc, &[header, OPEN])?;
-    image.extend_from_slice(&joined(alloc, &SNAPSHOT)?)?;
-    Ok(image)
-}
+pub const NEW_NEXT: &[u8] = &[1, 0, 0, 0, 0, 0, 0, 0, 0x38];
 
 /// The image of the store in which process 3 has ended.
-pub fn added_image(alloc: Global) -> Result<Vec<u8>, AllocError> {
-    let mut image = turned(alloc, NEW, NEW_FIRST, NEW_NEXT)?;
-    image.extend_from_slice(SHUT)?;
-    Ok(image)
-}
+pub const ADDED_IMAGE: Pieces = &[
+    &[NEW, OPEN, NEW_FIRST],
+    &SUBMITTED,
+    &[OPEN, NEW_NEXT],
+    &TURNED,
+    &[SHUT],
+];
+
+/// A second and a third generation that hold its snapshot alone.
+const PACKED_SECOND: Pieces = &[&[SECOND, OPEN], &SNAPSHOT];
+
+const PACKED_THIRD: Pieces = &[&[THIRD, OPEN], &SNAPSHOT];
+
+/// An empty store.
+const MADE: Pieces = &[&[NEW, SHUT]];
 
 /// The commands of one store, and what disk one holds after each, beside an empty disk two.
-#[test]
-fn commands_write_these_bytes(rt: HostRuntime) -> Result<(), Fail> {
-    let alloc = rt.alloc();
-    let [init, submit, run] = ADDED;
-    let mut machine = Machine::empty(alloc)?;
-    machine.expect(init)?;
-    machine.expect_images(&joined(alloc, &[NEW, SHUT])?, &[])?;
-    machine.expect(submit)?;
-    let mut image = submitted(alloc, NEW, NEW_FIRST)?;
-    image.extend_from_slice(SHUT)?;
-    machine.expect_images(&image, &[])?;
-    machine.expect(run)?;
-    machine.expect_images(&added_image(alloc)?, &[])
-}
+const WRITTEN: [Step; 6] = [
+    Step::Calls(&[("init", End::Ok, "initialised\n")]),
+    Step::Holds(MADE, &[]),
+    Step::Calls(&[("submit add.wcf add x=2 y=3", End::Ok, "submitted 3\n")]),
+    Step::Holds(&[&[NEW, OPEN, NEW_FIRST], &SUBMITTED, &[SHUT]], &[]),
+    Step::Calls(&[("run", End::Ok, "committed 1 live 0 paused 0\n")]),
+    Step::Holds(ADDED_IMAGE, &[]),
+];
 
 #[test]
-fn packing_writes_these_bytes(rt: HostRuntime) -> Result<(), Fail> {
-    let alloc = rt.alloc();
-    let second = packed(alloc, SECOND)?;
-    let mut machine = added(alloc)?;
-    machine.expect(("pack", End::Ok, "packed 2\n"))?;
-    machine.expect_images(&added_image(alloc)?, &second)?;
-    machine.expect(("pack", End::Ok, "packed 3\n"))?;
-    machine.expect_images(&packed(alloc, THIRD)?, &second)
+fn commands_write_these_bytes(rt: HostRuntime) -> Result<(), Wrong> {
+    play(rt.alloc(), &[], &[], &WRITTEN)
+}
+
+/// Two packings, and what the disks hold after each.
+const PACKED: [Step; 5] = [
+    Step::Calls(&ADDED),
+    Step::Calls(&[("pack", End::Ok, "packed 2\n")]),
+    Step::Holds(ADDED_IMAGE, PACKED_SECOND),
+    Step::Calls(&[("pack", End::Ok, "packed 3\n")]),
+    Step::Holds(PACKED_THIRD, PACKED_SECOND),
+];
+
+#[test]
+fn packing_writes_these_bytes(rt: HostRuntime) -> Result<(), Wrong> {
+    play(rt.alloc(), &[], &[], &PACKED)
 }
 
 /// The turns of processes 3 and 6 behind those of two submissions, which make the data 7 and 8.
@@ -189,12 +171,13 @@ const TWO_ADDED: [Row; 4] = [
 ];
 
 #[test]
-fn the_lowest_process_takes_its_turn_first(rt: HostRuntime) -> Result<(), Fail> {
-    let alloc = rt.alloc();
-    let mut machine = Machine::empty(alloc)?;
-    machine.expect_all(&TWO_ADDED)?;
-    assert!(rt; machine.one().ends_with(&joined(alloc, &BOTH)?));
-    Ok(())
+fn the_lowest_process_takes_its_turn_first(rt: HostRuntime) -> Result<(), Wrong> {
+    play(
+        rt.alloc(),
+        &[],
+        &[],
+        &[Step::Calls(&TWO_ADDED), Step::EndsWith(&[&BOTH])],
+    )
 }
 
 /// What is told of a store of version 1 that is gone on with.
@@ -207,71 +190,118 @@ const GOING_ON: [Row; 6] = [
     SHOWN,
 ];
 
+/// A store of version 1 is gone on with in version 1, and packed in version 2.
+const GONE_ON: [Step; 5] = [
+    Step::Calls(&GOING_ON),
+    Step::Holds(
+        &[
+            &[OLD, OPEN, OLD_FIRST],
+            &SUBMITTED,
+            &[OPEN, OLD_NEXT],
+            &TURNED,
+            &[SHUT],
+        ],
+        &[],
+    ),
+    Step::Calls(&[("pack", End::Ok, "packed 2\n")]),
+    Step::Holds(
+        &[
+            &[OLD, OPEN, OLD_FIRST],
+            &SUBMITTED,
+            &[OPEN, OLD_NEXT],
+            &TURNED,
+            &[SHUT],
+        ],
+        PACKED_SECOND,
+    ),
+    Step::Calls(&[SHOWN]),
+];
+
 #[test]
-fn a_store_of_version_1_is_gone_on_with(rt: HostRuntime) -> Result<(), Fail> {
-    let alloc = rt.alloc();
-    let mut machine = Machine::new(alloc, &joined(alloc, &[OLD, SHUT])?, &[])?;
-    machine.expect_all(&GOING_ON)?;
-    let mut image = turned(alloc, OLD, OLD_FIRST, OLD_NEXT)?;
-    image.extend_from_slice(SHUT)?;
-    machine.expect_images(&image, &[])?;
-    machine.expect(("pack", End::Ok, "packed 2\n"))?;
-    machine.expect_images(&image, &packed(alloc, SECOND)?)?;
-    machine.expect(SHOWN)
+fn a_store_of_version_1_is_gone_on_with(rt: HostRuntime) -> Result<(), Wrong> {
+    play(rt.alloc(), &[&[OLD, SHUT]], &[], &GONE_ON)
 }
 
-/// Fails where a packing doesn't write over these bytes of disk two, which are no journal.
-fn expect_packed_over(alloc: Global, rest: &[u8]) -> Result<(), Fail> {
-    let image = added_image(alloc)?;
-    let mut machine = Machine::new(alloc, &image, rest)?;
-    machine.expect(("pack", End::Ok, "packed 2\n"))?;
-    machine.expect_images(&image, &packed(alloc, SECOND)?)
-}
+/// Bytes that are no journal.
+const NO_JOURNALS: [Pieces; 3] = [&[&[&[0; 300]]], &[&[&[0x57]]], &[&[&[0]]]];
+
+/// A packing of the store in which process 3 has ended.
+const PACKED_OVER: [Step; 2] = [
+    Step::Calls(&[("pack", End::Ok, "packed 2\n")]),
+    Step::Holds(ADDED_IMAGE, PACKED_SECOND),
+];
 
 #[test]
-fn packing_writes_over_what_is_no_journal(rt: HostRuntime) -> Result<(), Fail> {
-    for rest in [[0; 300].as_slice(), &[0x57], &[0]] {
-        expect_packed_over(rt.alloc(), rest)?;
+fn packing_writes_over_what_is_no_journal(rt: HostRuntime) -> Result<(), Wrong> {
+    for rest in &NO_JOURNALS {
+        play(rt.alloc(), ADDED_IMAGE, rest, &PACKED_OVER)?;
     }
     Ok(())
 }
 
+/// Batches in front of what stood behind a gate that wasn't open. The image is as long as before, 317 bytes.
+const WRITTEN_OVER: [Step; 3] = [
+    Step::Calls(&[
+        ("list", End::Ok, ""),
+        ("submit add.wcf add x=2 y=3", End::Ok, "submitted 3\n"),
+        ("run", End::Ok, "committed 1 live 0 paused 0\n"),
+    ]),
+    Step::Holds(
+        &[
+            &[NEW, OPEN, NEW_FIRST],
+            &SUBMITTED,
+            &[OPEN, NEW_NEXT],
+            &TURNED,
+            &[SHUT, &[1; 67]],
+        ],
+        &[],
+    ),
+    Step::Calls(&[SHOWN]),
+];
+
 #[test]
-fn batches_are_written_over_what_is_passed_over(rt: HostRuntime) -> Result<(), Fail> {
-    let alloc = rt.alloc();
-    let rest = [1; 300];
-    let [_, submit, run] = ADDED;
-    let mut machine = Machine::new(alloc, &joined(alloc, &[NEW, SHUT, &rest])?, &[])?;
-    machine.expect_all(&[("list", End::Ok, ""), submit, run])?;
-    // The image is as long as before, 317 bytes.
-    let left = [1; 67];
-    machine.expect_images(&joined(alloc, &[&added_image(alloc)?, &left])?, &[])?;
-    machine.expect(SHOWN)
+fn batches_are_written_over_what_is_passed_over(rt: HostRuntime) -> Result<(), Wrong> {
+    play(rt.alloc(), &[&[NEW, SHUT, &[1; 300]]], &[], &WRITTEN_OVER)
 }
+
+/// Bytes that are no store, the same on both disks.
+const NO_STORES: [(Pieces, Pieces); 5] = [
+    (&[], &[]),
+    (&[&[&[0x57]]], &[&[&[0x57]]]),
+    (&[&[&[0x58]]], &[&[&[0x58]]]),
+    (&[&[&[0; 5]]], &[&[&[0; 5]]]),
+    (&[&[&[0; 17]]], &[&[&[0; 17]]]),
+];
+
+/// What is told where there is none, and of its making.
+const MADE_BESIDE: [Row; 2] = [
+    ("list", End::NoStore, "refused: no store\n"),
+    ("init", End::Ok, "initialised\n"),
+];
 
 /// Fails where no store is made beside these bytes, which are none on either disk.
-fn expect_made_beside(alloc: Global, rest: &[u8]) -> Result<(), Fail> {
-    let mut machine = Machine::new(alloc, rest, rest)?;
-    machine.expect(("list", End::NoStore, "refused: no store\n"))?;
-    machine.expect(("init", End::Ok, "initialised\n"))?;
-    machine.expect_images(&joined(alloc, &[NEW, SHUT])?, rest)
+fn expect_made_beside(alloc: Global, one: Pieces, two: Pieces) -> Result<(), Wrong> {
+    let steps = [Step::Calls(&MADE_BESIDE), Step::Holds(MADE, two)];
+    play(alloc, one, two, &steps)
 }
 
 #[test]
-fn a_store_is_made_where_there_is_none(rt: HostRuntime) -> Result<(), Fail> {
-    for rest in [[].as_slice(), &[0x57], &[0x58], &[0; 5], &[0; 17]] {
-        expect_made_beside(rt.alloc(), rest)?;
+fn a_store_is_made_where_there_is_none(rt: HostRuntime) -> Result<(), Wrong> {
+    for (one, two) in &NO_STORES {
+        expect_made_beside(rt.alloc(), one, two)?;
     }
     Ok(())
 }
 
+/// What is told where a store is made beside one.
+const EXISTS: [Step; 2] = [
+    Step::Calls(&[("init", End::StoreExists, "refused: store exists\n")]),
+    Step::Holds(&[], MADE),
+];
+
 #[test]
-fn a_store_on_disk_two_is_a_store(rt: HostRuntime) -> Result<(), Fail> {
-    let alloc = rt.alloc();
-    let image = joined(alloc, &[NEW, SHUT])?;
-    let mut machine = Machine::new(alloc, &[], &image)?;
-    machine.expect(("init", End::StoreExists, "refused: store exists\n"))?;
-    machine.expect_images(&[], &image)
+fn a_store_on_disk_two_is_a_store(rt: HostRuntime) -> Result<(), Wrong> {
+    play(rt.alloc(), &[], MADE, &EXISTS)
 }
 
 /// A change of process 3: it is created, and paused.
@@ -289,32 +319,30 @@ const RESTING: [Row; 4] = [
 ];
 
 #[test]
-fn a_paused_process_rests(rt: HostRuntime) -> Result<(), Fail> {
-    let alloc = rt.alloc();
-    let mut image = submitted(alloc, NEW, NEW_FIRST)?;
-    image.extend_from_slice(&joined(alloc, &[OPEN, PAUSED, SHUT])?)?;
-    let mut machine = Machine::new(alloc, &image, &[])?;
-    machine.expect_all(&RESTING)?;
-    machine.expect_images(&image, &[])
+fn a_paused_process_rests(rt: HostRuntime) -> Result<(), Wrong> {
+    play(
+        rt.alloc(),
+        &[&[NEW, OPEN, NEW_FIRST], &SUBMITTED, &[OPEN, PAUSED, SHUT]],
+        &[],
+        &[Step::Calls(&RESTING), Step::Unchanged],
+    )
 }
 
+/// Process 3 may take another's outcome, and isn't run yet.
+const CACHING: [Step; 4] = [
+    Step::Alters(152, 1),
+    Step::Mark,
+    Step::Calls(&[LISTED, ("run", End::Later, "refused: later add\n")]),
+    Step::Unchanged,
+];
+
 #[test]
-fn a_store_with_caching_is_not_run_yet(rt: HostRuntime) -> Result<(), Fail> {
-    let alloc = rt.alloc();
-    let mut image = added_image(alloc)?;
-    // Process 3 may take another's outcome.
-    match image.get_mut(152) {
-        Some(caching) => *caching = 1,
-        None => Err("the image has such a place")?,
-    }
-    let mut machine = Machine::new(alloc, &image, &[])?;
-    machine.expect(LISTED)?;
-    machine.expect(("run", End::Later, "refused: later add\n"))?;
-    machine.expect_images(&image, &[])
+fn a_store_with_caching_is_not_run_yet(rt: HostRuntime) -> Result<(), Wrong> {
+    play(rt.alloc(), ADDED_IMAGE, &[], &CACHING)
 }
 
 /// A journal of the second generation whose snapshot has the number 5 and one batch.
-const SNAPSHOT_FIVE: [u8; 46] = [
+const SNAPSHOT_FIVE: &[u8] = &[
     0x57, 0x43, 0x4A, 0x4E, 0x4C, 0, 0, 2, 0, 0, 0, 0, 0, 0, 0, 2, 1, 2, 0, 0, 0, 0, 0, 0, 0, 0x13,
     0, 0, 0, 2, 2, 1, 0, 0, 0, 0, 0, 0, 0, 5, 6, 0, 0, 0, 1, 0,
 ];
@@ -327,18 +355,19 @@ const OF_FIVE: [Row; 3] = [
 ];
 
 /// Fails where a store with the number 5 alone isn't packed, or the next process has another number than 4.
-fn expect_five_packed(alloc: Global, pieces: &[&[u8]]) -> Result<(), Fail> {
-    let image = joined(alloc, pieces)?;
-    let mut machine = Machine::new(alloc, &image, &[])?;
-    machine.expect_all(&OF_FIVE)?;
-    machine.expect_images(&image, &SNAPSHOT_FIVE)?;
-    machine.expect(("submit add.wcf add x=2 y=3", End::Ok, "submitted 4\n"))
+fn expect_five_packed(alloc: Global, image: Pieces) -> Result<(), Wrong> {
+    let steps = [
+        Step::Calls(&OF_FIVE),
+        Step::Holds(image, &[&[SNAPSHOT_FIVE]]),
+        Step::Calls(&[("submit add.wcf add x=2 y=3", End::Ok, "submitted 4\n")]),
+    ];
+    play(alloc, image, &[], &steps)
 }
 
 #[test]
-fn a_number_alone_is_packed(rt: HostRuntime) -> Result<(), Fail> {
-    expect_five_packed(rt.alloc(), &[OLD, OPEN, OLD_FIVE])?;
-    expect_five_packed(rt.alloc(), &[NEW, OPEN, NEW_FIVE])
+fn a_number_alone_is_packed(rt: HostRuntime) -> Result<(), Wrong> {
+    expect_five_packed(rt.alloc(), &[&[OLD, OPEN, OLD_FIVE]])?;
+    expect_five_packed(rt.alloc(), &[&[NEW, OPEN, NEW_FIVE]])
 }
 
 /// What is told of a store whose next generation would be too great.
@@ -351,18 +380,17 @@ const OF_GENERATIONS: [Row; 2] = [
     SHOWN,
 ];
 
+/// The third generation gets a number of eight bytes.
+const TOO_GREAT: [Step; 4] = [
+    Step::Alters(8, 1),
+    Step::Mark,
+    Step::Calls(&OF_GENERATIONS),
+    Step::Unchanged,
+];
+
 #[test]
-fn generations_have_their_limit(rt: HostRuntime) -> Result<(), Fail> {
-    let alloc = rt.alloc();
-    let mut one = packed(alloc, THIRD)?;
-    match one.get_mut(8) {
-        Some(byte) => *byte = 1,
-        None => Err("the image has such a place")?,
-    }
-    let two = packed(alloc, SECOND)?;
-    let mut machine = Machine::new(alloc, &one, &two)?;
-    machine.expect_all(&OF_GENERATIONS)?;
-    machine.expect_images(&one, &two)
+fn generations_have_their_limit(rt: HostRuntime) -> Result<(), Wrong> {
+    play(rt.alloc(), PACKED_THIRD, PACKED_SECOND, &TOO_GREAT)
 }
 
 /// A header of the generation 4000000000, and what stands behind the header of the snapshot above.
@@ -377,15 +405,21 @@ const BEHIND_LAST: &[u8] = &[
     0, 0x13, 0, 0, 0, 2, 2, 1, 0, 0, 0, 0, 0, 0, 0, 5, 6, 0, 0, 0, 1, 0,
 ];
 
+/// The last generation is packed, and the one behind it isn't.
+const LAST_PACKED: [Step; 4] = [
+    Step::Calls(&[("pack", End::Ok, "packed 4000000001\n")]),
+    Step::Holds(&[&[LAST]], &[&[BEHIND_LAST]]),
+    Step::Calls(&[(
+        "pack",
+        End::Full(What::Generations, 4_000_000_001, 4_000_000_000),
+        "full: generations 4000000001 of 4000000000\n",
+    )]),
+    Step::Holds(&[&[LAST]], &[&[BEHIND_LAST]]),
+];
+
 #[test]
-fn the_last_generation_is_packed(rt: HostRuntime) -> Result<(), Fail> {
-    let mut machine = Machine::new(rt.alloc(), LAST, &[])?;
-    machine.expect(("pack", End::Ok, "packed 4000000001\n"))?;
-    machine.expect_images(LAST, BEHIND_LAST)?;
-    let what = End::Full(What::Generations, 4_000_000_001, 4_000_000_000);
-    let text = "full: generations 4000000001 of 4000000000\n";
-    machine.expect(("pack", what, text))?;
-    machine.expect_images(LAST, BEHIND_LAST)
+fn the_last_generation_is_packed(rt: HostRuntime) -> Result<(), Wrong> {
+    play(rt.alloc(), &[&[LAST]], &[], &LAST_PACKED)
 }
 
 /// A snapshot of the number 5 and of 3999999999 batches.
@@ -409,11 +443,15 @@ const OF_BATCHES: [Row; 3] = [
     ("list", End::Ok, "4 calcfunction add created\n"),
 ];
 
+/// One batch has room, and no further one.
+const FILLED: [Step; 4] = [
+    Step::Calls(&[("submit add.wcf add x=2 y=3", End::Ok, "submitted 4\n")]),
+    Step::Mark,
+    Step::Calls(&OF_BATCHES),
+    Step::Unchanged,
+];
+
 #[test]
-fn batches_have_their_limit(rt: HostRuntime) -> Result<(), Fail> {
-    let mut machine = Machine::new(rt.alloc(), &[], CROWDED)?;
-    machine.expect(("submit add.wcf add x=2 y=3", End::Ok, "submitted 4\n"))?;
-    let before = machine.failing(Side::One, &[])?;
-    machine.expect_all(&OF_BATCHES)?;
-    machine.expect_same(&before)
+fn batches_have_their_limit(rt: HostRuntime) -> Result<(), Wrong> {
+    play(rt.alloc(), &[], &[&[CROWDED]], &FILLED)
 }

@@ -3,6 +3,8 @@
 #![tactic(auto)]
 
 #[cfg(test)]
+mod cases;
+#[cfg(test)]
 mod chains;
 #[cfg(test)]
 mod check;
@@ -29,6 +31,8 @@ mod pairs;
 #[cfg(test)]
 mod refusals;
 #[cfg(test)]
+mod script;
+#[cfg(test)]
 mod session;
 #[cfg(test)]
 mod stores;
@@ -36,3 +40,5 @@ mod stores;
 mod submits;
 #[cfg(test)]
 mod values;
+#[cfg(test)]
+mod wrong;

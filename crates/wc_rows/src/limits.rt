@@ -3,7 +3,7 @@
 ghost use Rattle.std.specs.Prelude.{◌≤◌, All, IfOk, OnOk};
 ghost use Rattle.wc_value.specs.Spelling.{depth};
 
-use crate::session::ADD;
+use crate::files::ADD;
 use std::alloc::{AllocError, Global};
 use std::test::Fail;
 use wc_check::check;
@@ -73,19 +73,28 @@ fn count_within(
     }
 }
 
+/// Fails where a world takes the process in at most two nodes, or is refused for something else.
+fn expect_too_many(alloc: Global, world: &World) -> Result<(), Fail> {
+    match count_within(alloc, world, 2)? {
+        Err(TurnError::Full(What::Nodes, 3, 2)) => Ok(()),
+        _ => Err("three nodes are too many")?,
+    }
+}
+
+/// Fails where three nodes aren't enough, or there are other changes than the library, two numbers, the process and two links.
+fn expect_six(alloc: Global, world: &World) -> Result<(), Fail> {
+    match count_within(alloc, world, 3)? {
+        Ok(6) => Ok(()),
+        _ => Err("there are six changes")?,
+    }
+}
+
 #[test]
 fn nodes_have_their_limit(rt: HostRuntime) -> Result<(), Fail> {
-    let alloc = rt.alloc();
-    let world = World::new(alloc);
-    assert!(rt;
-        matches!(
-            count_within(alloc, &world, 2)?,
-            Err(TurnError::Full(What::Nodes, 3, 2))
-        )
-    );
-    assert_eq!(rt; world.graph().nodes().len(), 0);
-    assert_eq!(rt; world.batches(), 0);
-    // The library, two numbers, the process and two links.
-    assert!(rt; matches!(count_within(alloc, &world, 3)?, Ok(6)));
-    Ok(())
+    let world = World::new(rt.alloc());
+    expect_too_many(rt.alloc(), &world)?;
+    if world.graph().nodes().len() != 0 || world.batches() != 0 {
+        Err("the world is as before")?;
+    }
+    expect_six(rt.alloc(), &world)
 }

@@ -1,7 +1,8 @@
 //! What the commands of a store refuse. What is refused leaves both disks as they were.
 
-use crate::machine::{End, Machine, Row, Side, added};
-use std::test::Fail;
+use crate::script::{ADDED, Step, play};
+use crate::session::{End, Row};
+use crate::wrong::Wrong;
 
 /// What the words and the files are refused for, whatever the disks hold.
 const OF_WORDS: [Row; 22] = [
@@ -100,61 +101,110 @@ const OF_A_STORE: [Row; 5] = [
 ];
 
 /// A header of version 1, an open gate, and a length behind which there is nothing.
-const DAMAGED: [u8; 21] = [
+const DAMAGED: &[u8] = &[
     0x57, 0x43, 0x4A, 0x4E, 0x4C, 0, 0, 1, 0, 0, 0, 0, 0, 0, 0, 1, 1, 0xFF, 0xFF, 0xFF, 0xFF,
 ];
 
-/// The commands of a store.
-const OF_A_DISK: [&str; 6] = [
-    "init",
-    "list",
-    "run",
-    "tree 9",
-    "pack",
-    "submit add.wcf add x=2 y=3",
+/// What each command of a store tells then.
+const OF_DAMAGE: [Row; 6] = [
+    (
+        "init",
+        End::Damaged(1, 21, None),
+        "damaged: disk 1 at 21 end\n",
+    ),
+    (
+        "list",
+        End::Damaged(1, 21, None),
+        "damaged: disk 1 at 21 end\n",
+    ),
+    (
+        "run",
+        End::Damaged(1, 21, None),
+        "damaged: disk 1 at 21 end\n",
+    ),
+    (
+        "tree 9",
+        End::Damaged(1, 21, None),
+        "damaged: disk 1 at 21 end\n",
+    ),
+    (
+        "pack",
+        End::Damaged(1, 21, None),
+        "damaged: disk 1 at 21 end\n",
+    ),
+    (
+        "submit add.wcf add x=2 y=3",
+        End::Damaged(1, 21, None),
+        "damaged: disk 1 at 21 end\n",
+    ),
 ];
 
-/// Fails where any of the rows doesn't hold on a machine, or changes its disks.
-fn expect_unchanged(mut machine: Machine, rows: &[Row]) -> Result<(), Fail> {
-    let before = machine.failing(Side::One, &[])?;
-    machine.expect_all(rows)?;
-    machine.expect_same(&before)
+#[test]
+fn without_a_store_commands_are_refused(rt: HostRuntime) -> Result<(), Wrong> {
+    play(
+        rt.alloc(),
+        &[],
+        &[],
+        &[Step::Calls(&OF_NO_STORE), Step::Unchanged],
+    )
 }
 
 #[test]
-fn without_a_store_commands_are_refused(rt: HostRuntime) -> Result<(), Fail> {
-    expect_unchanged(Machine::empty(rt.alloc())?, &OF_NO_STORE)
+fn a_store_refuses_and_stays(rt: HostRuntime) -> Result<(), Wrong> {
+    play(
+        rt.alloc(),
+        &[],
+        &[],
+        &[
+            Step::Calls(&ADDED),
+            Step::Mark,
+            Step::Calls(&OF_A_STORE),
+            Step::Unchanged,
+        ],
+    )
 }
 
 #[test]
-fn a_store_refuses_and_stays(rt: HostRuntime) -> Result<(), Fail> {
-    expect_unchanged(added(rt.alloc())?, &OF_A_STORE)
+fn words_are_judged_before_an_empty_disk(rt: HostRuntime) -> Result<(), Wrong> {
+    play(
+        rt.alloc(),
+        &[],
+        &[],
+        &[Step::Calls(&OF_WORDS), Step::Unchanged],
+    )
 }
 
 #[test]
-fn words_are_judged_before_an_empty_disk(rt: HostRuntime) -> Result<(), Fail> {
-    expect_unchanged(Machine::empty(rt.alloc())?, &OF_WORDS)
+fn words_are_judged_before_the_store(rt: HostRuntime) -> Result<(), Wrong> {
+    play(
+        rt.alloc(),
+        &[],
+        &[],
+        &[
+            Step::Calls(&ADDED),
+            Step::Mark,
+            Step::Calls(&OF_WORDS),
+            Step::Unchanged,
+        ],
+    )
 }
 
 #[test]
-fn words_are_judged_before_the_store(rt: HostRuntime) -> Result<(), Fail> {
-    expect_unchanged(added(rt.alloc())?, &OF_WORDS)
+fn words_are_judged_before_damage(rt: HostRuntime) -> Result<(), Wrong> {
+    play(
+        rt.alloc(),
+        &[&[DAMAGED]],
+        &[],
+        &[Step::Calls(&OF_WORDS), Step::Unchanged],
+    )
 }
 
 #[test]
-fn words_are_judged_before_damage(rt: HostRuntime) -> Result<(), Fail> {
-    expect_unchanged(Machine::new(rt.alloc(), &DAMAGED, &[])?, &OF_WORDS)
-}
-
-#[test]
-fn each_command_tells_of_damage(rt: HostRuntime) -> Result<(), Fail> {
-    let mut machine = Machine::new(rt.alloc(), &DAMAGED, &[])?;
-    for line in OF_A_DISK {
-        machine.expect((
-            line,
-            End::Damaged(1, 21, None),
-            "damaged: disk 1 at 21 end\n",
-        ))?;
-    }
-    machine.expect_images(&DAMAGED, &[])
+fn each_command_tells_of_damage(rt: HostRuntime) -> Result<(), Wrong> {
+    play(
+        rt.alloc(),
+        &[&[DAMAGED]],
+        &[],
+        &[Step::Calls(&OF_DAMAGE), Step::Unchanged],
+    )
 }

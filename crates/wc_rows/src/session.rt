@@ -1,14 +1,15 @@
-//! One call of the program on files in memory.
+//! Calls of the program on files, an output and two disks in memory.
 
+use crate::wrong::Wrong;
 use std::alloc::{AllocError, Global};
-use std::test::Fail;
 use wc_disk::MemoryDisk;
-use wc_engine::{Status, serve};
-use wc_io::{Failed, MemoryShelf, MemorySink, Shelf, Sink};
+use wc_engine::{Cause, Status, serve};
+use wc_io::{Failed, MemoryShelf, MemorySink, Sink};
+use wc_state::What;
 use wc_value::{Bytes, Files, List, Text, Words};
 
-/// The file of the examples.
-pub const ADD: &str = "calcfunction add(x: int, y: int) -> (sum: int) {\n  out sum = x + y;\n}\n";
+/// Pieces of bytes, one after another, in groups that stand in several images.
+pub type Pieces<'a> = &'a [&'a [&'a [u8]]];
 
 /// These numbers as a list.
 pub fn numbers(alloc: Global, numbers: &[u64]) -> Result<List<u64>, AllocError> {
@@ -17,11 +18,38 @@ pub fn numbers(alloc: Global, numbers: &[u64]) -> Result<List<u64>, AllocError> 
     Ok(list)
 }
 
+/// These bytes as a list.
+pub fn bytes_of(alloc: Global, bytes: &[u8]) -> Result<Bytes, AllocError> {
+    let mut list = List::new(alloc);
+    list.extend(bytes)?;
+    Ok(list)
+}
+
+/// Puts pieces behind bytes.
+fn put_pieces(bytes: &mut Bytes, pieces: &[&[u8]]) -> Result<(), AllocError> {
+    for piece in pieces {
+        bytes.extend(piece)?;
+    }
+    Ok(())
+}
+
+/// The bytes of pieces.
+pub fn joined(alloc: Global, groups: Pieces) -> Result<Bytes, AllocError> {
+    let mut bytes = List::new(alloc);
+    for group in groups {
+        put_pieces(&mut bytes, group)?;
+    }
+    Ok(bytes)
+}
+
 /// A disk with these bytes, of which these calls fail.
-pub fn disk_of(alloc: Global, image: &[u8], failing: &[u64]) -> Result<MemoryDisk, AllocError> {
-    let mut bytes: Bytes = List::new(alloc);
-    bytes.extend(image)?;
-    Ok(MemoryDisk::new(alloc, bytes, numbers(alloc, failing)?))
+pub fn disk_of(alloc: Global, image: Bytes, failing: &[u64]) -> Result<MemoryDisk, AllocError> {
+    Ok(MemoryDisk::new(alloc, image, numbers(alloc, failing)?))
+}
+
+/// Puts a word behind others.
+fn put_word(alloc: Global, words: &mut Words, word: &str) -> Result<(), AllocError> {
+    words.push(Text::of_str(alloc, word)?)
 }
 
 /// The words of a line, cut at its spaces.
@@ -29,34 +57,28 @@ pub fn words(alloc: Global, line: &str) -> Result<Words, AllocError> {
     let mut words: Words = List::new(alloc);
     for word in line.split(' ') {
         if !word.is_empty() {
-            words.push(Text::of_str(alloc, word)?)?;
+            put_word(alloc, &mut words, word)?;
         }
     }
     Ok(words)
 }
 
-/// A shelf with one file, of which these calls fail.
-pub fn shelf_of(
+/// Puts a file of this name among others.
+pub fn put_file(
     alloc: Global,
+    files: &mut Files,
     name: &str,
     content: &[u8],
-    failing: &[u64],
-) -> Result<MemoryShelf, AllocError> {
-    let mut bytes: Bytes = List::new(alloc);
-    bytes.extend(content)?;
-    let mut files = Files::new(alloc);
-    files.set(Text::of_str(alloc, name)?, bytes)?;
-    Ok(MemoryShelf::new(files, numbers(alloc, failing)?))
+) -> Result<(), AllocError> {
+    let content = bytes_of(alloc, content)?;
+    files.set(Text::of_str(alloc, name)?, content)
 }
 
-/// A shelf with one text.
-pub fn shelf(
-    alloc: Global,
-    name: &str,
-    content: &str,
-    failing: &[u64],
-) -> Result<MemoryShelf, AllocError> {
-    shelf_of(alloc, name, content.as_bytes(), failing)
+/// The file `add.wcf` with these bytes.
+pub fn one_file(alloc: Global, content: &[u8]) -> Result<Files, AllocError> {
+    let mut files = Files::new(alloc);
+    put_file(alloc, &mut files, "add.wcf", content)?;
+    Ok(files)
 }
 
 /// A sink that takes one byte in a call.
@@ -79,40 +101,139 @@ impl Sink for Sipping {
     }
 }
 
-/// What a call of the program gave: how it ended, and its text.
-#[derive(Drop)]
-pub struct Ended {
-    /// How it ended.
-    pub status: Status,
-    /// What it wrote.
-    pub text: Vec<u8>,
-}
-
-/// Calls the program with the words of a line, on a shelf and a sink, with two empty disks.
-pub fn call_on<R: Shelf, W: Sink>(
+/// Calls the program. This says nothing of the call, so that no test carries what the call promises.
+pub fn served(
     alloc: Global,
-    line: &str,
-    shelf: &mut R,
-    sink: &mut W,
-) -> Result<Status, AllocError> {
-    let mut one = disk_of(alloc, &[], &[])?;
-    let mut two = disk_of(alloc, &[], &[])?;
-    let words = words(alloc, line)?;
-    Ok(serve(alloc, &words, shelf, sink, &mut one, &mut two))
+    words: &Words,
+    shelf: &mut MemoryShelf,
+    sink: &mut MemorySink,
+    one: &mut MemoryDisk,
+    two: &mut MemoryDisk,
+) -> Status {
+    serve(alloc, words, shelf, sink, one, two)
 }
 
-/// Calls the program with the words of a line, on a shelf with one file of these bytes.
-pub fn call_bytes(alloc: Global, line: &str, content: &[u8]) -> Result<Ended, Fail> {
-    let mut shelf = shelf_of(alloc, "add.wcf", content, &[])?;
-    let mut sink = MemorySink::new(alloc, numbers(alloc, &[])?);
-    let status = call_on(alloc, line, &mut shelf, &mut sink)?;
-    Ok(Ended {
-        status,
-        text: sink.bytes().to_vec(alloc)?,
-    })
+/// The same on a sink that takes one byte in a call.
+pub fn sipped(
+    alloc: Global,
+    words: &Words,
+    shelf: &mut MemoryShelf,
+    sink: &mut Sipping,
+    one: &mut MemoryDisk,
+    two: &mut MemoryDisk,
+) -> Status {
+    serve(alloc, words, shelf, sink, one, two)
 }
 
-/// Calls the program with the words of a line, on a shelf with one text.
-pub fn call(alloc: Global, line: &str, content: &str) -> Result<Ended, Fail> {
-    call_bytes(alloc, line, content.as_bytes())
+/// How a call of the program ended, in a form that is compared. The text says what else a refusal names.
+#[derive(Clone, Copy, Debug, PartialEq, Eq)]
+pub enum End {
+    Ok,
+    Words,
+    NoFile,
+    Name,
+    Later,
+    BadInput,
+    NoStore,
+    StoreExists,
+    UnknownProcess(u32),
+    OtherRefusal,
+    OutOfMemory,
+    Spent,
+    Resting,
+    DiskFault,
+    Damaged(u8, u64, Option<u8>),
+    ReadFault,
+    WriteFault,
+    Full(What, u64, u64),
+}
+
+/// The form in which a refusal is compared.
+fn refusal(cause: &Cause) -> End {
+    match cause {
+        Cause::Words => End::Words,
+        Cause::NoFile(_) => End::NoFile,
+        Cause::Name(_) => End::Name,
+        Cause::Later(_) => End::Later,
+        Cause::BadInput(_) => End::BadInput,
+        Cause::NoStore => End::NoStore,
+        Cause::StoreExists => End::StoreExists,
+        Cause::UnknownProcess(pid) => End::UnknownProcess(*pid),
+        _ => End::OtherRefusal,
+    }
+}
+
+/// The form in which a status is compared.
+fn end_of(status: &Status) -> End {
+    match status {
+        Status::Ok => End::Ok,
+        Status::Refused(cause) => refusal(cause),
+        Status::OutOfMemory => End::OutOfMemory,
+        Status::Spent => End::Spent,
+        Status::Resting => End::Resting,
+        Status::DiskFault => End::DiskFault,
+        Status::Damaged(disk, at, found) => End::Damaged(*disk, *at, *found),
+        Status::ReadFault => End::ReadFault,
+        Status::WriteFault => End::WriteFault,
+        Status::Full(what, count, limit) => End::Full(*what, *count, *limit),
+    }
+}
+
+/// A line of words, how the call ends, and its text.
+pub type Row<'a> = (&'a str, End, &'a str);
+
+/// What a call of the program gave.
+#[derive(Drop)]
+pub struct Called {
+    /// How it ended.
+    pub end: End,
+    /// The exit status.
+    pub code: u8,
+    /// What it wrote.
+    pub text: Text,
+}
+
+impl Called {
+    /// What a call gave that ended so and wrote these bytes, which are a text.
+    pub fn of(alloc: Global, status: &Status, bytes: &[u8]) -> Result<Called, Wrong> {
+        let text = Text::of(bytes_of(alloc, bytes)?);
+        Ok(Called {
+            end: end_of(status),
+            code: status.code(),
+            text: text.ok_or(Wrong::Not("what is written is a text"))?,
+        })
+    }
+
+    /// How it ended and what it wrote, as a row has it.
+    pub fn told(&self) -> (End, &str) {
+        (self.end, self.text.as_str())
+    }
+
+    /// Fails where the call of this line ended otherwise, or wrote something else.
+    pub fn expect(&self, alloc: Global, row: Row) -> Result<(), Wrong> {
+        let (line, end, text) = row;
+        if self.told() == (end, text) {
+            return Ok(());
+        }
+        let (given, told) = self.told();
+        let found = format!(in alloc; "{line}: {given:?} {told} for {end:?} {text}")?;
+        Err(Wrong::Found(found))
+    }
+
+    /// Fails where the call of this line had another exit status, or wrote something else.
+    pub fn expect_code(
+        &self,
+        alloc: Global,
+        line: &str,
+        code: u8,
+        text: &str,
+    ) -> Result<(), Wrong> {
+        let told = self.text.as_str();
+        if self.code == code && told == text {
+            return Ok(());
+        }
+        let given = self.code;
+        let found = format!(in alloc; "{line}: {given} {told} for {code} {text}")?;
+        Err(Wrong::Found(found))
+    }
 }

@@ -1,7 +1,8 @@
 //! The commands of a store, one after another on the same two disks.
 
-use crate::machine::{End, Machine, Row, added};
-use std::test::Fail;
+use crate::script::{ADDED, Step, play};
+use crate::session::{End, Row};
+use crate::wrong::Wrong;
 
 /// One function, from an empty store to its tree.
 const SESSION: [Row; 10] = [
@@ -22,8 +23,8 @@ const SESSION: [Row; 10] = [
 ];
 
 #[test]
-fn a_function_is_stored_run_and_shown(rt: HostRuntime) -> Result<(), Fail> {
-    Machine::empty(rt.alloc())?.expect_all(&SESSION)
+fn a_function_is_stored_run_and_shown(rt: HostRuntime) -> Result<(), Wrong> {
+    play(rt.alloc(), &[], &[], &[Step::Calls(&SESSION)])
 }
 
 /// Functions that end in each way, some of them after others have run.
@@ -92,8 +93,8 @@ const SEVERAL: [Row; 33] = [
 ];
 
 #[test]
-fn several_functions_are_in_one_store(rt: HostRuntime) -> Result<(), Fail> {
-    Machine::empty(rt.alloc())?.expect_all(&SEVERAL)
+fn several_functions_are_in_one_store(rt: HostRuntime) -> Result<(), Wrong> {
+    play(rt.alloc(), &[], &[], &[Step::Calls(&SEVERAL)])
 }
 
 /// What is told before, between and after packing, and of what is added then.
@@ -127,6 +128,11 @@ const PACKING: [Row; 18] = [
 ];
 
 #[test]
-fn packing_changes_nothing_that_is_told(rt: HostRuntime) -> Result<(), Fail> {
-    added(rt.alloc())?.expect_all(&PACKING)
+fn packing_changes_nothing_that_is_told(rt: HostRuntime) -> Result<(), Wrong> {
+    play(
+        rt.alloc(),
+        &[],
+        &[],
+        &[Step::Calls(&ADDED), Step::Calls(&PACKING)],
+    )
 }

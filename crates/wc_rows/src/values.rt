@@ -1,41 +1,86 @@
 //! Calls of the values that their own tests reach only from within others.
 
-use std::test::Fail;
-use wc_value::{
-    Bytes, Fields, List, Text, Value, Values, same_bytes, same_text, same_value, same_values,
-};
+use crate::session::bytes_of;
+use crate::wrong::Wrong;
+use std::alloc::{AllocError, Global};
+use wc_value::{Fields, List, Text, Value, Values, same_bytes, same_text, same_value, same_values};
 
-#[test]
-fn a_name_is_set_in_its_order(rt: HostRuntime) -> Result<(), Fail> {
-    let alloc = rt.alloc();
+/// Names and numbers, of which one name is set twice.
+const SET: [(&str, i64); 4] = [("k", 1), ("a", 2), ("z", 3), ("k", 4)];
+
+/// Where they stand then.
+const STANDING: [(usize, &str, i64); 3] = [(0, "a", 2), (1, "k", 4), (2, "z", 3)];
+
+/// What is made of the names.
+fn fields_set(alloc: Global) -> Result<Fields, AllocError> {
     let mut fields = Fields::new(alloc);
-    for (name, number) in [("k", 1), ("a", 2), ("z", 3), ("k", 4)] {
-        fields.set(Text::of_str(alloc, name)?, Value::Int(number))?;
+    for (name, number) in &SET {
+        fields.set(Text::of_str(alloc, name)?, Value::Int(*number))?;
     }
-    assert_eq!(rt; fields.len(), 3);
-    for (at, name, number) in [(0, "a", 2), (1, "k", 4), (2, "z", 3)] {
-        let (label, value) = fields.get(at).ok_or("there are three")?;
-        assert_eq!(rt; label.bytes(), name.as_bytes());
-        assert!(rt; same_value(value, &Value::Int(number)));
+    Ok(fields)
+}
+
+/// Whether this name and this number stand at this place.
+fn stands(fields: &Fields, at: usize, name: &str, number: i64) -> bool {
+    match fields.get(at) {
+        Some((label, value)) => label.as_str() == name && same_value(value, &Value::Int(number)),
+        None => false,
     }
-    assert!(rt; fields.find(b"b").is_none());
-    Ok(())
+}
+
+/// Whether each name stands at its place, and no other does.
+fn all_stand(fields: &Fields) -> bool {
+    for (at, name, number) in &STANDING {
+        if !stands(fields, *at, name, *number) {
+            return false;
+        }
+    }
+    fields.len() == 3 && fields.find(b"b").is_none()
 }
 
 #[test]
-fn equal_parts_are_the_same(rt: HostRuntime) -> Result<(), Fail> {
+fn a_name_is_set_in_its_order(rt: HostRuntime) -> Result<(), Wrong> {
+    if all_stand(&fields_set(rt.alloc())?) {
+        return Ok(());
+    }
+    Err(Wrong::Not("each name stands at its place"))
+}
+
+/// Whether a text is the same as this one.
+fn is_same_text(alloc: Global, text: &Text, other: &str) -> Result<bool, AllocError> {
+    Ok(same_text(text, &Text::of_str(alloc, other)?))
+}
+
+#[test]
+fn equal_texts_are_the_same(rt: HostRuntime) -> Result<(), Wrong> {
     let alloc = rt.alloc();
     let text = Text::of_string(String::from_str(alloc, "ab")?)?;
-    assert!(rt; same_text(&text, &Text::of_str(alloc, "ab")?));
-    assert!(rt; !same_text(&text, &Text::of_str(alloc, "abc")?));
-    let mut bytes: Bytes = List::new(alloc);
-    bytes.extend(text.bytes())?;
-    assert_eq!(rt; bytes.as_slice(), b"ab".as_slice());
-    assert!(rt; !same_bytes(&bytes, &List::new(alloc)));
-    assert!(rt; same_bytes(&bytes, &bytes));
+    if is_same_text(alloc, &text, "ab")? && !is_same_text(alloc, &text, "abc")? {
+        return Ok(());
+    }
+    Err(Wrong::Not("equal texts are the same"))
+}
+
+#[test]
+fn equal_bytes_are_the_same(rt: HostRuntime) -> Result<(), Wrong> {
+    let alloc = rt.alloc();
+    let bytes = bytes_of(alloc, b"ab")?;
+    if bytes.as_slice() == b"ab".as_slice()
+        && same_bytes(&bytes, &bytes)
+        && !same_bytes(&bytes, &List::new(alloc))
+    {
+        return Ok(());
+    }
+    Err(Wrong::Not("equal bytes are the same"))
+}
+
+#[test]
+fn equal_values_are_the_same(rt: HostRuntime) -> Result<(), Wrong> {
+    let alloc = rt.alloc();
     let mut one: Values = List::new(alloc);
     one.push(Value::Bool(true))?;
-    assert!(rt; same_values(&one, &one));
-    assert!(rt; !same_values(&one, &List::new(alloc)));
-    Ok(())
+    if same_values(&one, &one) && !same_values(&one, &List::new(alloc)) {
+        return Ok(());
+    }
+    Err(Wrong::Not("equal values are the same"))
 }

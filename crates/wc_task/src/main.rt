@@ -4,6 +4,7 @@
 //! `fetch NAME`, and last `run PROGRAM ARGUMENT...`. The letters: u upload, s submit, a one update, w updates until the
 //! programs have ended, r retrieve, d the number of open descriptors, p a pause of a second.
 #![tactic(auto)]
+
 ghost use Rattle.std.specs.Prelude.{◌<◌, length, IfSome};
 
 use std::alloc::{AllocError, Global};

@@ -27,7 +27,7 @@ use Rattle.wc_framing.specs.Laws.{IsUnderItsLabel, CallsAreUnderTheirLabels}
 -- ---- a process has at most as many calls as there are nodes
 
 -- no two links at different places call the same process
-abbrev OneCaller : List Link → Type 0
+abbrev pub OneCaller : List Link → Type 0
 OneCaller ls = (i j : ℕ) (a b : Link) → i ≢ j → slice_get ls i ≡ Some a → slice_get ls j ≡ Some b → ¬ SharesCalled a b
 
 call_is : (t : LinkType) → calls t ≡ true → IsCall t
@@ -39,7 +39,7 @@ call_is link.CallCalc h = tt
 call_is link.CallWork h = tt
 
 module _ (pid : ℕ) where
-  abbrev targets : List Link → List ℕ
+  abbrev pub targets : List Link → List ℕ
   targets ls = map (λ l. l.target) (filter (is_call_from pid) ls)
 
   is_call : (l : Link) → is_call_from pid l ≡ true → IsCall l.link
@@ -55,7 +55,7 @@ module _ (pid : ℕ) where
       at true t rest = (ne_eqb l.target m.target (λ e. h 0 m refl (c, is_call m t, e)), rest)
       at false t rest = rest
 
-  distinct : (ls : List Link) → OneCaller ls → IsDistinct (λ a b. a == b) (targets ls)
+  pub distinct : (ls : List Link) → OneCaller ls → IsDistinct (λ a b. a == b) (targets ls)
   unfolding IsDistinct
   distinct [] h = tt
   distinct (m ∷ ms) h = at (is_call_from pid m) refl (distinct ms (λ i j a b ne. h (suc i) (suc j) a b (λ e. ne (omega (arith, e)))))

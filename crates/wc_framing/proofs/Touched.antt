@@ -72,7 +72,7 @@ input_no_output link.Return h = absurd (cc)
 input_no_output link.CallCalc h = absurd (cc)
 input_no_output link.CallWork h = absurd (cc)
 
-output_no_call : (t : LinkType) → gives_output t ≡ true → calls t ≡ false
+pub output_no_call : (t : LinkType) → gives_output t ≡ true → calls t ≡ false
 output_no_call link.InputCalc h = absurd (cc)
 output_no_call link.InputWork h = absurd (cc)
 output_no_call link.Create h = refl
@@ -80,7 +80,7 @@ output_no_call link.Return h = refl
 output_no_call link.CallCalc h = absurd (cc)
 output_no_call link.CallWork h = absurd (cc)
 
-input_no_call : (t : LinkType) → takes_input t ≡ true → calls t ≡ false
+pub input_no_call : (t : LinkType) → takes_input t ≡ true → calls t ≡ false
 input_no_call link.InputCalc h = refl
 input_no_call link.InputWork h = refl
 input_no_call link.Create h = absurd (cc)
@@ -90,7 +90,7 @@ input_no_call link.CallWork h = absurd (cc)
 
 -- ---- new links
 
-first_false : (a b : Bool) → a ≡ false → a && b ≡ false
+pub first_false : (a b : Bool) → a ≡ false → a && b ≡ false
 first_false a b h = ap (λ (c : Bool). c && b) h
 
 module _ (nodes : List NodeKind) (pid : ℕ) where
@@ -137,7 +137,7 @@ follow_grown ls new (label ∷ path) pid q h = at (called_under ls pid label) re
     at (Some c) is rest e = ap (option_and_then (λ x. follow (ls ++ new) x path)) (called_grown ls new pid label c is) ∙ rest c e
 
 -- a process that was called is at the end of a call link
-called_link : (Q : ℕ → Type 0) (ls : List Link) (pid : ℕ) (label : Label) (q : ℕ) → All (λ l. is_call_from pid l ≡ true → Q l.target) ls
+pub called_link : (Q : ℕ → Type 0) (ls : List Link) (pid : ℕ) (label : Label) (q : ℕ) → All (λ l. is_call_from pid l ≡ true → Q l.target) ls
     → called_under ls pid label ≡ Some q → Q q
 called_link Q [] pid label q all h = absurd (cc)
 called_link Q (l ∷ ls) pid label q all h =
@@ -151,16 +151,16 @@ called_link Q (l ∷ ls) pid label q all h =
 -- ---- the others
 
 module _ (v w : World) (pid : ℕ) (s : IsSound v) (t : Touches v w pid) (may : MayBeTouched v pid) where
-  no_input : (q : ℕ) → q ≤ length v.nodes → NoInput q t.new
+  pub no_input : (q : ℕ) → q ≤ length v.nodes → NoInput q t.new
   no_input q le = λ i d lt. new_no_input v.nodes pid (get_or t.new i d) (t.added i d lt) q le
 
-  no_output : (q : ℕ) → pid ≢ q → NoOutput q t.new
+  pub no_output : (q : ℕ) → pid ≢ q → NoOutput q t.new
   no_output q ne = λ i d lt. new_no_output v.nodes pid (get_or t.new i d) (t.added i d lt) q ne
 
-  no_call : (q : ℕ) → pid ≢ q → NoCallFrom q t.new
+  pub no_call : (q : ℕ) → pid ≢ q → NoCallFrom q t.new
   no_call q ne = λ i d lt. new_no_call v.nodes pid (get_or t.new i d) (t.added i d lt) q ne
 
-  within : (q : ℕ) (r : ProcessRecord) → find_record q v.records ≡ Some r → q ≤ length v.nodes
+  pub within : (q : ℕ) (r : ProcessRecord) → find_record q v.records ≡ Some r → q ≤ length v.nodes
   within q r h =
       let lt : r.node < suc (length v.nodes) = found_holds (λ x. x.node < suc (length v.nodes)) q v.records r (records_below v.nodes v.records s.consistent.numbered) h in
       let same : r.node ≡ q = found_node q v.records r h in
@@ -179,12 +179,12 @@ module _ (v w : World) (pid : ℕ) (s : IsSound v) (t : Touches v w pid) (may : 
   pub branches_kept : (tree : ℕ → Option Tree) (q : ℕ) → pid ≢ q → branches tree q w.links ≡ branches tree q v.links
   branches_kept tree q ne = ap (branches tree q) t.links ∙ branches_before tree q v.links t.new (no_call q ne)
 
-  called_kept : (q : ℕ) (label : Label) → pid ≢ q → called_under w.links q label ≡ called_under v.links q label
+  pub called_kept : (q : ℕ) (label : Label) → pid ≢ q → called_under w.links q label ≡ called_under v.links q label
   called_kept q label ne = ap (λ (ls : List Link). called_under ls q label) t.links ∙ called_before v.links t.new q label (no_call q ne)
 
   -- ---- definitions
 
-  stands : (r : ProcessRecord) → find_record r.node v.records ≡ Some r → Stands v r
+  pub stands : (r : ProcessRecord) → find_record r.node v.records ≡ Some r → Stands v r
   stands r found = found_holds (Stands v) r.node v.records r s.consistent.records found
 
   library_there : (r : ProcessRecord) → Stands v r → (l : List Definition) × (library_at v.libraries r.library ≡ Some l)
@@ -195,12 +195,12 @@ module _ (v w : World) (pid : ℕ) (s : IsSound v) (t : Touches v w pid) (may : 
       at None is e = absurd (cc)
       at (Some l) is e = (l, is)
 
-  library_kept : (r : ProcessRecord) → find_record r.node v.records ≡ Some r → library_at w.libraries r.library ≡ library_at v.libraries r.library
+  pub library_kept : (r : ProcessRecord) → find_record r.node v.records ≡ Some r → library_at w.libraries r.library ≡ library_at v.libraries r.library
   library_kept r found =
       let l = library_there r (stands r found) in
       ap (λ (ks : List Known). library_at ks r.library) t.libraries.1 ∙ library_stays v.libraries t.libraries.0 r.library l.0 l.1
 
-  request_kept : (r : ProcessRecord) → find_record r.node v.records ≡ Some r → recorded_request w r ≡ recorded_request v r
+  pub request_kept : (r : ProcessRecord) → find_record r.node v.records ≡ Some r → recorded_request w r ≡ recorded_request v r
   request_kept r found =
       λ i. request_by (option_and_then (definition_named r.definition) (library_kept r found i)) (inputs_kept r.node (within r.node r found) i)
 
@@ -211,13 +211,13 @@ module _ (v w : World) (pid : ℕ) (s : IsSound v) (t : Touches v w pid) (may : 
   -- ---- results
 
   -- what hasn't ended has no code and no source
-  fitting : (r : ProcessRecord) → find_record r.node v.records ≡ Some r → IsFitting v r
+  pub fitting : (r : ProcessRecord) → find_record r.node v.records ≡ Some r → IsFitting v r
   fitting r found = found_holds (IsFitting v) r.node v.records r s.records found
 
   live : (r : ProcessRecord) → find_record r.node v.records ≡ Some r → pid ≡ r.node → has_ended r.state ≡ false
   live r found e = may r (ap (λ (n : ℕ). find_record n v.records) e ∙ found)
 
-  found_kept : (r : ProcessRecord) → find_record r.node v.records ≡ Some r → pid ≢ r.node → find_record r.node w.records ≡ Some r
+  pub found_kept : (r : ProcessRecord) → find_record r.node v.records ≡ Some r → pid ≢ r.node → find_record r.node w.records ≡ Some r
   found_kept r found ne = t.records r.node ne (within r.node r found) ∙ found
 
   result_kept : (q : ℕ) (x : JobResult) → HasResult v q x → HasResult w q x
@@ -229,7 +229,7 @@ module _ (v w : World) (pid : ℕ) (s : IsSound v) (t : Touches v w pid) (may : 
       let ne : pid ≢ r.node = λ e. let none = (fitting r found).source (live r found e) in absurd (cc (none, from)) in
       cached r source y (found_kept r found ne) is_job alive from (result_kept source y rest)
 
-  no_result : (r : ProcessRecord) (x : JobResult) → find_record r.node v.records ≡ Some r → has_ended r.state ≡ false → (q : ℕ) → HasResult v q x → q ≡ r.node → ⊥
+  pub no_result : (r : ProcessRecord) (x : JobResult) → find_record r.node v.records ≡ Some r → has_ended r.state ≡ false → (q : ℕ) → HasResult v q x → q ≡ r.node → ⊥
   no_result r x found alive q (own k code files there is_job is_code folder) e =
       let same : Some k ≡ Some r = sym there ∙ ap (λ (n : ℕ). find_record n v.records) e ∙ found in
       let one : k ≡ r = cc in
@@ -250,13 +250,13 @@ module _ (v w : World) (pid : ℕ) (s : IsSound v) (t : Touches v w pid) (may : 
   -- ---- what has ended
 
   -- there is a process of this number, which has ended
-  abbrev IsOver : ℕ → Type 0
+  abbrev pub IsOver : ℕ → Type 0
   IsOver q = (r : ProcessRecord) × (find_record q v.records ≡ Some r) × (has_ended r.state ≡ true)
 
-  over_differs : (q : ℕ) → IsOver q → pid ≢ q
+  pub over_differs : (q : ℕ) → IsOver q → pid ≢ q
   over_differs q h e = let lives : has_ended h.0.state ≡ false = may h.0 (ap (λ (n : ℕ). find_record n v.records) e ∙ h.1) in absurd (cc (lives, h.2))
 
-  called_over : (q : ℕ) → IsOver q → All (λ l. is_call_from q l ≡ true → IsOver l.target) v.links
+  pub called_over : (q : ℕ) → IsOver q → All (λ l. is_call_from q l ≡ true → IsOver l.target) v.links
   called_over q h = λ i d lt called.
       let l : Link = get_or v.links i d in
       let deeper : IsDeeper h.0 (find_record l.target v.records) = call_is_deeper v.records l q h.0 h.1 called (s.consistent.calls i d lt) in
@@ -270,7 +270,7 @@ module _ (v w : World) (pid : ℕ) (s : IsSound v) (t : Touches v w pid) (may : 
         | inr lives ↦ absurd (cc (lives.0, h.2))
       ]
 
-  untouched : AreUntouched v w IsOver
+  pub untouched : AreUntouched v w IsOver
   untouched = record {
     found = λ q h. t.records q (over_differs q h) (within q h.0 h.1);
     keeps = λ q r h is. record {
@@ -281,7 +281,7 @@ module _ (v w : World) (pid : ℕ) (s : IsSound v) (t : Touches v w pid) (may : 
   }
 
   -- a path from what has ended leads where it led, to what has ended
-  abbrev LeadsSame : Path → ℕ → Type 0
+  abbrev pub LeadsSame : Path → ℕ → Type 0
   LeadsSame path q = (follow w.links q path ≡ follow v.links q path) × ((x : ℕ) → follow v.links q path ≡ Some x → IsOver x)
 
   lead_on : (label : Label) (path : Path) (q : ℕ) → IsOver q → ((c : ℕ) → IsOver c → LeadsSame path c) → (o : Option ℕ) → called_under v.links q label ≡ o
@@ -299,7 +299,7 @@ module _ (v w : World) (pid : ℕ) (s : IsSound v) (t : Touches v w pid) (may : 
         λ x e. next.1 x (sym (ap (option_and_then (λ y. follow v.links y path)) is) ∙ e),
       )
 
-  follow_over : (path : Path) (q : ℕ) → IsOver q → LeadsSame path q
+  pub follow_over : (path : Path) (q : ℕ) → IsOver q → LeadsSame path q
   follow_over [] q h = (refl, λ x e. let same : q ≡ x = cc in subst IsOver same h)
   follow_over (label ∷ path) q h = lead_on label path q h (follow_over path) (called_under v.links q label) refl
 
@@ -349,7 +349,7 @@ tables_narrow v w pid s t may r found table agrees = agreed_before v w pid s t m
 pub ended_stay : EndedStay
 ended_stay v w pid s t may r found over = stays_ended v w pid s t may r found over
 
-carried_on : (v w : World) (pid : ℕ) (s : IsSound v) (t : Touches v w pid) (may : MayBeTouched v pid) (r : ProcessRecord) → find_record r.node v.records ≡ Some r
+pub carried_on : (v w : World) (pid : ℕ) (s : IsSound v) (t : Touches v w pid) (may : MayBeTouched v pid) (r : ProcessRecord) → find_record r.node v.records ≡ Some r
     → (q : ProcessRecord) × (find_record r.node w.records ≡ Some q) × Carries r q
 carried_on v w pid s t may r found =
     elim (cases_eq pid r.node) [

@@ -1,5 +1,5 @@
 -- Laws of what a run sees of what was before it.
-use Rattle.std.specs.Prelude.{◌≡◌, ℕ, ℤ, true, false, List, ◌∷◌, length, map, All, Option, Some}
+use Rattle.std.specs.Prelude.{◌≡◌, ◌≢◌, ◌⊎◌, ℕ, ℤ, ◌<◌, true, false, List, ◌∷◌, length, map, All, Option, Some}
 use Rattle.wc_syntax.specs.declared.definition.Definition.{Definition}
 use Rattle.wc_syntax.specs.declared.definition.Port.{Port}
 use Rattle.wc_syntax.specs.declared.expression.Expr.{Expr}
@@ -19,6 +19,7 @@ use Rattle.wc_world.specs.declared.change.Change.{Change}
 use Rattle.wc_world.specs.World.{World}
 use Rattle.wc_world.specs.Accepted.{IsReached}
 use Rattle.wc_world.specs.Applied.{applied}
+use Rattle.wc_world.specs.Consistent.{IsConsistent}
 use Rattle.wc_world.specs.Records.{find_record, has_ended, is_call_from}
 use Rattle.wc_machine.specs.Agreeing.{Agrees}
 use Rattle.wc_machine.specs.Continues.{Continues}
@@ -28,7 +29,7 @@ use Rattle.wc_machine.specs.Resting.{env_alone}
 use Rattle.wc_machine.specs.Sound.{IsSound}
 use Rattle.wc_machine.specs.Submitting.{Submits, submitted_number}
 use Rattle.wc_framing.specs.Instead.{flow_instead, GiveOneTree}
-use Rattle.wc_framing.specs.Touching.{Touches, MayBeTouched, StaysEnded}
+use Rattle.wc_framing.specs.Touching.{Touches, MayBeTouched, StaysEnded, EndsLate, HasSoundLists, IsSoundRecord}
 
 -- The value of an expression doesn't hang on the numbers of nodes: it is one in environments that are equal but for these.
 abbrev pub ValuesForgetNumbers : Type 0
@@ -75,6 +76,16 @@ EndedStay = (v w : World) (pid : ℕ) → IsSound v → Touches v w pid → MayB
 -- The world after such an event continues the one before.
 abbrev pub TouchingContinues : Type 0
 TouchingContinues = (v w : World) (pid : ℕ) → IsSound v → Touches v w pid → MayBeTouched v pid → Continues v w
+
+-- A process that the event doesn't touch stays sound.
+abbrev pub OthersStaySound : Type 0
+OthersStaySound = (v w : World) (pid : ℕ) → IsSound v → Touches v w pid → MayBeTouched v pid → IsConsistent w → EndsLate v w pid
+    → (r : ProcessRecord) → find_record r.node v.records ≡ Some r → pid ≢ r.node → IsSoundRecord w r
+
+-- So the world after such an event is sound where its lists are, and what the event touched or made is.
+abbrev pub TouchedWorldsAreSound : Type 0
+TouchedWorldsAreSound = (v w : World) (pid : ℕ) → IsSound v → Touches v w pid → MayBeTouched v pid → EndsLate v w pid → HasSoundLists w
+    → ((r : ProcessRecord) → find_record r.node w.records ≡ Some r → (pid ≡ r.node) ⊎ (length v.nodes < r.node) → IsSoundRecord w r) → IsSound w
 
 -- A submission, and the end of a calculation that hasn't started, are such events.
 abbrev pub SubmissionsTouch : Type 0

@@ -1,16 +1,23 @@
 -- Events that touch one process.
-use Rattle.std.specs.Prelude.{◌≡◌, ◌≢◌, ◌⊎◌, ℕ, ◌<◌, ◌≤◌, true, false, List, ◌++◌, length, All, Some}
+use Rattle.std.specs.Prelude.{◌≡◌, ◌≢◌, ◌⊎◌, ℕ, ◌+◌, ◌<◌, ◌≤◌, true, false, List, ◌++◌, length, All, Some, slice_get}
 use Rattle.wc_graph.specs.declared.link.Link.{Link}
+use Rattle.wc_graph.specs.declared.link.LinkType.TheVariants.{Create}
 use Rattle.wc_graph.specs.declared.node.NodeKind.{NodeKind}
 use Rattle.wc_state.specs.declared.record.ProcessRecord.{ProcessRecord}
 use Rattle.wc_run.specs.Tables.{Path}
 use Rattle.wc_world.specs.World.{World}
-use Rattle.wc_world.specs.Records.{find_record, has_ended, takes_input, is_call_from, is_output_of}
+use Rattle.wc_world.specs.Consistent.{IsConsistent}
+use Rattle.wc_world.specs.Fits.{has_output}
+use Rattle.wc_world.specs.Records.{find_record, has_ended, is_calculation, takes_input, is_call_from, is_output_of}
 use Rattle.wc_world.specs.Trees.{recorded_tree}
 use Rattle.wc_machine.specs.Continues.{Begins, Carries}
 use Rattle.wc_machine.specs.Paths.{kills}
 use Rattle.wc_machine.specs.Recorded.{recorded_inputs, recorded_outputs}
-use Rattle.wc_machine.specs.Sound.{IsMeant}
+use Rattle.wc_machine.specs.Created.{IsGiven}
+use Rattle.wc_machine.specs.Resting.{IsOnTrack}
+use Rattle.wc_machine.specs.Sources.{KeepsRule}
+use Rattle.wc_machine.specs.Submitting.{IsKeptLibrary}
+use Rattle.wc_machine.specs.Sound.{AwaitsLastCalls, CallsAreKept, GoesUp, IsFitting, IsMeant, IsPlaced, NamesKnown, fuel_in}
 
 -- A link that an event adds for a process: to an output of it, or, where the node at its target is new, as a call from it or as an input.
 abbrev pub AddsFor : List NodeKind → ℕ → Link → Type 0
@@ -43,3 +50,30 @@ pub record StaysEnded (v w : World) (r : ProcessRecord) : Type 0 where
   pub tree : recorded_tree w r.node ≡ recorded_tree v r.node
   pub kills : (path : Path) → kills w r.node path ≡ kills v r.node path
   pub meant : IsMeant w r
+
+-- What the event touches or makes is no source for what started before it: it hasn't ended, or it ended in a later batch.
+abbrev pub EndsLate : World → World → ℕ → Type 0
+EndsLate v w pid = (q : ProcessRecord) → find_record q.node w.records ≡ Some q → (pid ≡ q.node) ⊎ (length v.nodes < q.node)
+    → (q.ended ≡ 0) ⊎ (v.batches < q.ended)
+
+-- What a sound world asks of each record.
+pub record IsSoundRecord (w : World) (r : ProcessRecord) : Type 0 where
+  pub fits : IsFitting w r
+  pub placed : IsPlaced w r
+  pub calls : CallsAreKept w r
+  pub awaits : AwaitsLastCalls w r r.part
+  pub names : NamesKnown w r r.part
+  pub rule : KeepsRule w r
+  pub bare : is_calculation r.kind ≡ true → has_ended r.state ≡ false → has_output r.node w.links ≡ false
+  pub given : is_calculation r.kind ≡ true → has_ended r.state ≡ true → IsGiven w r
+  pub live : has_ended r.state ≡ false → IsOnTrack w r
+  pub ended : has_ended r.state ≡ true → IsMeant w r
+
+-- What it asks of the lists.
+pub record HasSoundLists (w : World) : Type 0 where
+  pub consistent : IsConsistent w
+  pub libraries : All (λ k. IsKeptLibrary k.0) w.libraries
+  pub upward : All GoesUp w.links
+  pub one_creator : (i j : ℕ) (l m : Link) → slice_get w.links i ≡ Some l → slice_get w.links j ≡ Some m → l.link ≡ Create → m.link ≡ Create
+      → l.target ≡ m.target → i ≡ j
+  pub fuel : fuel_in w.records w.records ≤ w.batches + length w.nodes

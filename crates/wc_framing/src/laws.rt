@@ -1,5 +1,5 @@
 //! Laws of what a run sees.
-ghost use Rattle.wc_framing.specs.Laws.{ValuesForgetNumbers, RunsSeeNumbers, EqualTreesEndAlike, CallsAreUnderTheirLabels, TablesNarrow, EndedStay, TouchingContinues, SubmissionsTouch, EndsTouch};
+ghost use Rattle.wc_framing.specs.Laws.{ValuesForgetNumbers, RunsSeeNumbers, EqualTreesEndAlike, CallsAreUnderTheirLabels, TablesNarrow, EndedStay, TouchingContinues, SubmissionsTouch, EndsTouch, OthersStaySound, TouchedWorldsAreSound};
 
 /// The numbers of nodes play no part in the value of an expression.
 pub fn values_forget_numbers()
@@ -44,4 +44,14 @@ pub fn submissions_touch()
 /// The end of a calculation that hasn't started touches it alone.
 pub fn ends_touch()
     ensures { EndsTouch }
+{}
+
+/// What an event doesn't touch stays sound.
+pub fn others_stay_sound()
+    ensures { OthersStaySound }
+{}
+
+/// The world after an event is sound where its lists are, and what the event touched or made is.
+pub fn touched_worlds_are_sound()
+    ensures { TouchedWorldsAreSound }
 {}

@@ -218,7 +218,7 @@ over_fits k (state.Finished n) h = refl
 over_fits k (state.Excepted r) h = refl
 over_fits k state.Killed h = refl
 
-settled_all : (links : List Link) (rs : List ProcessRecord) → All (λ r. is_settled links r ≡ true) rs → unsettled links rs ≡ None
+pub settled_all : (links : List Link) (rs : List ProcessRecord) → All (λ r. is_settled links r ≡ true) rs → unsettled links rs ≡ None
 settled_all links [] a = refl
 settled_all links (r ∷ rs) a =
     ap (λ (b : Bool). if b then unsettled links rs else Some r.node) (All-head (λ r. is_settled links r ≡ true) r rs a)

@@ -1,0 +1,4 @@
+pub mod Moves
+pub mod SoundMoves
+pub mod Marks
+pub mod Tasks

@@ -70,14 +70,14 @@ submissions_touch w library caching name inputs cs reached s =
 
 -- ---- ends
 
-creates_adds : (nodes : List NodeKind) (pid next : ℕ) (os : Values) → All (AddsFor nodes pid) (creates next pid os)
+pub creates_adds : (nodes : List NodeKind) (pid next : ℕ) (os : Values) → All (AddsFor nodes pid) (creates next pid os)
 creates_adds nodes pid next [] = All-nil (AddsFor nodes pid)
 creates_adds nodes pid next (o ∷ os) =
     All-cons (AddsFor nodes pid) (record { source = pid; target = next; link = Create; label = o.0 }) (creates (suc next) pid os)
     (inl (eq-eqb pid pid refl)) (creates_adds nodes pid (suc next) os)
 
 module _ (w : World) (r : ProcessRecord) (p : Parsed) (source : Option ℕ) (code : Option ℤ) where
-  found_other : (q : ℕ) → r.node ≢ q → (o : Option ProcessRecord) → find_record q w.records ≡ o
+  pub found_other : (q : ℕ) → r.node ≢ q → (o : Option ProcessRecord) → find_record q w.records ≡ o
       → find_record q (ended_world w r p source code).records ≡ find_record q w.records
   found_other q ne None is =
       find_mapped (at_one r.node (end_record w r p source code)) (at_one_keeps (λ (x : ProcessRecord). x.node) (end_record w r p source code) (λ x. refl) r.node) q w.records

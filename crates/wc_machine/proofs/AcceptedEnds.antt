@@ -86,7 +86,7 @@ process_is_node w c r found =
     let e : r.node ≡ suc n.0 = let p : r.node ≡ 1 + n.0 = n.1 in omega arith in
     ap (node_of w.nodes) e ∙ n.2
 
-calculation_by : (o : Option NodeKind) (k : ProcessKind) → o ≡ Some (process_node k) → is_calculation k ≡ true → IsSomeAnd o IsCalculation
+pub calculation_by : (o : Option NodeKind) (k : ProcessKind) → o ≡ Some (process_node k) → is_calculation k ≡ true → IsSomeAnd o IsCalculation
 calculation_by o kind.Function h c = subst (λ (o : Option NodeKind). IsSomeAnd o IsCalculation) (sym h) tt
 calculation_by o kind.Job h c = subst (λ (o : Option NodeKind). IsSomeAnd o IsCalculation) (sym h) tt
 calculation_by o kind.Chain h c = absurd (cc)
@@ -100,18 +100,18 @@ less_itself a h =
     cc (equal, differs)
 
 -- the labels come after this one
-abbrev ComeAfter : Values → List ℕ → Type 0
+abbrev pub ComeAfter : Values → List ℕ → Type 0
 ComeAfter os label = AllByRecursion (λ k. slice_cmp nat_cmp label k ≡ Less) (keys_of os)
 
 -- a link that creates an output of the process has a label that comes before these
-abbrev Precedes : ℕ → Values → Link → Type 0
+abbrev pub Precedes : ℕ → Values → Link → Type 0
 Precedes pid os a = a.link ≡ Create → a.source ≡ pid → ComeAfter os a.label
 
 -- nothing is in the way of these outputs
-record CanCreate (w : World) (pid : ℕ) (os : Values) : Type 0 where
-  source : IsSomeAnd (node_of w.nodes pid) IsCalculation
-  targets : All (λ a. a.target ≤ length w.nodes) w.links
-  labels : All (Precedes pid os) w.links
+pub record CanCreate (w : World) (pid : ℕ) (os : Values) : Type 0 where
+  pub source : IsSomeAnd (node_of w.nodes pid) IsCalculation
+  pub targets : All (λ a. a.target ≤ length w.nodes) w.links
+  pub labels : All (Precedes pid os) w.links
 
 -- the link that creates an output
 abbrev creation : (next pid : ℕ) → List ℕ × Value → Link
@@ -183,7 +183,7 @@ fewer : (o : List ℕ × Value) (os : Values) → AreInputs (o ∷ os) → AreIn
 unfolding IsStrictlySortedBy
 fewer o os a = record { ascend = a.ascend.1; shallow = All-tail IsLow o os a.shallow }
 
-apply_created : (s : Setting) (w : World) (next pid : ℕ) (os : Values) (rest : List Change) → next ≡ suc (length w.nodes) → length w.nodes + length os ≤ 8000000
+pub apply_created : (s : Setting) (w : World) (next pid : ℕ) (os : Values) (rest : List Change) → next ≡ suc (length w.nodes) → length w.nodes + length os ≤ 8000000
     → AreInputs os → CanCreate w pid os → Apply s (with_outputs w next pid os) rest → Apply s w (creations next pid os ++ rest)
 apply_created s w next pid [] rest e room a can h =
     subst (λ (v : World). Apply s v rest)
@@ -210,7 +210,7 @@ apply_created s w next pid (o ∷ os) rest e room a can h =
 
 -- ---- the end
 
-over_fits : (k : ProcessKind) (s : ProcessState) → has_ended s ≡ true → part_fits k s part.Over ≡ true
+pub over_fits : (k : ProcessKind) (s : ProcessState) → has_ended s ≡ true → part_fits k s part.Over ≡ true
 over_fits k state.Created h = absurd (cc)
 over_fits k state.Running h = absurd (cc)
 over_fits k state.Waiting h = absurd (cc)
@@ -235,7 +235,7 @@ live_without_output w r s live =
     live_has_none (has_ended r.state) (has_output r.node w.links) (calls_from r.node w.links == counted_calls r.part) s.settled live
 
 module _ (w : World) (r : ProcessRecord) (p : Parsed) (source : Option ℕ) (code : Option ℤ) where
-  settled_after : IsConsistent w → has_ended p.state ≡ true → unsettled (ended_world w r p source code).links (ended_world w r p source code).records ≡ None
+  pub settled_after : IsConsistent w → has_ended p.state ≡ true → unsettled (ended_world w r p source code).links (ended_world w r p source code).records ≡ None
   settled_after c over =
       let new = creates (length w.nodes + 1) r.node p.outputs in
       settled_all (w.links ++ new) (at_process r.node (end_record w r p source code) w.records)

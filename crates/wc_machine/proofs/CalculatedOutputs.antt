@@ -28,7 +28,7 @@ use Rattle.wc_machine.specs.Submitting.{AreInputs}
 abbrev IsLow : List ℕ × Value → Type 0
 IsLow e = depth e.1 ≤ 32
 
-nothing_set : AreInputs []
+pub nothing_set : AreInputs []
 unfolding IsStrictlySortedBy
 nothing_set = record { ascend = tt; shallow = All-nil IsLow }
 
@@ -41,11 +41,11 @@ low_put name v (e ∷ es) h a = at (before e.0 name) (bytes_eq e.0 name) (low_pu
     at false true rest = All-cons IsLow (name, v) es h (All-tail IsLow e es a)
     at false false rest = All-cons IsLow (name, v) (e ∷ es) h a
 
-set_more : (name : List ℕ) (v : Value) (es : Values) → depth v ≤ 32 → AreInputs es → AreInputs (put name v es)
+pub set_more : (name : List ℕ) (v : Value) (es : Values) → depth v ≤ 32 → AreInputs es → AreInputs (put name v es)
 set_more name v es h a = record { ascend = ascends_put name v es a.ascend; shallow = low_put name v es h a.shallow }
 
 -- what holds of whatever an outcome gives holds of what is made of it
-gives_by : {A B : Type 0} (o : Outcome A) (f : A → Outcome B) (b : B) → (o >>= f) ≡ Gives b → (a : A) × (o ≡ Gives a) × (f a ≡ Gives b)
+pub gives_by : {A B : Type 0} (o : Outcome A) (f : A → Outcome B) (b : B) → (o >>= f) ≡ Gives b → (a : A) × (o ≡ Gives a) × (f a ≡ Gives b)
 gives_by (Gives a) f b h = (a, refl, h)
 gives_by (Faults r) f b h = absurd (cc)
 
@@ -83,7 +83,7 @@ rules_set ports (rule.Exit x ∷ rs) env outputs end a h =
         subst (λ (e : End). AreInputs e.1) is a
     at false h rest = rest h
 
-concluded_set : (ports : List Port) (kept : Values) (o : Outcome End) → AreInputs kept → ((end : End) → o ≡ Gives end → AreInputs end.1)
+pub concluded_set : (ports : List Port) (kept : Values) (o : Outcome End) → AreInputs kept → ((end : End) → o ≡ Gives end → AreInputs end.1)
     → AreInputs (concluded ports kept o).outputs
 concluded_set ports kept (Gives end) a h = h end refl
 concluded_set ports kept (Faults r) a h = a

@@ -16,7 +16,7 @@ use Rattle.wc_machine.proofs.CalculatedOutputs.{calculated_set}
 use Rattle.wc_machine.proofs.EndedContinues.{ended_continues}
 use Rattle.wc_machine.proofs.Endings.{applied_ends}
 
-concluded_ends : (ports : List Port) (kept : Values) (o : Outcome End) → has_ended (concluded ports kept o).state ≡ true
+pub concluded_ends : (ports : List Port) (kept : Values) (o : Outcome End) → has_ended (concluded ports kept o).state ≡ true
 concluded_ends ports kept (Gives end) = refl
 concluded_ends ports kept (Faults r) = refl
 
@@ -24,7 +24,7 @@ concluded_ends ports kept (Faults r) = refl
 pub calculated_ends : (f : Function) (inputs : Values) → has_ended (calculated f inputs).state ≡ true
 calculated_ends f inputs = concluded_ends f.head.outputs [] (run_rules f.head.outputs f.rules (env_of inputs) [])
 
-concluded_alive : (ports : List Port) (kept : Values) (o : Outcome End) → (concluded ports kept o).state ≢ state.Killed
+pub concluded_alive : (ports : List Port) (kept : Values) (o : Outcome End) → (concluded ports kept o).state ≢ state.Killed
 concluded_alive ports kept (Gives end) e = cc e
 concluded_alive ports kept (Faults r) e = cc e
 

@@ -45,7 +45,7 @@ meaning_is (suc levels) library table kills n name inputs f h =
     let a = surrounding library (Some (λ l. meaning levels library (under l table) (under l kills))) in
     ap (λ (d : Option Definition). by_kill (kills []) d a (table []) n name inputs) h ∙ by_kill_is (kills []) f a (table []) n name inputs
 
-definition_parts : (name : List ℕ) (o : Option (List Definition)) (d : Definition) → option_and_then (definition_named name) o ≡ Some d
+pub definition_parts : (name : List ℕ) (o : Option (List Definition)) (d : Definition) → option_and_then (definition_named name) o ≡ Some d
     → (library : List Definition) × (o ≡ Some library) × (definition_named name library ≡ Some d)
 definition_parts name None d h = absurd (cc)
 definition_parts name (Some library) d h = (library, refl, h)

@@ -2,3 +2,9 @@ pub mod Moves
 pub mod SoundMoves
 pub mod Marks
 pub mod Tasks
+pub mod Ends
+pub mod EndedFuel
+pub mod SoundEnds
+pub mod FaultingJobs
+pub mod Retrieved
+pub mod Parses

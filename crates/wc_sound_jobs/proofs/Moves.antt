@@ -32,7 +32,7 @@ pub set_is_live : (b c : Bool) → not b && c ≡ true → b ≡ false
 set_is_live true c h = absurd (cc)
 set_is_live false c h = refl
 
-live_count : (over : Bool) (n m : ℕ) (out : Bool) → (over || (not out && (n == m))) ≡ true → over ≡ false → (n == m) ≡ true
+pub live_count : (over : Bool) (n m : ℕ) (out : Bool) → (over || (not out && (n == m))) ≡ true → over ≡ false → (n == m) ≡ true
 live_count true n m out h e = absurd (cc)
 live_count false n m true h e = absurd (cc)
 live_count false n m false h e = h
@@ -89,7 +89,7 @@ moves_accepted w r s paused fuel p consistent found h room =
 
 -- ---- it touches one process
 
-not_created : (s : ProcessState) → (s ≡ state.Created → ⊥) → is_created s ≡ false
+pub not_created : (s : ProcessState) → (s ≡ state.Created → ⊥) → is_created s ≡ false
 not_created state.Created h = absurd (h refl)
 not_created state.Running h = refl
 not_created state.Waiting h = refl
@@ -97,7 +97,7 @@ not_created (state.Finished n) h = refl
 not_created (state.Excepted reason) h = refl
 not_created state.Killed h = refl
 
-same_record : (w : World) (r q : ProcessRecord) → find_record r.node w.records ≡ Some r → find_record r.node w.records ≡ Some q → r ≡ q
+pub same_record : (w : World) (r q : ProcessRecord) → find_record r.node w.records ≡ Some r → find_record r.node w.records ≡ Some q → r ≡ q
 same_record w r q found h = let e : Some r ≡ Some q = sym found ∙ h in cc
 
 module _ (w : World) (r : ProcessRecord) (s : ProcessState) (paused : Bool) (fuel : ℕ) (p : Part) where

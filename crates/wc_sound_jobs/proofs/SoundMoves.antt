@@ -135,7 +135,7 @@ module _ (pid : ℕ) (f : ProcessRecord → ProcessRecord) where
 not_started_again : (s : ProcessState) → s ≡ state.Created → (not (is_created s) && not (is_killed s)) ≡ false
 not_started_again s e = ap (λ (x : ProcessState). not (is_created x) && not (is_killed x)) e
 
-created_is : (s : ProcessState) → is_created s ≡ true → s ≡ state.Created
+pub created_is : (s : ProcessState) → is_created s ≡ true → s ≡ state.Created
 created_is state.Created h = refl
 created_is state.Running h = absurd (cc)
 created_is state.Waiting h = absurd (cc)

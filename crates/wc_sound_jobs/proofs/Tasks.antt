@@ -84,7 +84,7 @@ moved_fails j t (answer.Result r) now poll m few h = absurd (cc)
 
 -- ---- what a job fits
 
-job_waits : (k : ProcessKind) (s : ProcessState) (j i : JobPart) → part_fits k s (part.Job j) ≡ true → (s ≡ state.Waiting) × (waits k (part.Job i) ≡ true)
+pub job_waits : (k : ProcessKind) (s : ProcessState) (j i : JobPart) → part_fits k s (part.Job j) ≡ true → (s ≡ state.Waiting) × (waits k (part.Job i) ≡ true)
 job_waits k state.Created j i h = absurd (cc)
 job_waits kind.Function state.Running j i h = absurd (cc)
 job_waits kind.Job state.Running j i h = absurd (cc)
@@ -123,7 +123,7 @@ fewer_than_five false true h = absurd (cc)
 fewer_than_five false false h = absurd (cc)
 
 -- the request of a job is recorded
-request_is : (w : World) (r : ProcessRecord) (j : Job) (q : Request) → its_definition w r ≡ Some (definition.Job j) → request j (recorded_inputs w r.node) ≡ Gives q
+pub request_is : (w : World) (r : ProcessRecord) (j : Job) (q : Request) → its_definition w r ≡ Some (definition.Job j) → request j (recorded_inputs w r.node) ≡ Gives q
     → recorded_request w r ≡ Some (Gives q)
 request_is w r j q d e =
     ap (λ (x : Option Definition). request_by x (recorded_inputs w r.node)) d ∙ ap (λ (x : Outcome Request). Some x) e

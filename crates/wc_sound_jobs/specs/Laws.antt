@@ -1,11 +1,11 @@
 -- Laws of events that set one process: marks, and the tasks of jobs.
-use Rattle.std.specs.Prelude.{◌≡◌, ◌↔◌, ◌<◌, ℕ, Bool, true, false, [], ◌∷◌, Some, None}
+use Rattle.std.specs.Prelude.{◌≡◌, ◌↔◌, ◌<◌, ℕ, Bool, true, false, [], ◌∷◌, Some, None, ◌+◌, ℤ, length, codes, Option}
 use Rattle.wc_value.specs.declared.process.ProcessState.{ProcessState}
 use Rattle.wc_value.specs.declared.process.ProcessState.TheVariants as state
 use Rattle.wc_value.specs.declared.process.Request.{Request}
 use Rattle.wc_syntax.specs.declared.definition.Definition.TheVariants as definition
 use Rattle.wc_syntax.specs.declared.definition.Job.{Job}
-use Rattle.wc_expression.specs.declared.outcome.Outcome.TheVariants.{Gives}
+use Rattle.wc_expression.specs.declared.outcome.Outcome.TheVariants.{Gives, Faults}
 use Rattle.wc_calculation.specs.Requests.{request}
 use Rattle.wc_state.specs.declared.record.JobPart.{JobPart}
 use Rattle.wc_state.specs.declared.record.Part.{Part}
@@ -15,17 +15,26 @@ use Rattle.wc_world.specs.World.{World}
 use Rattle.wc_world.specs.Accepted.{IsAccepted}
 use Rattle.wc_world.specs.Applied.{applied}
 use Rattle.wc_world.specs.Consistent.{IsConsistent}
-use Rattle.wc_world.specs.Records.{find_record, has_ended}
+use Rattle.wc_world.specs.Records.{find_record, has_ended, is_calculation}
 use Rattle.wc_machine.specs.declared.answer.TaskAnswer.{TaskAnswer}
-use Rattle.wc_machine.specs.Ending.{TakesSource}
+use Rattle.wc_machine.specs.Ending.{TakesSource, ends}
 use Rattle.wc_machine.specs.Machine.{IsLive, pause_changes, play_changes}
 use Rattle.wc_machine.specs.Readiness.{is_ready}
 use Rattle.wc_machine.specs.Recorded.{its_definition, recorded_inputs}
 use Rattle.wc_machine.specs.Sound.{IsSound}
 use Rattle.wc_machine.specs.Tasks.{Moved, after}
 use Rattle.wc_machine.specs.Turning.{first_task, job_set}
+use Rattle.wc_value.specs.declared.process.Reason.{Reason}
+use Rattle.wc_calculation.specs.Outcomes.{excepted, parsed}
+use Rattle.wc_calculation.specs.Rules.{Values, kind_of_port}
+use Rattle.wc_value.specs.Ascending.{lookup}
+use Rattle.wc_value.specs.declared.process.JobResult.{JobResult}
+use Rattle.wc_value.specs.declared.value.Value.TheVariants as value
+use Rattle.wc_calculation.specs.declared.outcomes.Parsed.{Parsed}
+use Rattle.wc_machine.specs.Laws.{HasPlaces}
+use Rattle.wc_machine.specs.Submitting.{AreInputs}
 use Rattle.wc_framing.specs.Touching.{Touches}
-use Rattle.wc_sound_jobs.specs.Sets.{AreSafe, IsFittingMove, StaysOnTrack, moved, moves_to}
+use Rattle.wc_sound_jobs.specs.Sets.{AreSafe, AreSafeWithin, EndsRightly, IsFittingMove, StaysOnTrack, moved, moves_to}
 
 -- ---- one Set
 
@@ -66,3 +75,46 @@ abbrev pub TasksAreSafe : Type 0
 TasksAreSafe = (poll now : ℕ) (w : World) (r : ProcessRecord) (j : Job) (p : JobPart) (q : Request) (a : TaskAnswer) (m : Moved) → IsSound w
     → find_record r.node w.records ≡ Some r → is_ready w now r ≡ true → its_definition w r ≡ Some (definition.Job j) → r.part ≡ part.Job p
     → request j (recorded_inputs w r.node) ≡ Gives q → after p a now poll p.task ≡ Some m → AreSafe w (job_set r m.part m.paused ∷ [])
+
+-- ---- ends
+
+-- The end of a live calculation without source is accepted where there is room for its outputs.
+abbrev pub LiveEndsAreAccepted : Type 0
+LiveEndsAreAccepted = (w : World) (r : ProcessRecord) (p : Parsed) (code : Option ℤ) → IsConsistent w → find_record r.node w.records ≡ Some r
+    → is_calculation r.kind ≡ true → has_ended r.state ≡ false → has_ended p.state ≡ true → AreInputs p.outputs
+    → HasPlaces w (length w.nodes + length p.outputs) → IsAccepted w (ends w r p None code)
+
+-- It touches the calculation alone.
+abbrev pub LiveEndsTouch : Type 0
+LiveEndsTouch = (w : World) (r : ProcessRecord) (p : Parsed) (code : Option ℤ) → IsSound w → find_record r.node w.records ≡ Some r
+    → has_ended r.state ≡ false → Touches w (applied w (ends w r p None code)) r.node
+
+-- An end that is right keeps a world sound.
+abbrev pub EndsAreSafe : Type 0
+EndsAreSafe = (w : World) (r : ProcessRecord) (p : Parsed) (code : Option ℤ) → IsSound w → find_record r.node w.records ≡ Some r
+    → is_calculation r.kind ≡ true → has_ended r.state ≡ false → EndsRightly w r p code
+    → AreSafeWithin (length w.nodes + length p.outputs) w (ends w r p None code)
+
+-- A created job that takes no source and whose request is a reason excepts with it.
+abbrev pub FaultingJobsAreSafe : Type 0
+FaultingJobsAreSafe = (w : World) (r : ProcessRecord) (j : Job) (reason : Reason) → IsSound w → find_record r.node w.records ≡ Some r
+    → its_definition w r ≡ Some (definition.Job j) → r.state ≡ state.Created → TakesSource w r None → request j (recorded_inputs w r.node) ≡ Faults reason
+    → AreSafeWithin (length w.nodes) w (ends w r (excepted reason []) None None)
+
+-- In a sound world no job waits whose request is a reason.
+abbrev pub WaitingJobsAsk : Type 0
+WaitingJobsAsk = (w : World) (r : ProcessRecord) (j : Job) (p : JobPart) (reason : Reason) → IsSound w → find_record r.node w.records ≡ Some r
+    → its_definition w r ≡ Some (definition.Job j) → r.part ≡ part.Job p → request j (recorded_inputs w r.node) ≡ Faults reason → ⊥
+
+-- The folder that a job brings back is among what its rules make of the result, where no output port has its name.
+abbrev pub RetrievedStays : Type 0
+RetrievedStays = (j : Job) (inputs : Values) (result : JobResult) → kind_of_port (codes "retrieved") j.head.outputs ≡ None
+    → lookup (codes "retrieved") (parsed j inputs result).outputs ≡ Some (value.Folder result.files)
+
+-- So a waiting job with a result ends as its rules make of it.
+abbrev pub ParsesAreSafe : Type 0
+ParsesAreSafe = (w : World) (r : ProcessRecord) (j : Job) (p : JobPart) (q : Request) (result : JobResult) → IsSound w → find_record r.node w.records ≡ Some r
+    → its_definition w r ≡ Some (definition.Job j) → r.part ≡ part.Job p → request j (recorded_inputs w r.node) ≡ Gives q
+    → kind_of_port (codes "retrieved") j.head.outputs ≡ None
+    → AreSafeWithin (length w.nodes + length (parsed j (recorded_inputs w r.node) result).outputs) w
+    (ends w r (parsed j (recorded_inputs w r.node) result) None (Some result.code))

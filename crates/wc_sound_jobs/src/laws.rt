@@ -1,5 +1,5 @@
 //! Laws of events that set one process.
-ghost use Rattle.wc_sound_jobs.specs.Laws.{MovesAreAccepted, MovesTouch, MovesAreSafe, MarksAreSafe, MarksAreKept, FirstTasksAreSafe, TasksAreSafe};
+ghost use Rattle.wc_sound_jobs.specs.Laws.{MovesAreAccepted, MovesTouch, MovesAreSafe, MarksAreSafe, MarksAreKept, FirstTasksAreSafe, TasksAreSafe, LiveEndsAreAccepted, LiveEndsTouch, EndsAreSafe, FaultingJobsAreSafe, WaitingJobsAsk, RetrievedStays, ParsesAreSafe};
 
 /// A Set that fits is accepted.
 pub fn moves_are_accepted()
@@ -34,4 +34,39 @@ pub fn first_tasks_are_safe()
 /// A job that moves to another task keeps a world sound.
 pub fn tasks_are_safe()
     ensures { TasksAreSafe }
+{}
+
+/// The end of a live calculation is accepted.
+pub fn live_ends_are_accepted()
+    ensures { LiveEndsAreAccepted }
+{}
+
+/// It touches the calculation alone.
+pub fn live_ends_touch()
+    ensures { LiveEndsTouch }
+{}
+
+/// An end that is right keeps a world sound.
+pub fn ends_are_safe()
+    ensures { EndsAreSafe }
+{}
+
+/// A created job whose request is a reason ends with it, and the world stays sound.
+pub fn faulting_jobs_are_safe()
+    ensures { FaultingJobsAreSafe }
+{}
+
+/// A waiting job has a request.
+pub fn waiting_jobs_ask()
+    ensures { WaitingJobsAsk }
+{}
+
+/// The folder that a job brings back is among its outputs.
+pub fn retrieved_stays()
+    ensures { RetrievedStays }
+{}
+
+/// A job with a result ends as its rules make of it, and the world stays sound.
+pub fn parses_are_safe()
+    ensures { ParsesAreSafe }
 {}

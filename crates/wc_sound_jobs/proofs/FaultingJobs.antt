@@ -1,5 +1,5 @@
 -- A job whose request is a reason excepts with it.
-use Rattle.std.proofs.Common.{◌≡◌, ◌≢◌, ℕ, zero, suc, ◌+◌, Bool, true, false, Option, Some, None, List, [], ◌∷◌, length, refl, sym, ap, subst, ◌∙◌, arith}
+use Rattle.std.proofs.Common.{◌≡◌, ℕ, zero, suc, ◌+◌, true, Option, Some, None, List, [], length, refl, sym, ap, subst, ◌∙◌, arith}
 use Rattle.std.specs.Prelude.{option_map}
 use Rattle.wc_value.specs.declared.process.ProcessState.TheVariants as state
 use Rattle.wc_value.specs.declared.process.Reason.{Reason}
@@ -24,13 +24,13 @@ use Rattle.wc_state.specs.declared.record.ProcessRecord.{ProcessRecord}
 use Rattle.wc_world.specs.World.{World}
 use Rattle.wc_world.specs.Consistent.{Stands}
 use Rattle.wc_world.specs.Fits.{is_of_kind}
-use Rattle.wc_world.specs.Records.{find_record, has_ended, is_calculation, library_at, same_kind}
+use Rattle.wc_world.specs.Records.{has_ended, is_calculation, library_at, same_kind}
 use Rattle.wc_world.proofs.FoundRecords.{found_holds}
 use Rattle.wc_machine.specs.Created.{GivenFor, no_request}
 use Rattle.wc_machine.specs.Ending.{ends}
 use Rattle.wc_machine.specs.Recorded.{its_definition, recorded_inputs, recorded_request, request_by}
 use Rattle.wc_machine.specs.Resting.{levels_of, meant}
-use Rattle.wc_machine.specs.Sound.{IsFitting, IsSound, is_job_part}
+use Rattle.wc_machine.specs.Sound.{IsFitting, is_job_part}
 use Rattle.wc_machine.proofs.CalculatedOutputs.{nothing_set}
 use Rattle.wc_machine.proofs.Endings.{applied_ends, end_record, ended_world}
 use Rattle.wc_machine.proofs.EndedWorlds.{found_end, inputs_kept}

@@ -8,3 +8,4 @@ pub mod SoundEnds
 pub mod FaultingJobs
 pub mod Retrieved
 pub mod Parses
+pub mod FreeNames

@@ -1,10 +1,9 @@
 -- A job that retrieves its result is parsed, and ends with it.
-use Rattle.std.proofs.Common.{◌≡◌, ◌≢◌, ℕ, ℤ, zero, suc, ◌+◌, ◌≤◌, Bool, true, false, Option, Some, None, List, [], ◌∷◌, length, refl, sym, ap, subst, ◌∙◌, arith}
+use Rattle.std.proofs.Common.{◌≡◌, ◌≢◌, ℕ, zero, suc, true, false, Option, Some, None, List, [], ◌∷◌, refl, sym, ap, subst, ◌∙◌, arith}
 use Rattle.std.specs.Prelude.{codes, option_map, option_and_then}
 use Rattle.wc_value.specs.Ascending.{lookup}
 use Rattle.wc_value.specs.Spelling.{depth}
 use Rattle.wc_value.specs.declared.process.JobResult.{JobResult}
-use Rattle.wc_value.specs.declared.process.ProcessState.{ProcessState}
 use Rattle.wc_value.specs.declared.process.ProcessState.TheVariants as state
 use Rattle.wc_value.specs.declared.process.Request.{Request}
 use Rattle.wc_value.specs.declared.value.Value.{Value, out-Value, out-roll-Value}
@@ -20,29 +19,24 @@ use Rattle.wc_expression.specs.declared.outcome.Outcome.{Outcome}
 use Rattle.wc_expression.specs.declared.outcome.Outcome.TheVariants.{Gives}
 use Rattle.wc_calculation.specs.Outcomes.{parse_env, parsed, retrieved}
 use Rattle.wc_calculation.specs.Requests.{request}
-use Rattle.wc_calculation.specs.Rules.{Values, kind_of_port, run_rules}
+use Rattle.wc_calculation.specs.Rules.{Values, run_rules}
 use Rattle.wc_calculation.specs.declared.outcomes.Parsed.{Parsed}
 use Rattle.wc_run.specs.Meaning.{by_kill, by_result, job as job_by, leaf, meaning, surrounding}
 use Rattle.wc_run.specs.Tables.{Table, Kills, under}
 use Rattle.wc_run.specs.declared.progress.Answer.{Answer}
 use Rattle.wc_run.specs.declared.progress.Answer.TheVariants.{Gave}
-use Rattle.wc_state.specs.declared.record.JobPart.{JobPart}
-use Rattle.wc_state.specs.declared.record.Part.TheVariants as part
 use Rattle.wc_state.specs.declared.record.ProcessKind.{ProcessKind}
 use Rattle.wc_state.specs.declared.record.ProcessKind.TheVariants as kind
 use Rattle.wc_state.specs.declared.record.ProcessRecord.{ProcessRecord}
 use Rattle.wc_world.specs.World.{World}
-use Rattle.wc_world.specs.Applied.{applied}
 use Rattle.wc_world.specs.Consistent.{Stands}
 use Rattle.wc_world.specs.Fits.{is_of_kind, part_fits}
-use Rattle.wc_world.specs.Records.{find_record, has_ended, is_calculation, library_at, same_kind}
+use Rattle.wc_world.specs.Records.{find_record, has_ended, library_at, same_kind}
 use Rattle.wc_world.proofs.FoundRecords.{found_holds}
 use Rattle.wc_machine.specs.Agreeing.{Agrees}
 use Rattle.wc_machine.specs.Created.{GivenFor, job}
-use Rattle.wc_machine.specs.Ending.{ends}
 use Rattle.wc_machine.specs.Recorded.{Contents, HasResult, own, folder_of, folder_seen, its_definition, recorded_inputs, recorded_outputs, recorded_request, request_by, retrieved_folder}
 use Rattle.wc_machine.specs.Resting.{levels_of, meant}
-use Rattle.wc_machine.specs.Sound.{IsSound}
 use Rattle.wc_machine.specs.Submitting.{AreInputs}
 use Rattle.wc_machine.proofs.CalculatedOutputs.{concluded_set, nothing_set, rules_set, set_more}
 use Rattle.wc_machine.proofs.Endings.{applied_ends, end_record, ended_world}
@@ -51,9 +45,10 @@ use Rattle.wc_machine.proofs.FunctionEnds.{concluded_alive, concluded_ends}
 use Rattle.wc_machine.proofs.FunctionMeaning.{definition_parts}
 use Rattle.wc_sound_jobs.specs.Laws.{ParsesAreSafe}
 use Rattle.wc_sound_jobs.proofs.FaultingJobs.{job_calculates}
+use Rattle.wc_sound_jobs.proofs.FreeNames.{retrieved_is_free}
 use Rattle.wc_sound_jobs.proofs.Retrieved.{retrieved_stays}
 use Rattle.wc_sound_jobs.proofs.SoundEnds.{ends_safe}
-use Rattle.wc_sound_jobs.proofs.Tasks.{job_waits, request_is}
+use Rattle.wc_sound_jobs.proofs.Tasks.{job_waits}
 
 -- ---- its outputs
 
@@ -106,7 +101,7 @@ not_created : state.Waiting ≡ state.Created → ⊥
 not_created h = cc
 
 pub parses_safe : ParsesAreSafe
-parses_safe w r j p q result s found d is asked free =
+parses_safe w r j p q result s found d is asked =
     let inputs : Values = recorded_inputs w r.node in
     let out : Parsed = parsed j inputs result in
     let v : World = ended_world w r out None (Some result.code) in
@@ -123,7 +118,7 @@ parses_safe w r j p q result s found d is asked free =
     let outputs : recorded_outputs v r.node ≡ out.outputs = outputs_of_end w r out None (Some result.code) s.consistent found live set in
     let folder : retrieved_folder v r.node ≡ Some result.files
     = ap (λ (os : Values). option_and_then folder_of (lookup (codes "retrieved") os)) outputs
-    ∙ ap (option_and_then folder_of) (retrieved_stays j inputs result free) ∙ ap folder_seen (folder_opens result.files) in
+    ∙ ap (option_and_then folder_of) (retrieved_stays j inputs result (retrieved_is_free w r j s d)) ∙ ap folder_seen (folder_opens result.files) in
     let again : request j (recorded_inputs v r.node) ≡ Gives q = ap (request j) same ∙ asked in
     let has : HasResult v r.node result = own y result.code result.files there (kind_is_job r.kind defined) refl folder in
     let given : GivenFor v r.node out

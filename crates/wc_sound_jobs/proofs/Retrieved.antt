@@ -1,15 +1,12 @@
 -- The folder that a job brings back stays among its outputs, whatever its rules set.
-use Rattle.std.proofs.Common.{◌≡◌, ℕ, ◌≤◌, Bool, true, false, Option, Some, None, List, [], ◌∷◌, refl, sym, ap, subst, ◌∙◌}
-use Rattle.std.specs.Prelude.{All, codes, if◌then◌else◌}
+use Rattle.std.proofs.Common.{◌≡◌, ℕ, Bool, true, false, Option, Some, None, List, [], ◌∷◌, refl, sym, ap, ◌∙◌}
+use Rattle.std.specs.Prelude.{codes, if◌then◌else◌}
 use Rattle.std.specs.Str.{bytes_eq}
 use Rattle.std.proofs.lemmas.Slice.Eq.{bytes_eq-Decides}
 use Rattle.wc_value.specs.Ascending.{before, lookup, put}
 use Rattle.wc_value.specs.declared.value.Kind.{Kind}
 use Rattle.wc_value.specs.declared.value.Value.{Value}
-use Rattle.wc_value.specs.declared.process.ProcessState.TheVariants as state
-use Rattle.wc_value.specs.declared.process.JobResult.{JobResult}
 use Rattle.wc_value.specs.declared.value.Value.TheVariants as value
-use Rattle.wc_syntax.specs.declared.definition.Job.{Job}
 use Rattle.wc_syntax.specs.declared.definition.Port.{Port}
 use Rattle.wc_syntax.specs.declared.definition.Rule.{Rule}
 use Rattle.wc_syntax.specs.declared.definition.Rule.TheVariants as rule
@@ -18,7 +15,7 @@ use Rattle.wc_state.specs.declared.environment.Env.{Env}
 use Rattle.wc_expression.specs.declared.outcome.Outcome.{Outcome}
 use Rattle.wc_expression.specs.declared.outcome.Outcome.TheVariants.{Gives, Faults}
 use Rattle.wc_expression.specs.Val.{val}
-use Rattle.wc_calculation.specs.Outcomes.{concluded, parse_env, parsed, retrieved}
+use Rattle.wc_calculation.specs.Outcomes.{concluded, parse_env, retrieved}
 use Rattle.wc_calculation.specs.Rules.{Values, End, bound, kind_of_port, fitting, output_of, is_taken, status_of, run_rules}
 use Rattle.wc_machine.proofs.CalculatedOutputs.{gives_by}
 use Rattle.wc_sound_jobs.specs.Laws.{RetrievedStays}

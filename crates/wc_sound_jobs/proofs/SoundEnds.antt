@@ -1,21 +1,17 @@
 -- A calculation that lives and ends, with what is given for it and what it means, keeps a world sound.
 use Rattle.std.proofs.Common.{◌≡◌, ◌≢◌, ◌⊎◌, ℕ, ℤ, suc, ◌+◌, ◌<◌, ◌≤◌, Bool, true, false, Option, Some, None, List, [], ◌∷◌, ◌++◌, get_or, length, inl, inr, refl, sym, ap, subst, ◌∙◌, arith}
-use Rattle.std.specs.Prelude.{All, ◌==◌, ◌&&◌, ◌||◌, not, if◌then◌else◌, option_and_then, option_map, slice_get}
-use Rattle.std.proofs.lemmas.Bool.{cases_eq, eq-eqb, eqb-true}
-use Rattle.std.proofs.lemmas.List.{append-nil, length-append}
+use Rattle.std.specs.Prelude.{◌==◌, ◌&&◌, not, if◌then◌else◌, option_and_then, option_map, slice_get}
+use Rattle.std.proofs.lemmas.Bool.{cases_eq, eqb-true}
+use Rattle.std.proofs.lemmas.List.{length-append}
 use Rattle.std.proofs.lemmas.List.Elements.{All-append, All-cons, All-nil}
 use Rattle.wc_value.specs.declared.process.ProcessState.{ProcessState}
 use Rattle.wc_value.specs.declared.process.ProcessState.TheVariants as state
-use Rattle.wc_value.specs.declared.process.Tree.{Tree, roll-Tree}
+use Rattle.wc_value.specs.declared.process.Tree.{roll-Tree}
 use Rattle.wc_graph.specs.declared.link.Link.{Link}
 use Rattle.wc_graph.specs.declared.link.LinkType.TheVariants.{Create}
 use Rattle.wc_calculation.specs.declared.outcomes.Parsed.{Parsed}
 use Rattle.wc_syntax.specs.declared.definition.Definition.{Definition}
 use Rattle.wc_run.specs.Meaning.{is_killed, leaf}
-use Rattle.wc_run.specs.Tables.{Path, Table, Kills}
-use Rattle.wc_run.specs.declared.progress.Answer.{Answer}
-use Rattle.wc_run.specs.declared.progress.Answer.TheVariants.{Gave}
-use Rattle.wc_state.specs.declared.record.JobPart.{JobPart}
 use Rattle.wc_state.specs.declared.record.Part.{Part}
 use Rattle.wc_state.specs.declared.record.Part.TheVariants as part
 use Rattle.wc_state.specs.declared.record.ProcessKind.{ProcessKind}
@@ -23,31 +19,30 @@ use Rattle.wc_state.specs.declared.record.ProcessKind.TheVariants as kind
 use Rattle.wc_state.specs.declared.record.ProcessRecord.{ProcessRecord}
 use Rattle.wc_world.specs.World.{World}
 use Rattle.wc_world.specs.Accepted.{IsAccepted}
-use Rattle.wc_world.specs.Applied.{applied, begun, is_created}
+use Rattle.wc_world.specs.Applied.{applied, is_created}
 use Rattle.wc_world.specs.Applied.{is_killed as kills_it}
 use Rattle.wc_world.specs.Consistent.{IsConsistent, Stands}
 use Rattle.wc_world.specs.Fits.{calls_from, has_output, part_fits, counted_calls}
-use Rattle.wc_world.specs.Records.{at_process, find_record, gives_output, has_ended, is_calculation, is_call_from, is_output_of}
+use Rattle.wc_world.specs.Records.{find_record, has_ended, is_calculation, is_call_from}
 use Rattle.wc_world.specs.Trees.{branches, context_of, recorded_tree, tree_with, tree_within}
 use Rattle.wc_world.proofs.FoundRecords.{found_holds}
 use Rattle.wc_world.proofs.ReachedLists.{all_at, all_found, unique}
 use Rattle.wc_world.proofs.ReachedWorlds.{accepted_is_consistent}
 use Rattle.wc_machine.specs.Agreeing.{Agrees}
-use Rattle.wc_machine.specs.Continues.{Carries, Continues}
+use Rattle.wc_machine.specs.Continues.{Continues}
 use Rattle.wc_machine.specs.Created.{GivenFor, IsGiven}
-use Rattle.wc_machine.specs.Ending.{end_of, ends}
+use Rattle.wc_machine.specs.Ending.{ends}
 use Rattle.wc_machine.specs.Laws.{HasPlaces}
 use Rattle.wc_machine.specs.Paths.{cut_after, kills}
 use Rattle.wc_machine.specs.Recorded.{its_definition, recorded_outputs}
-use Rattle.wc_machine.specs.Resting.{meant, is_awaited, GivesTree}
-use Rattle.wc_machine.specs.Sound.{CallsAreKept, IsFitting, IsMeant, IsPlaced, IsSound, TakesItsInputs, fuel_in, is_awaited_in}
+use Rattle.wc_machine.specs.Resting.{is_awaited}
+use Rattle.wc_machine.specs.Sound.{CallsAreKept, IsFitting, IsMeant, IsPlaced, IsSound, TakesItsInputs, fuel_in}
 use Rattle.wc_machine.specs.Sources.{HaveEqualKeys, IsLowestSource, KeepsRule}
-use Rattle.wc_machine.specs.Submitting.{AreInputs}
 use Rattle.wc_machine.proofs.CreatedOutputs.{creates_no_call}
 use Rattle.wc_machine.proofs.Endings.{applied_ends, creates, data_nodes, end_record, ended_world}
 use Rattle.wc_machine.proofs.EndedWorlds.{found_end, outputs_of_end, upward_after}
 use Rattle.wc_machine.proofs.Frames.{NoCallFrom, branches_before, no_call_from, records_below}
-use Rattle.wc_framing.specs.Touching.{EndsLate, HasSoundLists, IsSoundRecord, MayBeTouched, Touches}
+use Rattle.wc_framing.specs.Touching.{EndsLate, IsSoundRecord, MayBeTouched, Touches}
 use Rattle.wc_framing.proofs.LeftAlone.{calls_kept, placed_kept, fitting_kept}
 use Rattle.wc_framing.proofs.Others.{lowest_kept, touched_worlds_are_sound}
 use Rattle.wc_framing.proofs.Touched.{meant_kept, touching_continues}

@@ -111,10 +111,14 @@ abbrev pub RetrievedStays : Type 0
 RetrievedStays = (j : Job) (inputs : Values) (result : JobResult) → kind_of_port (codes "retrieved") j.head.outputs ≡ None
     → lookup (codes "retrieved") (parsed j inputs result).outputs ≡ Some (value.Folder result.files)
 
+-- In a sound world no output port of a job has that name.
+abbrev pub RetrievedIsFree : Type 0
+RetrievedIsFree = (w : World) (r : ProcessRecord) (j : Job) → IsSound w → its_definition w r ≡ Some (definition.Job j)
+    → kind_of_port (codes "retrieved") j.head.outputs ≡ None
+
 -- So a waiting job with a result ends as its rules make of it.
 abbrev pub ParsesAreSafe : Type 0
 ParsesAreSafe = (w : World) (r : ProcessRecord) (j : Job) (p : JobPart) (q : Request) (result : JobResult) → IsSound w → find_record r.node w.records ≡ Some r
     → its_definition w r ≡ Some (definition.Job j) → r.part ≡ part.Job p → request j (recorded_inputs w r.node) ≡ Gives q
-    → kind_of_port (codes "retrieved") j.head.outputs ≡ None
     → AreSafeWithin (length w.nodes + length (parsed j (recorded_inputs w r.node) result).outputs) w
     (ends w r (parsed j (recorded_inputs w r.node) result) None (Some result.code))

@@ -1,5 +1,5 @@
 //! Laws of events that set one process.
-ghost use Rattle.wc_sound_jobs.specs.Laws.{MovesAreAccepted, MovesTouch, MovesAreSafe, MarksAreSafe, MarksAreKept, FirstTasksAreSafe, TasksAreSafe, LiveEndsAreAccepted, LiveEndsTouch, EndsAreSafe, FaultingJobsAreSafe, WaitingJobsAsk, RetrievedStays, ParsesAreSafe};
+ghost use Rattle.wc_sound_jobs.specs.Laws.{MovesAreAccepted, MovesTouch, MovesAreSafe, MarksAreSafe, MarksAreKept, FirstTasksAreSafe, TasksAreSafe, LiveEndsAreAccepted, LiveEndsTouch, EndsAreSafe, FaultingJobsAreSafe, WaitingJobsAsk, RetrievedStays, RetrievedIsFree, ParsesAreSafe};
 
 /// A Set that fits is accepted.
 pub fn moves_are_accepted()
@@ -64,6 +64,11 @@ pub fn waiting_jobs_ask()
 /// The folder that a job brings back is among its outputs.
 pub fn retrieved_stays()
     ensures { RetrievedStays }
+{}
+
+/// No output port of a job of a sound world has its name.
+pub fn retrieved_is_free()
+    ensures { RetrievedIsFree }
 {}
 
 /// A job with a result ends as its rules make of it, and the world stays sound.

@@ -1,0 +1,13 @@
+pub mod AtOne
+pub mod Keys
+pub mod Rule
+pub mod Calculations
+pub mod Given
+pub mod Outputs
+pub mod Stays
+pub mod Fuel
+pub mod Ended
+pub mod Begins
+pub mod Turns
+pub mod CreatedTurns
+pub mod Submissions

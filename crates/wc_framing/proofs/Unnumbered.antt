@@ -32,7 +32,7 @@ use Rattle.wc_framing.specs.Laws.{ValuesForgetNumbers}
 
 -- ---- what is read
 
-lookup_mapped : {A B : Type 0} (f : A → B) (name : List ℕ) (es : List (List ℕ × A)) → lookup name (map (λ e. (e.0, f e.1)) es) ≡ option_map f (lookup name es)
+pub lookup_mapped : {A B : Type 0} (f : A → B) (name : List ℕ) (es : List (List ℕ × A)) → lookup name (map (λ e. (e.0, f e.1)) es) ≡ option_map f (lookup name es)
 lookup_mapped f name [] = refl
 lookup_mapped f name (e ∷ es) = by_test (bytes_eq e.0 name) (lookup_mapped f name es)
   where
@@ -132,11 +132,11 @@ chosen_alone p (Faults r) o = refl
 -- ---- expressions
 
 -- a meaning that forgets numbers
-abbrev Forgets : Meant → Type 0
+abbrev pub Forgets : Meant → Type 0
 Forgets m = (env : Env) → m (env_alone env) ≡ m env
 
 module _ {S S' : Type 0} (v : S → Form) (v' : S' → Expr) (p' : (s : S') → Forgets (val (v' s))) where
-  abbrev opened : Form-F S S' → Form-F Form Expr
+  abbrev pub opened : Form-F S S' → Form-F Form Expr
   opened y = map-Form S S' Form Expr v v' y
 
   abbrev meant : Form-F S S' → Form-F Meant Meant
@@ -166,17 +166,17 @@ module _ {S S' : Type 0} (v : S → Form) (v' : S' → Expr) (p' : (s : S') → 
   middle (Form-F.Count at name) env = ap (λ (o : Outcome ℤ). mapped value.Int o) (count_alone name.text env)
   middle (Form-F.List es) env = ap (λ (o : Outcome (List Value)). mapped value.List o) (each es env)
 
-  form_forgets : (y : Form-F S S') → Forgets (val_form (roll-Form (opened y)))
+  pub form_forgets : (y : Form-F S S') → Forgets (val_form (roll-Form (opened y)))
   form_forgets y env =
       let is : val_form (roll-Form (opened y)) ≡ form (meant y) = fold-roll-Form Meant Meant form limited (opened y) in
       ap (λ (m : Meant). m (env_alone env)) is ∙ middle y env ∙ sym (ap (λ (m : Meant). m env) is)
 
-expr_forgets : (e : Expr-F Form Expr) → Forgets (val_form e.form) → Forgets (val (roll-Expr e))
+pub expr_forgets : (e : Expr-F Form Expr) → Forgets (val_form e.form) → Forgets (val (roll-Expr e))
 expr_forgets e h env =
     let is = fold-roll-Expr Meant Meant form limited e in
     ap (λ (m : Meant). m (env_alone env)) is ∙ ap sized (h env) ∙ sym (ap (λ (m : Meant). m env) is)
 
-val_forgets : (e : Expr) → Forgets (val e)
+pub val_forgets : (e : Expr) → Forgets (val e)
 val_forgets = ind-Expr (λ f. Forgets (val_form f)) (λ e. Forgets (val e))
     (λ x y e. subst (λ (z : Form-F Form Expr). Forgets (val_form (roll-Form z))) e (form_forgets (λ s. s.0) (λ s. s.0) (λ s. s.1) y))
     (λ x y e. subst (λ (z : Expr-F Form Expr). Forgets (val (roll-Expr z))) e (expr_forgets (record { at = y.at; form = y.form.0 }) y.form.1))

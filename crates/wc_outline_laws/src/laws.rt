@@ -1,0 +1,12 @@
+//! Laws of the advance of a work chain.
+ghost use Rattle.wc_outline_laws.specs.Laws.{AdvancesAreExact, AdvancesNumberCalls};
+
+/// The run from a checkpoint ends as the run that remains after one advance.
+pub fn advances_are_exact()
+    ensures { AdvancesAreExact }
+{}
+
+/// An advance keeps the number of calls that were made, and labels further ones from there on.
+pub fn advances_number_calls()
+    ensures { AdvancesNumberCalls }
+{}

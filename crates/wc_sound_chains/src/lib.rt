@@ -1,0 +1,6 @@
+//! The turns of a work chain keep a world sound.
+#![tactic(auto)]
+
+mod laws;
+
+pub use laws::{chains_stay_on_track, loops_stay_on_track};

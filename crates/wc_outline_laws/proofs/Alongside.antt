@@ -1,14 +1,10 @@
 -- The statements of a step, with the nodes that they name beside the run's without.
 use Rattle.std.proofs.Common.{◌≡◌, ℕ, zero, suc, ◌+◌, Bool, true, false, List, [], ◌∷◌, ◌++◌, Option, Some, None, map, length, refl, sym, ap, subst, ◌∙◌}
-use Rattle.std.specs.Prelude.{if◌then◌else◌, All}
+use Rattle.std.specs.Prelude.{if◌then◌else◌}
 use Rattle.std.specs.Str.{bytes_eq}
 use Rattle.std.proofs.lemmas.List.{map-append}
-use Rattle.std.proofs.lemmas.List.Elements.{All-head, All-tail}
-use Rattle.wc_value.specs.Ascending.{lookup, put, before}
+use Rattle.wc_value.specs.Ascending.{put, before}
 use Rattle.wc_value.proofs.Puts.{same_name}
-use Rattle.wc_value.specs.declared.process.ProcessState.{ProcessState}
-use Rattle.wc_value.specs.declared.process.ProcessState.TheVariants.{Excepted}
-use Rattle.wc_value.specs.declared.process.Reason.{Reason}
 use Rattle.wc_value.specs.declared.process.Reason.TheVariants.{BadInput, Depth}
 use Rattle.wc_value.specs.declared.value.Kind.{Kind}
 use Rattle.wc_value.specs.declared.value.Value.{Value}
@@ -18,7 +14,6 @@ use Rattle.wc_syntax.specs.declared.outline.CallStmt.{CallStmt}
 use Rattle.wc_syntax.specs.declared.outline.Stmt.{Stmt}
 use Rattle.wc_syntax.specs.declared.outline.Stmt.TheVariants as stmt
 use Rattle.wc_state.specs.Context.{Pairs, with_set}
-use Rattle.wc_state.specs.declared.context.CtxRef.{CtxRef}
 use Rattle.wc_state.specs.declared.context.CtxRef.TheVariants as held
 use Rattle.wc_state.specs.declared.environment.Env.{Env}
 use Rattle.wc_state.specs.declared.environment.Item.{Item}
@@ -27,7 +22,7 @@ use Rattle.wc_state.specs.declared.environment.NodeValue.{NodeValue}
 use Rattle.wc_expression.specs.declared.outcome.Outcome.{Outcome}
 use Rattle.wc_expression.specs.declared.outcome.Outcome.TheVariants.{Gives, Faults}
 use Rattle.wc_expression.specs.Outcomes.{◌>>=◌, mapped}
-use Rattle.wc_expression.specs.Val.{val, val_form, holds}
+use Rattle.wc_expression.specs.Val.{val}
 use Rattle.wc_calculation.specs.Rules.{Values, is_taken, status_of}
 use Rattle.wc_run.specs.declared.progress.Planned.{Planned}
 use Rattle.wc_run.specs.declared.progress.Stepped.{Stepped}
@@ -42,7 +37,7 @@ use Rattle.wc_machine.specs.Stepping as machine
 use Rattle.wc_framing.proofs.Unnumbered.{val_forgets}
 use Rattle.wc_outline_laws.specs.Laws.{as_planned}
 use Rattle.wc_outline_laws.specs.View.{View, IsSeenRight, item_in, context_in, values_of, env_in}
-use Rattle.wc_outline_laws.proofs.Named.{mapped_same, mapped_then, its_value, argument_is, output_is, HasNode, output_has, seen_nodes, holds_alone}
+use Rattle.wc_outline_laws.proofs.Named.{mapped_same, its_value, argument_is, output_is, HasNode, output_has, seen_nodes, holds_alone}
 
 -- ---- entries by name
 

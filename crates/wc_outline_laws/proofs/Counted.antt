@@ -1,10 +1,8 @@
 -- The calls of a step are numbered from those that were made before.
-use Rattle.std.proofs.Common.{◌≡◌, ℕ, zero, suc, ◌+◌, Bool, true, false, List, [], ◌∷◌, ◌++◌, Option, Some, None, length, refl, sym, ap, subst, ◌∙◌, arith}
+use Rattle.std.proofs.Common.{◌≡◌, ℕ, zero, suc, ◌+◌, Bool, true, false, List, [], ◌∷◌, ◌++◌, Option, Some, None, length, refl, ap, subst, ◌∙◌, arith}
 use Rattle.std.specs.Prelude.{if◌then◌else◌, nat_le, reverse, slice_get}
-use Rattle.wc_value.specs.Ascending.{put}
 use Rattle.wc_value.specs.declared.process.Reason.TheVariants.{BadInput, Depth}
 use Rattle.wc_value.specs.declared.value.Kind.{Kind}
-use Rattle.wc_value.specs.declared.value.Value.{Value}
 use Rattle.wc_syntax.specs.declared.definition.Chain.{Chain}
 use Rattle.wc_syntax.specs.declared.definition.Definition.{Definition}
 use Rattle.wc_syntax.specs.declared.outline.Arm.{Arm}
@@ -24,7 +22,7 @@ use Rattle.wc_expression.specs.Val.{val, holds}
 use Rattle.wc_calculation.specs.Rules.{Values, is_taken, status_of}
 use Rattle.wc_run.specs.Meaning.{takes_of, kinds_of}
 use Rattle.wc_run.specs.Run.{label, picked}
-use Rattle.wc_machine.specs.Advancing.{Advanced, popped, past, at_head, first_block, numbered_arms, after_arms, other_number, chosen, turned, after_step, done, does, at_innermost, advance}
+use Rattle.wc_machine.specs.Advancing.{popped, past, at_head, first_block, numbered_arms, after_arms, other_number, chosen, turned, after_step, done, does, at_innermost, advance}
 use Rattle.wc_machine.specs.Outlines.{Blocks, blocks, block_of}
 use Rattle.wc_machine.specs.Stepping.{Argument, arguments, values_in, Noted, Stepped, stops, makes, or_stops, exits, with_plain, with_output, with_call, output, planned, collected, statements, Call}
 use Rattle.wc_outline_laws.specs.Laws.{AreNumbered, IsNumbered, AdvancesNumberCalls}

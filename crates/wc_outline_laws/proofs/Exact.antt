@@ -1,13 +1,12 @@
 -- The run from a checkpoint ends as the run that remains after one advance.
-use Rattle.std.proofs.Common.{inl, inr, ◌≡◌, ℕ, zero, suc, ◌+◌, ◌-◌, ◌≤◌, ◌<◌, Bool, true, false, List, [], ◌∷◌, ◌++◌, Option, Some, None, map, length, refl, sym, ap, subst, ◌∙◌, arith}
-use Rattle.std.specs.Prelude.{if◌then◌else◌, nat_le, drop, take, reverse, slice_get}
+use Rattle.std.proofs.Common.{◌≡◌, ℕ, zero, suc, ◌+◌, ◌-◌, Bool, true, false, List, [], ◌∷◌, ◌++◌, Option, Some, None, map, refl, sym, ap, subst, ◌∙◌, arith}
+use Rattle.std.specs.Prelude.{nat_le, take, reverse, slice_get}
 use Rattle.std.proofs.lemmas.Bool.{le-leb, lt-leb}
-use Rattle.wc_value.specs.declared.process.ProcessState.TheVariants.{Finished, Excepted}
+use Rattle.wc_value.specs.declared.process.ProcessState.TheVariants.{Finished}
 use Rattle.wc_value.specs.declared.value.Kind.{Kind}
 use Rattle.wc_syntax.specs.declared.definition.Chain.{Chain}
 use Rattle.wc_syntax.specs.declared.definition.Definition.{Definition}
 use Rattle.wc_syntax.specs.declared.definition.Port.{Port}
-use Rattle.wc_syntax.specs.declared.expression.Expr.{Expr}
 use Rattle.wc_syntax.specs.declared.outline.Arm.{Arm}
 use Rattle.wc_syntax.specs.declared.outline.Block.{Block}
 use Rattle.wc_syntax.specs.declared.outline.Instr.{Instr, out-Instr}
@@ -22,7 +21,7 @@ use Rattle.wc_expression.specs.Val.{holds}
 use Rattle.wc_calculation.specs.Rules.{Values}
 use Rattle.wc_run.specs.declared.progress.Answer.{Answer}
 use Rattle.wc_run.specs.declared.progress.Flow.{Flow}
-use Rattle.wc_run.specs.declared.progress.Flow.TheVariants.{Goes, Ends}
+use Rattle.wc_run.specs.declared.progress.Flow.TheVariants.{Ends}
 use Rattle.wc_run.specs.declared.progress.Progress.{Progress}
 use Rattle.wc_run.specs.declared.progress.Stepped.{Stepped}
 use Rattle.wc_run.specs.Laws.{FrugalCall, arm_list, else_list}
@@ -34,8 +33,8 @@ use Rattle.wc_run.proofs.Clauses.{run_opened, branch_is, turn_is}
 use Rattle.wc_run.proofs.Leaves.{around_frugal}
 use Rattle.wc_run.specs.Statements as plain
 use Rattle.wc_world.specs.Trees.{NamedValues}
-use Rattle.wc_machine.specs.Advancing.{Advanced, block_count, goes, loops, submits, ends, popped, past, at_head, first_block, numbered_arms, after_arms, other_number, entered, at_frames, chosen, turned, after_step, done, does, at_innermost, advance}
-use Rattle.wc_machine.specs.Outlines.{Blocks, blocks, block_of, blocks_in, left_in, left}
+use Rattle.wc_machine.specs.Advancing.{Advanced, block_count, goes, popped, past, at_head, first_block, numbered_arms, after_arms, other_number, entered, at_frames, chosen, turned, after_step, done, does, at_innermost, advance}
+use Rattle.wc_machine.specs.Outlines.{Blocks, blocks, block_of, blocks_in, left_in}
 use Rattle.wc_machine.specs.Resting.{env_alone}
 use Rattle.wc_machine.specs.Stepping as machine
 use Rattle.wc_machine.specs.Stepping.{stops, makes}

@@ -1,9 +1,8 @@
 -- What frames leave, and what stands where a block is entered.
-use Rattle.std.proofs.Common.{inl, inr, ◌≡◌, ℕ, zero, suc, ◌+◌, ◌≤◌, Bool, true, false, List, [], ◌∷◌, ◌++◌, Option, Some, None, map, length, refl, sym, ap, subst, ◌∙◌, arith}
-use Rattle.std.specs.Prelude.{if◌then◌else◌, nat_le, drop, take, reverse, slice_get}
+use Rattle.std.proofs.Common.{◌≡◌, ℕ, zero, suc, ◌+◌, ◌≤◌, Bool, true, false, List, [], ◌∷◌, ◌++◌, Option, Some, None, map, length, refl, sym, ap, subst, ◌∙◌, arith}
+use Rattle.std.specs.Prelude.{if◌then◌else◌, drop, reverse, slice_get}
 use Rattle.std.proofs.lemmas.Bool.{leb-true, le-leb}
 use Rattle.std.proofs.lemmas.List.{append_assoc, append-nil, length-append, reverse-append, reverse-reverse}
-use Rattle.wc_syntax.specs.declared.expression.Expr.{Expr}
 use Rattle.wc_syntax.specs.declared.outline.Arm.{Arm}
 use Rattle.wc_syntax.specs.declared.outline.Block.{Block}
 use Rattle.wc_syntax.specs.declared.outline.Instr.{Instr}
@@ -15,9 +14,9 @@ use Rattle.wc_expression.specs.Outcomes.{◌>>=◌, mapped}
 use Rattle.wc_expression.specs.Val.{holds}
 use Rattle.wc_run.specs.Laws.{arm_block, condition, arm_list, else_list}
 use Rattle.wc_run.specs.Run.{picked, instrs}
-use Rattle.wc_machine.specs.Advancing.{is_done, popped, past, at_head, numbered_arms, after_arms, other_number}
+use Rattle.wc_machine.specs.Advancing.{is_done, popped, numbered_arms, after_arms, other_number}
 use Rattle.wc_machine.specs.Outlines.{Blocks, blocks, block_of, left_in, left}
-use Rattle.wc_outline_laws.proofs.Numbering.{arm_blocks, other_blocks, opened_blocks, listed, blocks_are, get_behind, get_front}
+use Rattle.wc_outline_laws.proofs.Numbering.{arm_blocks, other_blocks, blocks_are, get_behind, get_front}
 
 -- ---- the innermost frame first
 

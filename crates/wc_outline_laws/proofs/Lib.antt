@@ -5,3 +5,4 @@ pub mod Frames
 pub mod Exact
 pub mod Counted
 pub mod Passed
+pub mod Ordered

@@ -1,5 +1,5 @@
 -- The nodes that expressions name, and the values that they have.
-use Rattle.std.proofs.Common.{◌≡◌, ℕ, ℤ, zero, suc, pos, negsuc, ◌<◌, Bool, true, false, List, [], ◌∷◌, Option, Some, None, map, length, refl, sym, ap, subst, ◌∙◌}
+use Rattle.std.proofs.Common.{◌≡◌, ℕ, zero, suc, pos, negsuc, Bool, true, false, List, [], ◌∷◌, Option, Some, None, refl, sym, ap, subst, ◌∙◌}
 use Rattle.std.specs.Prelude.{if◌then◌else◌, All, slice_get}
 use Rattle.std.specs.Str.{bytes_eq}
 use Rattle.std.proofs.lemmas.List.Elements.{All-head, All-tail, All-map, All-nil, All-cons}
@@ -26,7 +26,7 @@ use Rattle.wc_expression.specs.declared.outcome.Outcome.{Outcome}
 use Rattle.wc_expression.specs.declared.outcome.Outcome.TheVariants.{Gives, Faults}
 use Rattle.wc_expression.specs.Contents as contents
 use Rattle.wc_expression.specs.Contents.{Seen, bool_of}
-use Rattle.wc_expression.specs.Environment.{asked, child, child_of, children, children_of}
+use Rattle.wc_expression.specs.Environment.{child, child_of, children, children_of}
 use Rattle.wc_expression.specs.Outcomes.{◌>>=◌, mapped, found}
 use Rattle.wc_expression.specs.Val.{Meant, form, limited, val, val_form, holds}
 use Rattle.wc_calculation.specs.Rules.{fits_port, fitting}
@@ -34,7 +34,7 @@ use Rattle.wc_run.specs.Run.{picked}
 use Rattle.wc_run.specs.Statements.{names_data, datum, argument, output as run_output}
 use Rattle.wc_world.specs.Trees.{NamedValues}
 use Rattle.wc_machine.specs.Resting.{env_alone}
-use Rattle.wc_machine.specs.Stepping.{Argument, node, plain, value_of, node_in, named_node, or_wrong, or_plain, output_node, fitting_node, output}
+use Rattle.wc_machine.specs.Stepping.{node, plain, value_of, node_in, named_node, or_wrong, or_plain, output_node, fitting_node, output}
 use Rattle.wc_outline_laws.specs.Nodes.{EachNode, InItem, NodesAre, InArgument}
 use Rattle.wc_outline_laws.specs.View.{View, IsSeenRight, item_in, env_in}
 use Rattle.wc_framing.proofs.Unnumbered.{Forgets, form_forgets, expr_forgets, val_forgets}

@@ -1,7 +1,6 @@
 -- A block that is entered stands under the number that it is given.
 use Rattle.std.proofs.Common.{inl, inr, ◌≡◌, ℕ, zero, suc, ◌+◌, List, [], ◌∷◌, ◌++◌, Option, Some, None, map, refl, sym, ap, subst, ◌∙◌, arith}
 use Rattle.std.specs.Prelude.{◌⊎◌, length, take, flat_map, slice_get}
-use Rattle.std.specs.Option.{option_map}
 use Rattle.std.proofs.lemmas.List.{append_assoc, append-nil, length-append}
 use Rattle.wc_syntax.specs.declared.outline.Arm.{Arm, out-Arm, roll-Arm, fold-Arm, fold_out-Arm, roll-out-Arm}
 use Rattle.wc_syntax.specs.declared.outline.Block.{Block, roll-Block, out-Block, map-Block, fold-Block, fold_out-Block, roll-out-Block}
@@ -11,7 +10,7 @@ use Rattle.wc_run.specs.Laws.{arm_block}
 use Rattle.wc_run.specs.Run.{instrs}
 use Rattle.wc_run.proofs.Induction.{AllOf, OptionOf, Inside, every_block}
 use Rattle.wc_machine.specs.Advancing.{block_count}
-use Rattle.wc_machine.specs.Outlines.{Blocks, InstrIn, ArmIn, BlockIn, instr_in, arm_in, block_in, blocks_in, blocks, block_of}
+use Rattle.wc_machine.specs.Outlines.{Blocks, InstrIn, ArmIn, BlockIn, instr_in, arm_in, block_in, blocks_in, blocks}
 
 abbrev one : Instr → InstrIn
 one = fold-Instr InstrIn ArmIn BlockIn instr_in arm_in block_in

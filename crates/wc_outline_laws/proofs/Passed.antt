@@ -1,5 +1,5 @@
 -- What an advance keeps and passes on is what its environment and its checkpoint name.
-use Rattle.std.proofs.Common.{◌≡◌, ℕ, zero, suc, ◌+◌, Bool, true, false, List, [], ◌∷◌, ◌++◌, Option, Some, None, length, refl, subst}
+use Rattle.std.proofs.Common.{ℕ, zero, suc, ◌+◌, Bool, true, false, List, [], ◌∷◌, Option, Some, None, length}
 use Rattle.std.specs.Prelude.{if◌then◌else◌, nat_le, reverse, slice_get, All}
 use Rattle.std.specs.Str.{bytes_eq}
 use Rattle.std.proofs.lemmas.List.Elements.{All-head, All-tail, All-nil, All-cons, All-push}
@@ -28,17 +28,15 @@ use Rattle.wc_state.specs.declared.record.Checkpoint.{Checkpoint}
 use Rattle.wc_state.specs.declared.record.Frame.{Frame}
 use Rattle.wc_expression.specs.declared.outcome.Outcome.{Outcome}
 use Rattle.wc_expression.specs.declared.outcome.Outcome.TheVariants.{Gives, Faults}
-use Rattle.wc_expression.specs.Outcomes.{◌>>=◌}
 use Rattle.wc_expression.specs.Val.{val, holds}
 use Rattle.wc_calculation.specs.Rules.{Values, is_taken, status_of}
 use Rattle.wc_run.specs.Meaning.{takes_of, kinds_of}
 use Rattle.wc_run.specs.Run.{picked}
-use Rattle.wc_run.specs.Statements.{keyed, with_key}
-use Rattle.wc_run.specs.Tables.{Label}
+use Rattle.wc_run.specs.Statements.{keyed}
 use Rattle.wc_machine.specs.Advancing.{popped, past, at_head, first_block, numbered_arms, after_arms, other_number, chosen, turned, after_step, done, does, at_innermost, advance}
 use Rattle.wc_machine.specs.Outlines.{Blocks, blocks, block_of}
 use Rattle.wc_machine.specs.Stepping.{Argument, arguments, values_in, named_node, or_plain, Noted, Stepped, stops, makes, or_stops, exits, with_plain, with_output, with_call, output, planned, collected, statements, Call}
-use Rattle.wc_outline_laws.specs.Nodes.{EachNode, InItem, NodesAre, InArgument, InCall, Holds, HoldsAfter}
+use Rattle.wc_outline_laws.specs.Nodes.{InItem, NodesAre, InArgument, InCall, Holds, HoldsAfter}
 use Rattle.wc_outline_laws.proofs.Named.{HasNode, output_has, argument_has, then_has}
 
 -- ---- entries that are set

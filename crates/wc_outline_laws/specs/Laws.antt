@@ -1,7 +1,9 @@
 -- Laws of the advance of a work chain.
-use Rattle.std.specs.Prelude.{◌≡◌, ℕ, suc, ◌+◌, ◌-◌, List, [], ◌∷◌, map, Option}
+use Rattle.std.specs.Prelude.{◌≡◌, ℕ, suc, ◌+◌, ◌-◌, List, [], ◌∷◌, map, All, Option}
+use Rattle.wc_value.specs.Ascending.{Ascends}
 use Rattle.wc_syntax.specs.declared.definition.Chain.{Chain}
 use Rattle.wc_syntax.specs.declared.definition.Definition.{Definition}
+use Rattle.wc_state.specs.declared.environment.Env.{Env}
 use Rattle.wc_state.specs.declared.record.Checkpoint.{Checkpoint}
 use Rattle.wc_run.specs.declared.progress.Flow.{Flow}
 use Rattle.wc_run.specs.declared.progress.Flow.TheVariants.{Ends}
@@ -61,3 +63,13 @@ IsNumbered c (ends s outputs) = Unit {0}
 abbrev pub AdvancesNumberCalls : Type 0
 AdvancesNumberCalls = (library : List Definition) (k : Chain) (depth : ℕ) (v : View) (inputs : NamedValues) (c : Checkpoint)
     → IsNumbered c (advance library k depth (env_in v inputs c.ctx) c)
+
+-- Where the labels of the outputs ascend, those after an advance do, and so do the ports of the arguments of each call.
+abbrev pub AreOrdered : Advanced → Type 0
+AreOrdered (goes d) = Ascends d.outputs
+AreOrdered (loops d) = Ascends d.outputs
+AreOrdered (submits d calls) = Ascends d.outputs × All (λ x. Ascends x.args) calls
+AreOrdered (ends s outputs) = Ascends outputs
+
+abbrev pub AdvancesKeepOrder : Type 0
+AdvancesKeepOrder = (library : List Definition) (k : Chain) (depth : ℕ) (env : Env) (c : Checkpoint) → Ascends c.outputs → AreOrdered (advance library k depth env c)

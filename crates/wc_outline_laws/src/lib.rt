@@ -3,4 +3,4 @@
 
 mod laws;
 
-pub use laws::{advances_are_exact, advances_number_calls};
+pub use laws::{advances_are_exact, advances_keep_order, advances_number_calls};

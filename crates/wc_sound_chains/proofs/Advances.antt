@@ -1,15 +1,12 @@
 -- A chain that goes on, with a turn of a loop or without, is on track.
-use Rattle.std.proofs.Common.{inl, inr, ◌≡◌, ℕ, zero, suc, ◌+◌, ◌-◌, ◌^◌, ◌≤◌, Bool, true, false, List, [], ◌∷◌, Option, Some, None, length, refl, sym, ap, subst, ◌∙◌, arith}
-use Rattle.std.specs.Prelude.{◌==◌, ◌||◌, not, if◌then◌else◌, min, All, option_map, option_and_then}
-use Rattle.wc_value.specs.declared.value.Value.{Value}
+use Rattle.std.proofs.Common.{◌≡◌, ℕ, zero, suc, ◌+◌, ◌-◌, ◌^◌, ◌≤◌, Bool, true, false, List, [], ◌∷◌, Option, Some, None, refl, sym, ap, subst, ◌∙◌, arith}
+use Rattle.std.specs.Prelude.{◌==◌, ◌||◌, not, if◌then◌else◌, min, option_map, option_and_then}
 use Rattle.wc_value.specs.declared.process.Tree.{Tree}
 use Rattle.wc_syntax.specs.declared.definition.Chain.{Chain}
 use Rattle.wc_syntax.specs.declared.definition.Definition.{Definition}
 use Rattle.wc_state.specs.declared.environment.Env.{Env}
 use Rattle.wc_state.specs.declared.environment.Item.{Item}
-use Rattle.wc_state.specs.declared.environment.NodeValue.{NodeValue}
 use Rattle.wc_state.specs.declared.record.Checkpoint.{Checkpoint}
-use Rattle.wc_state.specs.declared.record.Part.{Part}
 use Rattle.wc_state.specs.declared.record.ProcessRecord.{ProcessRecord}
 use Rattle.wc_run.specs.declared.progress.Answer.{Answer}
 use Rattle.wc_run.specs.declared.progress.Answer.TheVariants.{Gave, TooLittle}
@@ -17,20 +14,20 @@ use Rattle.wc_run.specs.Meaning.{ended, around, within}
 use Rattle.wc_run.specs.Run.{Around}
 use Rattle.wc_run.specs.Tables.{Table, Kills}
 use Rattle.wc_framing.specs.Instead.{Calls}
-use Rattle.wc_world.specs.Records.{find_record, has_ended, library_at}
-use Rattle.wc_world.specs.Trees.{inputs_of, items_of, context_of, environment_at}
+use Rattle.wc_world.specs.Records.{find_record, has_ended}
+use Rattle.wc_world.specs.Trees.{inputs_of, items_of, context_of}
 use Rattle.wc_world.specs.World.{World}
 use Rattle.wc_machine.specs.Advancing.{Advanced, goes, loops, advance}
 use Rattle.wc_machine.specs.Resting.{levels_of, GivesTree, IsOnTrack}
-use Rattle.wc_machine.specs.Sound.{IsSound, is_awaited_in, fuel_in}
+use Rattle.wc_machine.specs.Sound.{is_awaited_in, fuel_in}
 use Rattle.wc_machine.specs.Tasks.{saturated}
-use Rattle.wc_outline_laws.specs.Laws.{remains, KeepsCalls, IsNumbered}
-use Rattle.wc_outline_laws.specs.Nodes.{NodesAre, Holds, HoldsAfter}
+use Rattle.wc_outline_laws.specs.Laws.{remains, IsNumbered}
+use Rattle.wc_outline_laws.specs.Nodes.{NodesAre, HoldsAfter}
 use Rattle.wc_outline_laws.specs.View.{context_in, env_in}
 use Rattle.wc_outline_laws.proofs.Counted.{advance_numbered}
 use Rattle.wc_outline_laws.proofs.Exact.{advances_are_exact}
 use Rattle.wc_outline_laws.proofs.Passed.{advance_holds}
-use Rattle.wc_sound_chains.specs.Laws.{IsAtTurn, after_turn, ChainsStayOnTrack, LoopsStayOnTrack}
+use Rattle.wc_sound_chains.specs.Laws.{IsAtTurn, ChainsStayOnTrack, LoopsStayOnTrack}
 use Rattle.wc_sound_chains.proofs.OneSet.{went, now_runs, found_now}
 use Rattle.wc_sound_chains.proofs.OnTrack.{GoesOn, stays_on_track}
 use Rattle.wc_sound_chains.proofs.Rests.{finishes}
@@ -50,7 +47,7 @@ module _ (w : World) (r : ProcessRecord) (k : Chain) (library : List Definition)
   context_is c' (begins a b) = ap context_of b
   context_is c' (runs x a b) = ap context_of b
 
-  env_is : env ≡ env_in (view_of w) (inputs_of w r.node) c.ctx
+  pub env_is : env ≡ env_in (view_of w) (inputs_of w r.node) c.ctx
   env_is =
       let with_items : option_map (λ (ctx : List (List ℕ × Item)). record { inputs = inputs_of w r.node; ctx = ctx }) (items_of w (context_of r.part)) ≡ Some env
       = sym (ap (option_and_then (λ (q : ProcessRecord). option_map (λ (ctx : List (List ℕ × Item)). record { inputs = inputs_of w r.node; ctx = ctx }) (items_of w (context_of q.part)))) at.found) ∙ at.environment in
@@ -72,7 +69,7 @@ module _ (w : World) (r : ProcessRecord) (k : Chain) (library : List Definition)
       ∙ ap (λ (y : Advanced). ended stop r.definition k.head.outputs (remains k (view_of w) (inputs_of w r.node) earlier a c y n))
       (ap (λ (z : Env). advance library k r.depth z c) (sym env_is) ∙ e)
 
-  numbered : (x : Advanced) → advance library k r.depth env c ≡ x → IsNumbered c x
+  pub numbered : (x : Advanced) → advance library k r.depth env c ≡ x → IsNumbered c x
   numbered x e = subst (IsNumbered c) e (advance_numbered library k r.depth env c)
 
   holds : (fuel : ℕ) (d : Checkpoint) (x : Advanced) → advance library k r.depth env c ≡ x → HoldsAfter (IsRead w.nodes) (IsThere (went w r fuel d) w) (IsData w w) x
@@ -81,7 +78,7 @@ module _ (w : World) (r : ProcessRecord) (k : Chain) (library : List Definition)
       (subst (NodesAre (IsRead w.nodes)) (sym env_is) (nodes_read w r.node c.ctx))
       (keys_there w at.sound r at.found live fuel d c stands, outputs_data w at.sound r at.found c stands))
 
-  its_record : (fuel : ℕ) (d : Checkpoint) (s : ProcessRecord) → find_record r.node (went w r fuel d).records ≡ Some s → now_runs w r fuel d ≡ s
+  pub its_record : (fuel : ℕ) (d : Checkpoint) (s : ProcessRecord) → find_record r.node (went w r fuel d).records ≡ Some s → now_runs w r fuel d ≡ s
   its_record fuel d s h = let e : Some (now_runs w r fuel d) ≡ Some s = sym (found_now w r at.found live (its_fit w at.sound r at.found) fuel d) ∙ h in cc
 
   -- ---- on without a turn of a loop

@@ -1,25 +1,20 @@
 -- A created chain means what the run from the head of its outline ends with.
-use Rattle.std.proofs.Common.{◌≡◌, ℕ, zero, suc, ◌+◌, ◌≤◌, Bool, List, [], ◌∷◌, ◌++◌, Option, Some, None, map, refl, sym, ap, subst, ◌∙◌, arith}
+use Rattle.std.proofs.Common.{◌≡◌, ℕ, zero, suc, List, [], ◌∷◌, Option, Some, None, map, refl, sym, ap, subst, ◌∙◌, arith}
 use Rattle.std.specs.Prelude.{option_map, option_and_then, slice_get}
-use Rattle.wc_value.specs.declared.process.JobResult.{JobResult}
-use Rattle.wc_value.specs.declared.process.Request.{Request}
 use Rattle.wc_value.specs.declared.process.Tree.{Tree}
 use Rattle.wc_syntax.specs.Findings.{definition_named}
 use Rattle.wc_syntax.specs.declared.definition.Chain.{Chain}
 use Rattle.wc_syntax.specs.declared.definition.Definition.{Definition}
 use Rattle.wc_syntax.specs.declared.definition.Definition.TheVariants as definition
-use Rattle.wc_syntax.specs.declared.outline.Instr.{Instr}
 use Rattle.wc_state.specs.Checkpoint.{first}
-use Rattle.wc_state.specs.declared.environment.NodeValue.{NodeValue}
 use Rattle.wc_state.specs.declared.record.ProcessRecord.{ProcessRecord}
 use Rattle.wc_calculation.specs.Rules.{Values, unnumbered}
 use Rattle.wc_run.specs.declared.progress.Answer.{Answer}
 use Rattle.wc_run.specs.declared.progress.Answer.TheVariants.{Gave}
-use Rattle.wc_run.specs.declared.progress.Progress.{Progress}
 use Rattle.wc_run.specs.Meaning as meaning
 use Rattle.wc_run.specs.Meaning.{ended, around, within, chain, by_kill, surrounding, calls_of}
-use Rattle.wc_run.specs.Run.{Around, run, instrs}
-use Rattle.wc_run.specs.Tables.{Label, Table, Kills}
+use Rattle.wc_run.specs.Run.{run, instrs}
+use Rattle.wc_run.specs.Tables.{Table, Kills}
 use Rattle.wc_run.proofs.Late.{late_gives_none}
 use Rattle.wc_world.specs.Records.{library_at}
 use Rattle.wc_world.specs.Trees.{NamedValues, values_alone, inputs_of}

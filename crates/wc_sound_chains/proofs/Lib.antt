@@ -5,3 +5,6 @@ pub mod Rests
 pub mod Beginning
 pub mod OnTrack
 pub mod Advances
+pub mod Kept
+pub mod Names
+pub mod SoundTurns

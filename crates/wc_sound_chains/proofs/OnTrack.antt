@@ -1,5 +1,5 @@
 -- A chain that goes on is on track.
-use Rattle.std.proofs.Common.{◌≡◌, ℕ, zero, suc, ◌+◌, ◌-◌, ◌<◌, Bool, true, false, List, [], ◌∷◌, ◌++◌, Option, Some, None, length, map, take, refl, sym, ap, subst, ◌∙◌, arith}
+use Rattle.std.proofs.Common.{◌≡◌, ℕ, ◌+◌, ◌-◌, ◌<◌, true, false, List, [], ◌∷◌, Option, Some, None, length, map, take, refl, sym, ap, subst, ◌∙◌, arith}
 use Rattle.std.specs.Prelude.{◌==◌, ◌&&◌, not, All, option_map}
 use Rattle.std.specs.List.{list_any}
 use Rattle.std.specs.Str.{bytes_eq}
@@ -9,18 +9,16 @@ use Rattle.wc_value.specs.declared.process.Tree.{Tree, out-Tree}
 use Rattle.wc_syntax.specs.declared.definition.Chain.{Chain}
 use Rattle.wc_syntax.specs.declared.definition.Definition.{Definition}
 use Rattle.wc_syntax.specs.declared.definition.Definition.TheVariants as definition
-use Rattle.wc_graph.specs.declared.link.Link.{Link}
 use Rattle.wc_state.specs.Checkpoint.{first}
 use Rattle.wc_state.specs.declared.record.Await.{Await}
 use Rattle.wc_state.specs.declared.record.Checkpoint.{Checkpoint}
-use Rattle.wc_state.specs.declared.record.Part.{Part}
 use Rattle.wc_state.specs.declared.record.Part.TheVariants as part
 use Rattle.wc_state.specs.declared.record.ProcessRecord.{ProcessRecord}
 use Rattle.wc_run.specs.declared.progress.Answer.{Answer}
 use Rattle.wc_run.specs.declared.progress.Answer.TheVariants.{Gave, TooLittle, Without, Astray}
 use Rattle.wc_run.specs.Laws.{MoreAnswer}
 use Rattle.wc_run.specs.Meaning as meaning
-use Rattle.wc_run.specs.Tables.{Label, Path, Table, Kills}
+use Rattle.wc_run.specs.Tables.{Label, Table, Kills}
 use Rattle.wc_run.proofs.Keeps.{meaning_more}
 use Rattle.wc_framing.specs.Instead.{Calls}
 use Rattle.wc_world.specs.Records.{find_record, library_at, has_ended, is_call_from}
@@ -38,7 +36,7 @@ use Rattle.wc_outline_laws.specs.Laws.{KeepsCalls}
 use Rattle.wc_sound_chains.proofs.Beginning.{into_meant, from_meant}
 use Rattle.wc_sound_chains.proofs.OneSet.{went, now_runs, found_now, goes_touch, may_go, kills_same}
 use Rattle.wc_sound_chains.proofs.Rests.{finishes, IsSeenAt, rest_is, rest_none}
-use Rattle.wc_sound_chains.proofs.Seen.{view_of, IsThere, IsData, items_there, values_there}
+use Rattle.wc_sound_chains.proofs.Seen.{IsThere, IsData, items_there, values_there}
 use Rattle.wc_sound_chains.proofs.Standing.{Standing, begins, runs, is_live, its_fit, awaits_none, none_awaited, outputs_data, keys_here, trees_stay}
 
 no_tree : (t : Tree) → GivesTree None t → ⊥

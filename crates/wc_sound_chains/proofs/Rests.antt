@@ -1,23 +1,18 @@
 -- What remains of a chain that runs, as a run from its checkpoint.
-use Rattle.std.proofs.Common.{◌≡◌, ℕ, zero, suc, ◌+◌, ◌-◌, Bool, List, [], ◌∷◌, Option, Some, None, map, take, refl, sym, ap, subst, ◌∙◌}
+use Rattle.std.proofs.Common.{◌≡◌, ℕ, List, [], Option, Some, None, map, ap, ◌∙◌}
 use Rattle.std.specs.Prelude.{option_map, option_and_then}
 use Rattle.wc_value.specs.declared.process.Tree.{Tree}
 use Rattle.wc_syntax.specs.declared.definition.Chain.{Chain}
 use Rattle.wc_syntax.specs.declared.definition.Definition.{Definition}
 use Rattle.wc_syntax.specs.declared.definition.Definition.TheVariants as definition
-use Rattle.wc_state.specs.declared.environment.Env.{Env}
 use Rattle.wc_state.specs.declared.environment.Item.{Item}
-use Rattle.wc_state.specs.declared.record.Await.{Await}
 use Rattle.wc_state.specs.declared.record.Checkpoint.{Checkpoint}
 use Rattle.wc_state.specs.declared.record.Part.{Part}
 use Rattle.wc_state.specs.declared.record.Part.TheVariants as part
 use Rattle.wc_state.specs.declared.record.ProcessRecord.{ProcessRecord}
-use Rattle.wc_calculation.specs.Rules.{Values}
 use Rattle.wc_run.specs.declared.progress.Answer.{Answer}
-use Rattle.wc_run.specs.declared.progress.Planned.{Planned}
 use Rattle.wc_run.specs.declared.progress.Progress.{Progress}
 use Rattle.wc_run.specs.Meaning.{ended, around, within}
-use Rattle.wc_run.specs.Run.{Around}
 use Rattle.wc_run.specs.Tables.{Label, Table, Kills}
 use Rattle.wc_world.specs.Records.{find_record, library_at}
 use Rattle.wc_world.specs.Trees.{inputs_of, items_of, context_of, environment_at}
@@ -26,7 +21,7 @@ use Rattle.wc_machine.specs.Recorded.{its_definition}
 use Rattle.wc_machine.specs.Resting.{levels_of, env_alone, set_values, as_call, progress_with, progress_of, bound_trees, awaited, gone_on, chain_rest, part_rest, rest}
 use Rattle.wc_framing.specs.Instead.{Calls}
 use Rattle.wc_outline_laws.specs.Laws.{run_on}
-use Rattle.wc_outline_laws.specs.View.{View, context_in, values_of, env_in, progress_in}
+use Rattle.wc_outline_laws.specs.View.{context_in, values_of, env_in, progress_in}
 use Rattle.wc_sound_chains.proofs.Seen.{view_of}
 
 -- how a chain ends that goes on from a checkpoint, where this is seen and these calls were made

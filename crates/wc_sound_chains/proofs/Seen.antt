@@ -1,9 +1,7 @@
 -- What a chain sees of a world.
-use Rattle.std.proofs.Common.{◌≡◌, ℕ, zero, suc, ◌+◌, Bool, true, false, List, [], ◌∷◌, Option, Some, None, map, refl, sym, ap, subst, ◌∙◌}
-use Rattle.std.specs.Prelude.{if◌then◌else◌, ◌&&◌, not, All, option_map, option_and_then}
-use Rattle.std.specs.Str.{bytes_eq}
+use Rattle.std.proofs.Common.{◌≡◌, ℕ, Bool, true, false, List, [], ◌∷◌, Option, Some, None, map, refl, sym, ap, ◌∙◌}
+use Rattle.std.specs.Prelude.{if◌then◌else◌, All, option_map, option_and_then}
 use Rattle.std.proofs.lemmas.List.Elements.{All-head, All-tail, All-nil, All-cons, All-map}
-use Rattle.wc_value.specs.Ascending.{put, before}
 use Rattle.wc_value.specs.declared.process.ProcessState.TheVariants as state
 use Rattle.wc_value.specs.declared.value.Value.{Value}
 use Rattle.wc_value.specs.declared.value.Value.TheVariants as value
@@ -15,15 +13,12 @@ use Rattle.wc_state.specs.Context.{Pairs}
 use Rattle.wc_state.specs.declared.context.CtxRef.{CtxRef}
 use Rattle.wc_state.specs.declared.context.CtxRef.TheVariants as held
 use Rattle.wc_state.specs.declared.environment.Child.{Child}
-use Rattle.wc_state.specs.declared.environment.Env.{Env}
 use Rattle.wc_state.specs.declared.environment.Item.{Item}
-use Rattle.wc_state.specs.declared.environment.Item.TheVariants as item
 use Rattle.wc_state.specs.declared.environment.NodeValue.{NodeValue}
 use Rattle.wc_state.specs.declared.record.ProcessRecord.{ProcessRecord}
-use Rattle.wc_calculation.specs.Rules.{Values}
 use Rattle.wc_run.specs.Tables.{Label}
 use Rattle.wc_world.specs.Fits.{is_data_node}
-use Rattle.wc_world.specs.Records.{find_record, is_input_of, is_output_of, has_ended}
+use Rattle.wc_world.specs.Records.{find_record, is_input_of, is_output_of}
 use Rattle.wc_world.specs.Trees.{NamedValues, data_of, value_of, with_value, inputs_after, inputs_of, outputs_after, outputs_of, child_at, and_child, children_at, item_of, and_item, items_of}
 use Rattle.wc_world.specs.World.{World}
 use Rattle.wc_machine.specs.Resting.{and_value, set_values}

@@ -1,16 +1,12 @@
 -- Where a chain stands that is created or runs, and what stays of what it called.
-use Rattle.std.proofs.Common.{inl, inr, ◌≡◌, ℕ, zero, suc, ◌+◌, ◌-◌, ◌<◌, Bool, true, false, List, [], ◌∷◌, Option, Some, None, length, get_or, take, refl, sym, ap, subst, ◌∙◌, arith}
-use Rattle.std.specs.Prelude.{◌≢◌, ◌⊎◌, ◌==◌, if◌then◌else◌, ◌&&◌, not, All, filter, option_map, option_and_then}
+use Rattle.std.proofs.Common.{inl, inr, ◌≡◌, ℕ, Bool, true, false, List, [], ◌∷◌, Option, Some, None, get_or, refl, sym, ap, subst, ◌∙◌}
+use Rattle.std.specs.Prelude.{◌≢◌, ◌==◌, ◌&&◌, not, All, option_map, option_and_then}
 use Rattle.std.specs.List.{list_any, list_all}
-use Rattle.std.proofs.lemmas.Bool.{cases_eq}
-use Rattle.std.proofs.lemmas.List.Elements.{All-nil, All-cons, All-head, All-tail, All-take, All-filter, All-weaker}
+use Rattle.std.proofs.lemmas.List.Elements.{All-nil, All-cons, All-weaker}
 use Rattle.wc_value.specs.declared.process.ProcessState.{ProcessState}
 use Rattle.wc_value.specs.declared.process.ProcessState.TheVariants as state
-use Rattle.wc_value.specs.declared.process.Tree.{Tree}
 use Rattle.wc_graph.specs.declared.link.Link.{Link}
-use Rattle.wc_graph.specs.declared.node.NodeKind.{NodeKind}
 use Rattle.wc_state.specs.Checkpoint.{first}
-use Rattle.wc_state.specs.Context.{Pairs}
 use Rattle.wc_state.specs.declared.context.CtxRef.{CtxRef}
 use Rattle.wc_state.specs.declared.context.CtxRef.TheVariants as held
 use Rattle.wc_state.specs.declared.environment.Child.{Child}
@@ -31,9 +27,8 @@ use Rattle.wc_world.specs.World.{World}
 use Rattle.wc_world.proofs.FoundRecords.{found_holds}
 use Rattle.wc_world.proofs.ReachedLists.{found_node}
 use Rattle.wc_graph.specs.Rules.{node_of}
-use Rattle.wc_machine.specs.Paths.{call_links}
 use Rattle.wc_machine.specs.Recorded.{its_definition}
-use Rattle.wc_machine.specs.Resting.{is_awaited, bound_calls}
+use Rattle.wc_machine.specs.Resting.{is_awaited}
 use Rattle.wc_machine.specs.Sound.{IsSound, IsFitting, CallsAreKept, IsEndedCall, HoldsEnded, NamesKnown}
 use Rattle.wc_machine.specs.Turning.{StandsAt}
 use Rattle.wc_machine.proofs.EndedTrees.{call_is_called}
@@ -79,7 +74,7 @@ runs_awaits kind.Chain c h = by c.awaiting h
 no_tree : (u : World) (pid : ℕ) → find_record pid u.records ≡ None → recorded_tree u pid ≡ None
 no_tree u pid h = ap (option_and_then (λ (x : ProcessRecord). option_map (tree_with x (values_alone (outputs_of u pid))) (branches (tree_within 15 u) pid u.links))) h
 
-both_true : (a b : Bool) → a && b ≡ true → (a ≡ true) × (b ≡ true)
+pub both_true : (a b : Bool) → a && b ≡ true → (a ≡ true) × (b ≡ true)
 both_true true b h = (refl, h)
 both_true false b h = absurd (cc)
 
@@ -99,7 +94,7 @@ module _ (w : World) (sound : IsSound w) (r : ProcessRecord) (found : find_recor
   none_awaited _ (runs c a b) q = ap (λ (p : Part). is_awaited p q) b ∙ ap (λ (xs : List Await). list_any (λ x. x.pid == q) xs) (awaits_none c (runs c a b))
 
   -- what it called has ended
-  called_ended : (c : Checkpoint) → Standing r c → (q : ProcessRecord) → find_record q.node w.records ≡ Some q → has_called w.links r.node q.node ≡ true → has_ended q.state ≡ true
+  pub called_ended : (c : Checkpoint) → Standing r c → (q : ProcessRecord) → find_record q.node w.records ≡ Some q → has_called w.links r.node q.node ≡ true → has_ended q.state ≡ true
   called_ended c at q there called = elim (found_holds (CallsAreKept w) r.node w.records r sound.calls found q there called) [
     | inl h ↦ h
     | inr h ↦ let none : is_awaited r.part q.node ≡ false = none_awaited c at q.node in absurd (cc (none, h.1))
@@ -107,7 +102,7 @@ module _ (w : World) (sound : IsSound w) (r : ProcessRecord) (found : find_recor
 
   -- ---- what its keys hold, and the nodes of its outputs
 
-  holds_found : (c : Checkpoint) → Standing r c → All (λ e. HoldsEnded w r e.1) c.ctx
+  pub holds_found : (c : Checkpoint) → Standing r c → All (λ e. HoldsEnded w r e.1) c.ctx
   holds_found _ (begins a b) = All-nil (λ (e : List ℕ × CtxRef). HoldsEnded w r e.1)
   holds_found _ (runs c a b) = (subst (NamesKnown w r) b (found_holds (λ x. NamesKnown w x x.part) r.node w.records r sound.names found)).0
 
@@ -144,7 +139,7 @@ module _ (w : World) (sound : IsSound w) (r : ProcessRecord) (found : find_recor
     abbrev v : World
     v = went w r fuel d
 
-    apart : (q : ProcessRecord) → find_record q.node w.records ≡ Some q → has_ended q.state ≡ true → r.node ≢ q.node
+    pub apart : (q : ProcessRecord) → find_record q.node w.records ≡ Some q → has_ended q.state ≡ true → r.node ≢ q.node
     apart q there over e =
         let same : Some r ≡ Some q = sym found ∙ ap (λ (n : ℕ). find_record n w.records) e ∙ there in
         let one : r ≡ q = cc in

@@ -3,4 +3,4 @@
 
 mod laws;
 
-pub use laws::{chains_stay_on_track, loops_stay_on_track};
+pub use laws::{chains_stay_on_track, chains_stay_sound, loops_stay_on_track};

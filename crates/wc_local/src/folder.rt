@@ -4,6 +4,7 @@ use crate::script::script_of;
 use std::alloc::{AllocError, Global};
 use std::fs::{File, OpenOptions};
 use std::io::{Read, Write};
+use std::path::Path;
 use std::rt::Files;
 use std::string::String;
 use std::{fs, io};
@@ -14,7 +15,10 @@ use wc_value::{Bytes, JobResult, Keyed, Request, Text, encode_request};
 const REQUEST: &str = "_wc_request";
 
 /// The script that runs its program.
-pub const SCRIPT: &str = "_wc_run.sh";
+const SCRIPT: &str = "_wc_run.sh";
+
+/// The folder that the first run of the script makes.
+const LOCK: &str = "_wc_lock";
 
 /// The exit code of the program, once it has ended.
 const STATUS: &str = "_wc_status";
@@ -104,9 +108,10 @@ fn is_plain(name: &Text) -> bool {
     !name.is_empty() && !name.starts_with('.') && !name.starts_with("_wc") && !name.contains('/')
 }
 
-/// Whether `sh` can run the program with its arguments: no byte of them is 0.
+/// Whether `sh` can run the program with its arguments: no byte of them is 0, and the program is no option of `exec`.
 fn is_runnable(request: &Request) -> bool {
-    if request.program.bytes().contains(&0) {
+    let program = request.program.as_str();
+    if program.is_empty() || program.starts_with('-') || program.as_bytes().contains(&0) {
         return false;
     }
     for word in request.args.as_slice() {
@@ -115,6 +120,43 @@ fn is_runnable(request: &Request) -> bool {
         }
     }
     true
+}
+
+/// Whether each file that a request brings or asks for is one of the folder itself.
+fn names_are_plain(request: &Request) -> bool {
+    for (name, _) in request.files.as_slice() {
+        if !is_plain(name) {
+            return false;
+        }
+    }
+    for name in request.fetch.as_slice() {
+        if !is_plain(name) {
+            return false;
+        }
+    }
+    true
+}
+
+/// The folder that a path lies in.
+fn folder_of(path: &str) -> &str {
+    match Path::new(path).parent() {
+        Some(parent) if !parent.as_str().is_empty() => parent.as_str(),
+        _ => ".",
+    }
+}
+
+/// Brings the names in a folder to the disk.
+pub fn sync_names<R: Files<File = File>>(rt: &R, folder: &str) -> Result<(), TaskError> {
+    let names = done(fs::open(rt, folder))?;
+    done(names.sync_all())
+}
+
+/// Brings the names in the folder of a job to the disk, its own name, and that of the folder of jobs.
+pub fn sync_placed<R: Files<File = File>>(rt: &R, folder: &str) -> Result<(), TaskError> {
+    let jobs = folder_of(folder);
+    sync_names(rt, folder)?;
+    sync_names(rt, jobs)?;
+    sync_names(rt, folder_of(jobs))
 }
 
 /// Whether the folder holds this request. It fails where it holds another.
@@ -154,34 +196,38 @@ fn write_files<R: Files<File = File>>(
     request: &Request,
 ) -> Result<(), TaskError> {
     for (name, content) in request.files.as_slice() {
-        if !is_plain(name) {
-            return Err(TaskError::Failed);
-        }
         write_file(rt, alloc, folder, name.as_str(), content.bytes())?;
     }
     let script = script_of(alloc, request)?;
     write_file(rt, alloc, folder, SCRIPT, script.bytes())
 }
 
-/// Makes the folder of a request, whose own file comes last and by rename, so that a folder with that file is whole.
+/// Makes the folder of a request. The request's own file comes by rename, when all others and their names are on the
+/// disk, so that a folder with that file is whole.
 pub fn place<R: Files<File = File>>(
     rt: &R,
     alloc: Global,
     folder: &str,
     request: &Request,
 ) -> Result<(), TaskError> {
-    if !is_runnable(request) {
+    if !is_runnable(request) || !names_are_plain(request) {
         return Err(TaskError::Failed);
     }
     done(fs::create_dir_all(rt, folder))?;
     write_files(rt, alloc, folder, request)?;
     let spelled = encode_request(alloc, request)?;
     write_file(rt, alloc, folder, "_wc_request.tmp", spelled.bytes())?;
+    sync_names(rt, folder)?;
     let part = path_in(alloc, folder, "_wc_request.tmp")?;
     let whole = path_in(alloc, folder, REQUEST)?;
     done(fs::rename(rt, part.as_str(), whole.as_str()))?;
-    let names = done(fs::open(rt, folder))?;
-    done(names.sync_all())
+    sync_placed(rt, folder)
+}
+
+/// Whether a run of the script has begun that no one has taken back.
+pub fn is_locked<R: Files>(rt: &R, alloc: Global, folder: &str) -> Result<bool, TaskError> {
+    let path = path_in(alloc, folder, LOCK)?;
+    done(fs::exists(rt, path.as_str()))
 }
 
 /// Whether the program has ended.

@@ -3,7 +3,9 @@ ghost use Rattle.std.specs.Prelude.{◌≡◌, None, false};
 ghost use Rattle.wc_io.specs.Counts.{RisesByOne};
 ghost use Rattle.wc_transport.specs.Outside.{CountsTaskFault};
 
-use crate::folder::{done, has_ended, holds, must_hold, place, result_of};
+use crate::folder::{
+    done, has_ended, holds, is_locked, must_hold, place, result_of, sync_names, sync_placed,
+};
 use std::alloc::{AllocError, Global};
 use std::fs::File;
 use std::io;
@@ -12,6 +14,10 @@ use std::rt::Files;
 use std::string::String;
 use wc_transport::{Progress, TaskError, Transport};
 use wc_value::{JobResult, Request, Text};
+
+/// Starts the script in the background, in a session of its own where the command `setsid` is there.
+const START: &str = "\
+if command -v setsid >/dev/null; then setsid sh ./_wc_run.sh & else sh ./_wc_run.sh & fi";
 
 /// Programs of this machine, each in a folder below this one that is named by its number. A program is run by a script,
 /// which makes a folder first and ends where that is there, so that the program is started once.
@@ -59,11 +65,11 @@ impl<R: Files<File = File> + Processes + Drop> LocalTransport<R> {
         }
     }
 
-    /// Places a request, where the folder doesn't hold it yet.
+    /// Places a request, where the folder doesn't hold it yet. The names of one that is there may not be on the disk yet.
     fn uploaded(&self, dir: u32, request: &Request) -> Result<(), TaskError> {
         let folder = self.folder_of(dir)?;
         if holds(&self.rt, self.alloc, folder.as_str(), request)? {
-            return Ok(());
+            return sync_placed(&self.rt, folder.as_str());
         }
         place(&self.rt, self.alloc, folder.as_str(), request)
     }
@@ -71,7 +77,7 @@ impl<R: Files<File = File> + Processes + Drop> LocalTransport<R> {
     /// Starts the script, and doesn't wait for it: the `sh` that is waited for starts another in the background.
     fn started(&self, folder: &str) -> Result<io::Result<bool>, AllocError> {
         let mut command = Command::new(self.alloc, "sh")?;
-        command.arg("-c")?.arg("sh ./_wc_run.sh &")?;
+        command.arg("-c")?.arg(START)?;
         command.current_dir(folder)?;
         command.stdin(Stdio::null());
         command.stdout(Stdio::null());
@@ -82,22 +88,32 @@ impl<R: Files<File = File> + Processes + Drop> LocalTransport<R> {
         }
     }
 
-    /// Starts the program of a job.
-    fn submitted(&self, dir: u32, request: &Request) -> Result<(), TaskError> {
-        let folder = self.folder_of(dir)?;
-        must_hold(&self.rt, self.alloc, folder.as_str(), request)?;
-        if done(self.started(folder.as_str())?)? {
+    /// Starts the script, or fails.
+    fn start(&self, folder: &str) -> Result<(), TaskError> {
+        if done(self.started(folder)?)? {
             return Ok(());
         }
         Err(TaskError::Failed)
     }
 
-    /// Whether the program of a job has ended.
+    /// Starts the program of a job.
+    fn submitted(&self, dir: u32, request: &Request) -> Result<(), TaskError> {
+        let folder = self.folder_of(dir)?;
+        must_hold(&self.rt, self.alloc, folder.as_str(), request)?;
+        self.start(folder.as_str())
+    }
+
+    /// Whether the program of a job has ended. Where no run has begun, or its user took that back, the script is started
+    /// again.
     fn progress(&self, dir: u32, request: &Request) -> Result<Progress, TaskError> {
         let folder = self.folder_of(dir)?;
         must_hold(&self.rt, self.alloc, folder.as_str(), request)?;
         if has_ended(&self.rt, self.alloc, folder.as_str())? {
+            sync_names(&self.rt, folder.as_str())?;
             return Ok(Progress::Done);
+        }
+        if !is_locked(&self.rt, self.alloc, folder.as_str())? {
+            self.start(folder.as_str())?;
         }
         Ok(Progress::Running)
     }

@@ -4,20 +4,26 @@ use crate::quoting::quoted;
 use std::alloc::{AllocError, Global};
 use wc_value::{Bytes, Request};
 
-/// What comes before the program: the folder of the lock, which the first run alone can make, and a slot.
+/// What comes before the program: a slot, and the folder of the lock, which the first run alone can make.
 const BEFORE: &str =
     r#"# Runs the program of this job, once: a second run ends at the folder _wc_lock.
 # What the program writes is in stdout.txt and stderr.txt, and its exit code then in _wc_status.
-case $0 in */*) cd "${0%/*}" || exit 1 ;; esac
-mkdir _wc_lock 2>/dev/null || exit 0
 trap '' HUP
+case $0 in */*) cd "${0%/*}" || exit 1 ;; esac
+# While one run waits or goes on, another ends here. The system frees this lock when this ends.
+if command -v flock >/dev/null && true >>_wc_run.sh; then
+  exec 7>>_wc_run.sh
+  flock -n 7
+  [ "$?" -eq 1 ] && exit 0
+fi
+[ -e _wc_status ] && exit 0
 # Waits for a slot, one of as many files in ../slots as jobs may run beside each other: MAROONCLAMP_JOBS, or else one a
 # processor; 0 is no limit, and without the command flock there is none. The system frees the slot when this ends.
 _wc_slot() {
   _wc_slots=${MAROONCLAMP_JOBS-}
   case $_wc_slots in
     '' | *[!0-9]* | ??????????*)
-      _wc_slots=$(getconf _NPROCESSORS_ONLN 2>/dev/null || nproc 2>/dev/null) || _wc_slots=0 ;;
+      _wc_slots=$(nproc 2>/dev/null || getconf _NPROCESSORS_ONLN 2>/dev/null) || _wc_slots=0 ;;
   esac
   [ "$_wc_slots" -gt 0 ] && command -v flock >/dev/null && mkdir -p ../slots || return
   # One waiting script at a time looks for a free slot.
@@ -25,7 +31,7 @@ _wc_slot() {
   while :; do
     _wc_at=1
     while [ "$_wc_at" -le "$_wc_slots" ]; do
-      true >>"../slots/$_wc_at" && exec 9>>"../slots/$_wc_at" || return
+      true >>"../slots/$_wc_at" && exec 9>>"../slots/$_wc_at" || { exec 8>&-; return; }
       flock -n 9 && exec 8>&- && return
       _wc_at=$((_wc_at + 1))
     done
@@ -33,11 +39,22 @@ _wc_slot() {
   done
 }
 _wc_slot
+mkdir _wc_lock || exit 0
+# Where the output can't be written, nothing is run, and a later run may.
+true >stdout.txt && true >stderr.txt || { rmdir _wc_lock; exit 1; }
 (exec"#;
 
-/// What comes behind the program.
-const BEHIND: &str = r#") </dev/null >stdout.txt 2>stderr.txt 8>&- 9>&-
-echo "$?" >_wc_status.tmp && mv _wc_status.tmp _wc_status
+/// What comes behind the program: its files are brought to the disk, and then its exit code.
+const BEHIND: &str = r#") </dev/null >stdout.txt 2>stderr.txt 7>&- 8>&- 9>&-
+_wc_code=$?
+exec 9>&-
+# Brings the files to the disk, where the command sync takes files, and tries for the exit code while there is no room.
+case $(sync --help 2>&1) in *FILE*) _wc_sync=sync ;; *) _wc_sync=true ;; esac
+find . ! -name . -prune -type f -exec "$_wc_sync" {} +
+until echo "$_wc_code" >_wc_status.tmp && { "$_wc_sync" _wc_status.tmp; mv _wc_status.tmp _wc_status; }; do
+  [ -e _wc_request ] || exit 1
+  sleep 5
+done
 "#;
 
 /// Puts a word, in quotes, behind a blank.

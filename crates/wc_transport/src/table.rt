@@ -241,6 +241,7 @@ impl Transport for TableTransport {
         ensures held { OnOk result (placed_at self.old dir ≡ Some request.now) }
         ensures done { IfOk result (λ answer. answer ≡ progress.Done ↔ IsFinished self.old dir) }
         ensures placed { self.new.placed ≡ self.old.placed }
+        ensures over { IfOk result (λ answer. answer ≡ progress.Done → stage_of self.new dir ≡ stage_of self.old dir) }
         ensures counted { IfOk result (λ answer. answer ≡ progress.Running → stage_of self.new dir ≡ record (stage_of self.old dir) { updates = counted (stage_of self.old dir).updates }) }
         ensures others { (d : ℕ) → d ≢ dir → stage_of self.new d ≡ stage_of self.old d }
         ensures kept { OnErr result ((d : ℕ) → stage_of self.new d ≡ stage_of self.old d) }

@@ -1,4 +1,6 @@
 //! The script of a job.
+ghost use Rattle.std.specs.Prelude.{◌∷◌, OnOk, IfOk};
+ghost use Rattle.wc_local.specs.Script.{AddsWord, HasWords};
 
 use crate::quoting::quoted;
 use std::alloc::{AllocError, Global};
@@ -58,13 +60,19 @@ done
 "#;
 
 /// Puts a word, in quotes, behind a blank.
-fn put_word(alloc: Global, script: &mut Bytes, word: &[u8]) -> Result<(), AllocError> {
+#[tactic(auto, using(crate::proofs::Words::add_word))]
+fn put_word(alloc: Global, script: &mut Bytes, word: &[u8]) -> Result<(), AllocError>
+    ensures { OnOk result (AddsWord word.now script.old script.new) }
+{
     script.push(b' ')?;
     script.extend(quoted(alloc, word)?.bytes())
 }
 
 /// The script that runs the program of a request.
-pub fn script_of(alloc: Global, request: &Request) -> Result<Bytes, AllocError> {
+#[tactic(auto, using(crate::proofs::Words::first_word))]
+pub fn script_of(alloc: Global, request: &Request) -> Result<Bytes, AllocError>
+    ensures { IfOk result (λ script. HasWords BEFORE.now (request.now.program ∷ request.now.args) BEHIND.now script) }
+{
     let mut script = Bytes::new(alloc);
     script.extend(BEFORE.as_bytes())?;
     put_word(alloc, &mut script, request.program.bytes())?;

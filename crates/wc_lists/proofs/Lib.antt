@@ -1,0 +1,4 @@
+pub mod Sources
+pub mod Turns
+pub mod KilledOnce
+pub mod NoChanges

@@ -1,0 +1,13 @@
+pub mod Worlds
+pub mod Records
+pub mod Links
+pub mod Inputs
+pub mod Touching
+pub mod Children
+pub mod Required
+pub mod Taken
+pub mod Accepted
+pub mod Submissions
+pub mod Acceptance
+pub mod Fuel
+pub mod Turns

@@ -6,12 +6,16 @@ use Rattle.wc_syntax.specs.declared.expression.Form.{fold-Form, fold-roll-Form}
 use Rattle.wc_syntax.specs.declared.expression.Form.TheVariants as form
 use Rattle.wc_syntax.specs.declared.expression.Form.TheOpen.{Form-F}
 use Rattle.wc_syntax.specs.declared.expression.Number.{Number}
+use Rattle.wc_syntax.specs.declared.expression.Name.{Name}
+use Rattle.wc_syntax.specs.declared.expression.ChildPart.{ChildPart}
+use Rattle.wc_syntax.specs.declared.expression.BinaryOp.{BinaryOp}
+use Rattle.wc_syntax.specs.declared.expression.TwoOf.{TwoOf}
 use Rattle.wc_syntax.specs.declared.outline.Arm.{Arm, fold-roll-Arm}
 use Rattle.wc_syntax.specs.declared.outline.Block.{Block, fold-roll-Block}
 use Rattle.wc_syntax.specs.declared.outline.Instr.{Instr, fold-roll-Instr}
 use Rattle.wc_syntax.specs.declared.outline.Instr.TheVariants as instr
 use Rattle.wc_syntax.specs.declared.outline.Instr.TheOpen.{Instr-F}
-use Rattle.wc_syntax.specs.Mentions.{Mention, mentions, form_mentions, its_mentions, Piece, Begins, Tests, Returns, pieces, instr_pieces, arm_pieces, block_pieces}
+use Rattle.wc_syntax.specs.Mentions.{Mention, Context, part_mentions, mentions, form_mentions, its_mentions, Piece, Begins, Tests, Returns, pieces, instr_pieces, arm_pieces, block_pieces}
 use Rattle.wc_check.specs.Flat.{pieces_of_instr, pieces_of_arm}
 
 joined_map : {A B : Type 0} (f : A → List B) (xs : List A) → flat_map (λ ys. ys) (map f xs) ≡ flat_map f xs
@@ -24,6 +28,30 @@ mentions_list e es h =
     ∙ ap (fold-Form (List Mention) (List Mention) form_mentions its_mentions) (h ∙ sym (form.rolls-List es))
     ∙ fold-roll-Form (List Mention) (List Mention) form_mentions its_mentions (Form-F.List es)
     ∙ joined_map mentions es
+
+pub mentions_binary : (e : Expr) (o : BinaryOp) (a b : Expr) → e.form ≡ form.Binary o a b → mentions e ≡ mentions a ++ mentions b
+mentions_binary e o a b h =
+    fold-roll-Expr (List Mention) (List Mention) form_mentions its_mentions (record { at = e.at; form = e.form })
+    ∙ ap (fold-Form (List Mention) (List Mention) form_mentions its_mentions) (h ∙ sym (form.rolls-Binary o a b))
+    ∙ fold-roll-Form (List Mention) (List Mention) form_mentions its_mentions (Form-F.Binary o a b)
+
+pub mentions_two : (e : Expr) (o : TwoOf) (a b : Expr) → e.form ≡ form.Two o a b → mentions e ≡ mentions a ++ mentions b
+mentions_two e o a b h =
+    fold-roll-Expr (List Mention) (List Mention) form_mentions its_mentions (record { at = e.at; form = e.form })
+    ∙ ap (fold-Form (List Mention) (List Mention) form_mentions its_mentions) (h ∙ sym (form.rolls-Two o a b))
+    ∙ fold-roll-Form (List Mention) (List Mention) form_mentions its_mentions (Form-F.Two o a b)
+
+pub mentions_child : (e : Expr) (at : ℕ) (n : Name) (p : ChildPart) → e.form ≡ form.Child at n None p → mentions e ≡ (Context at n ∷ []) ++ part_mentions p
+mentions_child e at n p h =
+    fold-roll-Expr (List Mention) (List Mention) form_mentions its_mentions (record { at = e.at; form = e.form })
+    ∙ ap (fold-Form (List Mention) (List Mention) form_mentions its_mentions) (h ∙ sym (form.rolls-Child at n None p))
+    ∙ fold-roll-Form (List Mention) (List Mention) form_mentions its_mentions (Form-F.Child at n None p)
+
+pub mentions_at : (e : Expr) (at : ℕ) (n : Name) (i : Expr) (p : ChildPart) → e.form ≡ form.Child at n (Some i) p → mentions e ≡ (Context at n ∷ mentions i) ++ part_mentions p
+mentions_at e at n i p h =
+    fold-roll-Expr (List Mention) (List Mention) form_mentions its_mentions (record { at = e.at; form = e.form })
+    ∙ ap (fold-Form (List Mention) (List Mention) form_mentions its_mentions) (h ∙ sym (form.rolls-Child at n (Some i) p))
+    ∙ fold-roll-Form (List Mention) (List Mention) form_mentions its_mentions (Form-F.Child at n (Some i) p)
 
 pub pieces_block : (b : Block) → pieces b ≡ flat_map pieces_of_instr b.instrs
 pieces_block b = fold-roll-Block (List Piece) (List Piece) (List Piece) instr_pieces arm_pieces block_pieces (record { instrs = b.instrs }) ∙ joined_map pieces_of_instr b.instrs

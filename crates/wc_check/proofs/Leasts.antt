@@ -1,10 +1,11 @@
 -- The least of some findings.
-use Rattle.std.proofs.Common.{◌⊎◌, inl, inr, ⊎_elim, ◌≡◌, ◌<◌, ◌+◌, ℕ, zero, suc, List, [], ◌∷◌, ◌++◌, Bool, true, false, refl, sym, ap, subst, ◌∙◌, length, get_or, drop, drop-cons, add-one, arith}
+use Rattle.std.proofs.Common.{◌⊎◌, inl, inr, ⊎_elim, ◌≡◌, ◌<◌, ◌+◌, ℕ, zero, suc, List, [], ◌∷◌, ◌++◌, Bool, true, false, refl, sym, ap, subst, ◌∙◌, length, get_or, drop, drop-cons, add-one, append-nil, map, arith}
 use Rattle.std.specs.Prelude.{Option, Some, None, flat_map, if◌then◌else◌, ◌||◌}
 use Rattle.std.specs.List.{Contains}
 use Rattle.std.specs.Str.{bytes_eq}
 use Rattle.std.proofs.lemmas.Slice.Eq.{bytes_eq-Decides}
 use Rattle.std.proofs.lemmas.List.Concat.{flat_map-append}
+use Rattle.std.proofs.lemmas.List.Folds.{flat_map-map}
 use Rattle.std.proofs.lemmas.Cmp.{then_total, on_total, nat_cmp_total, nat_list_cmp_total, tied_itself, upto}
 use Rattle.std.proofs.lemmas.Map.Lookups.{exact_unsigned, exact_bytes}
 use Rattle.std.specs.Cmp.{IsTotalOrder}
@@ -26,6 +27,43 @@ drop_at xs i x h e = rw add-one (drop-cons xs i x h ∙ ap (λ y. y ∷ drop (su
 -- one item more, whose findings are taken
 pub least_turn : {A : Type 0} (f : A → List Finding) (best now : Option Finding) (x : A) (xs : List A) → now ≡ least_after best (f x) → least_after now (flat_map f xs) ≡ least_after best (flat_map f (x ∷ xs))
 least_turn f best now x xs e = ap (λ b. least_after b (flat_map f xs)) e ∙ sym (least_joined best (f x) (flat_map f xs))
+
+pub least_step : {A : Type 0} (f : A → List Finding) (best now all : Option Finding) (xs : List A) (i : ℕ) (x : A)
+    → least_after best (flat_map f (drop i xs)) ≡ all → now ≡ least_after best (f x) → i < length xs → x ≡ get_or xs i x → least_after now (flat_map f (drop (i + 1) xs)) ≡ all
+least_step f best now all xs i x p q h e = least_turn f best now x (drop (i + 1) xs) q ∙ ap (λ ys. least_after best (flat_map f ys)) (sym (drop_at xs i x h e)) ∙ p
+
+-- the same, where the items are seen by g
+pub least_seen : {X A : Type 0} (f : A → List Finding) (g : X → A) (best now all : Option Finding) (xs : List X) (i : ℕ) (x : X)
+    → least_after best (flat_map f (map g (drop i xs))) ≡ all → now ≡ least_after best (f (g x)) → i < length xs → x ≡ get_or xs i x → least_after now (flat_map f (map g (drop (i + 1) xs))) ≡ all
+least_seen f g best now all xs i x p q h e =
+    least_turn f best now (g x) (map g (drop (i + 1) xs)) q ∙ ap (λ ys. least_after best (flat_map f (map g ys))) (sym (drop_at xs i x h e)) ∙ p
+
+-- ---- some after the others
+pub least_ended : (best : Option Finding) (fs : List Finding) → least_after best (fs ++ []) ≡ least_after best fs
+least_ended best fs = ap (least_after best) (append-nil fs)
+
+pub least_both : {A : Type 0} (f : A → List Finding) (best : Option Finding) (xs ys : List A) → least_after best (flat_map f (xs ++ ys)) ≡ least_after (least_after best (flat_map f xs)) (flat_map f ys)
+least_both f best xs ys = ap (least_after best) (flat_map-append f xs ys) ∙ least_joined best (flat_map f xs) (flat_map f ys)
+
+pub least_two : {A : Type 0} (f : A → List Finding) (best b₁ b₂ : Option Finding) (xs ys all : List A) → b₁ ≡ least_after best (flat_map f xs) → b₂ ≡ least_after b₁ (flat_map f ys) → all ≡ xs ++ ys → b₂ ≡ least_after best (flat_map f all)
+least_two f best b₁ b₂ xs ys all p q h = q ∙ ap (λ b. least_after b (flat_map f ys)) p ∙ sym (least_both f best xs ys) ∙ ap (λ zs. least_after best (flat_map f zs)) (sym h)
+
+-- one, and then those of two lists
+pub least_lines : {A X Y : Type 0} (f : A → List Finding) (g : X → A) (k : Y → A) (best b₁ b₂ b₃ : Option Finding) (x : A) (xs : List X) (ys : List Y)
+    → b₁ ≡ least_after best (f x) → b₂ ≡ least_after b₁ (flat_map (λ a. f (g a)) xs) → b₃ ≡ least_after b₂ (flat_map (λ a. f (k a)) ys) → b₃ ≡ least_after best (flat_map f (x ∷ map g xs ++ map k ys))
+least_lines f g k best b₁ b₂ b₃ x xs ys p q r =
+    least_two f b₁ b₂ b₃ (map g xs) (map k ys) (map g xs ++ map k ys) (q ∙ ap (least_after b₁) (sym (flat_map-map f g xs))) (r ∙ ap (least_after b₂) (sym (flat_map-map f k ys))) refl
+    ∙ ap (λ b. least_after b (flat_map f (map g xs ++ map k ys))) p
+    ∙ sym (least_joined best (f x) (flat_map f (map g xs ++ map k ys)))
+
+-- the same in a loop, where each item has several parts
+pub least_parts : {A B : Type 0} (f : B → List Finding) (g : A → List B) (best now all : Option Finding) (xs : List A) (i : ℕ) (x : A)
+    → least_after best (flat_map f (flat_map g (drop i xs))) ≡ all → now ≡ least_after best (flat_map f (g x)) → i < length xs → x ≡ get_or xs i x → least_after now (flat_map f (flat_map g (drop (i + 1) xs))) ≡ all
+least_parts f g best now all xs i x p q h e =
+    ap (λ b. least_after b (flat_map f (flat_map g (drop (i + 1) xs)))) q
+    ∙ sym (least_both f best (g x) (flat_map g (drop (i + 1) xs)))
+    ∙ ap (λ ys. least_after best (flat_map f (flat_map g ys))) (sym (drop_at xs i x h e))
+    ∙ p
 
 -- ---- what the least of some findings is
 pub findings_total : IsTotalOrder finding_cmp
@@ -207,3 +245,24 @@ pub least_agree : (b : Option Finding) (m : List ℕ → List Finding) (xs ys : 
 least_agree b m xs ys h = least_same b (flat_map m xs) (flat_map m ys)
     (λ f i. let r = in_flat m f xs i in flat_in m f r.name ys (sym (h r.name) ∙ r.among) r.found)
     (λ f i. let r = in_flat m f ys i in flat_in m f r.name xs (h r.name ∙ r.among) r.found)
+
+-- ---- the order in which findings are taken doesn't matter
+in_swapped : (f : Finding) (fs gs : List Finding) → In f (fs ++ gs) → In f (gs ++ fs)
+in_swapped f fs gs i = ⊎_elim (λ (j : In f fs). in_right f gs fs j) (λ (j : In f gs). in_left f gs fs j) (in_append f fs gs i)
+
+pub least_swapped : (best : Option Finding) (fs gs : List Finding) → least_after (least_after best fs) gs ≡ least_after (least_after best gs) fs
+least_swapped best fs gs =
+    sym (least_joined best fs gs)
+    ∙ least_same best (fs ++ gs) (gs ++ fs) (λ x i. in_swapped x fs gs i) (λ x i. in_swapped x gs fs i)
+    ∙ least_joined best gs fs
+
+-- each item has findings of two kinds
+pub least_split : {A : Type 0} (f g : A → List Finding) (best : Option Finding) (xs : List A) → least_after best (flat_map (λ x. f x ++ g x) xs) ≡ least_after (least_after best (flat_map f xs)) (flat_map g xs)
+least_split f g best [] = refl
+least_split f g best (x ∷ xs) =
+    least_joined best (f x ++ g x) (flat_map (λ y. f y ++ g y) xs)
+    ∙ least_split f g (least_after best (f x ++ g x)) xs
+    ∙ ap (λ b. least_after (least_after b (flat_map f xs)) (flat_map g xs)) (least_joined best (f x) (g x))
+    ∙ ap (λ b. least_after b (flat_map g xs)) (least_swapped (least_after best (f x)) (g x) (flat_map f xs))
+    ∙ sym (least_joined (least_after (least_after best (f x)) (flat_map f xs)) (g x) (flat_map g xs))
+    ∙ ap (λ b. least_after b (g x ++ flat_map g xs)) (sym (least_joined best (f x) (flat_map f xs)))

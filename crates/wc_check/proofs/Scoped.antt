@@ -1,17 +1,63 @@
 -- What may stand in a scope depends on the names in it alone.
-use Rattle.std.proofs.Common.{◌≡◌, ℕ, List, [], ◌∷◌, ◌++◌, Bool, true, false, refl, sym, ap, ◌∙◌}
-use Rattle.std.specs.Prelude.{not, ◌&&◌, if◌then◌else◌, Option, flat_map}
+use Rattle.std.proofs.Common.{◌≡◌, ◌<◌, ◌+◌, ℕ, List, [], ◌∷◌, ◌++◌, Bool, true, false, refl, sym, ap, ◌∙◌, length, get_or, drop, append-nil, append_assoc}
+use Rattle.std.specs.Prelude.{not, ◌&&◌, ◌||◌, if◌then◌else◌, Option, flat_map}
+use Rattle.std.specs.Str.{bytes_eq}
 use Rattle.wc_syntax.specs.declared.definition.Rule.{Rule}
 use Rattle.wc_syntax.specs.declared.definition.Rule.TheVariants as rule
 use Rattle.wc_syntax.specs.Mentions.{Mention, Bare, Given, Input, Context, Label, Piece, mentions, rule_mentions}
-use Rattle.wc_syntax.specs.Findings.{Finding, Scope, is_among, unless, unknown, twice, unknown_mention, unknown_in, unknown_in_rules, inputs_word, ctx_word, scope_after, let_repeats, repeated_lets_in, repeated_lets, scope_of, first_scope, line_exprs, rules_of, pieces_of, piece_mentions}
+use Rattle.wc_syntax.specs.Findings.{Finding, Scope, is_among, unless, unknown, twice, unknown_mention, unknown_in, unknown_in_rules, unknown_names, inputs_word, ctx_word, scope_after, let_repeats, repeated_lets_in, repeated_lets, scope_of, first_scope, inputs_of, result_names, reserved_in, is_chain, line_exprs, rules_of, pieces_of, piece_mentions}
 use Rattle.wc_syntax.specs.declared.definition.Definition.{Definition}
+use Rattle.wc_syntax.specs.declared.definition.Definition.TheVariants as definition
 use Rattle.wc_syntax.specs.declared.expression.Expr.{Expr}
 use Rattle.wc_check.specs.Least.{Agree, least_after}
-use Rattle.wc_check.specs.Scopes.{Alike}
-use Rattle.wc_check.proofs.Leasts.{least_joined}
-use Rattle.wc_check.proofs.Repeated.{agree_last}
+use Rattle.wc_check.specs.Scopes.{Alike, known_names}
+use Rattle.wc_check.specs.Sought.{unknown_outside}
+use Rattle.wc_check.proofs.Leasts.{least_joined, least_swapped, drop_at}
+use Rattle.wc_check.proofs.Repeated.{agree_last, any_append}
 
+-- ---- what a bare name may name
+pub known_in_chain : (n : List ℕ) (c r : Bool) (ports lets : List (List ℕ)) → c ≡ true → is_among n (known_names c r ports lets) ≡ is_among n lets
+known_in_chain n true r ports lets h = refl
+known_in_chain n false r ports lets h = absurd (cc)
+
+results : (n : List ℕ) (r : Bool) → is_among n (if r then result_names else []) ≡ (r && is_among n result_names)
+results n true = refl
+results n false = refl
+
+pub known_elsewhere : (n : List ℕ) (c r : Bool) (ports lets : List (List ℕ)) → c ≡ false → is_among n (known_names c r ports lets) ≡ (is_among n ports || ((r && is_among n result_names) || is_among n lets))
+known_elsewhere n true r ports lets h = absurd (cc)
+known_elsewhere n false r ports lets h =
+    any_append (λ k. bytes_eq k n) ports ((if r then result_names else []) ++ lets)
+    ∙ ap (λ b. is_among n ports || b) (any_append (λ k. bytes_eq k n) (if r then result_names else []) lets ∙ ap (λ b. b || is_among n lets) (results n r))
+
+agree_front : (ps xs ys : List (List ℕ)) → Agree xs ys → Agree (ps ++ xs) (ps ++ ys)
+agree_front ps xs ys h = λ m. any_append (λ k. bytes_eq k m) ps xs ∙ ap (λ b. is_among m ps || b) (h m) ∙ sym (any_append (λ k. bytes_eq k m) ps ys)
+
+agree_back : (xs ys ps : List (List ℕ)) → Agree xs ys → Agree (xs ++ ps) (ys ++ ps)
+agree_back xs ys ps h = λ m. any_append (λ k. bytes_eq k m) xs ps ∙ ap (λ b. b || is_among m ps) (h m) ∙ sym (any_append (λ k. bytes_eq k m) ys ps)
+
+-- a let more
+pub known_after : (c r : Bool) (ports lets after : List (List ℕ)) (n : List ℕ) → Agree after (lets ++ n ∷ []) → Agree (known_names c r ports after) (known_names c r ports lets ++ n ∷ [])
+known_after true r ports lets after n h = h
+known_after false r ports lets after n h = λ m.
+    agree_front ports _ _ (agree_front (if r then result_names else []) after (lets ++ n ∷ []) h) m
+    ∙ ap (is_among m) (ap (λ xs. ports ++ xs) (sym (append_assoc (if r then result_names else []) lets (n ∷ []))) ∙ sym (append_assoc ports ((if r then result_names else []) ++ lets) (n ∷ [])))
+
+pub scope_alike : (d : Definition) (c : Bool) (ports : List (List ℕ)) → c ≡ is_chain d → Agree ports (inputs_of d) → Alike (record { in_chain = c; ports = ports; known = known_names c false ports [] }) (scope_of d)
+scope_alike d c ports e h = record { in_chain = e; ports = h; known = λ m. known c m ∙ ap (λ b. is_among m (if b then [] else inputs_of d)) e }
+  where
+    known : (c : Bool) → Agree (known_names c false ports []) (if c then [] else inputs_of d)
+    known true m = refl
+    known false m = ap (is_among m) (append-nil ports) ∙ h m
+
+pub first_alike : (d : Definition) (r : Bool) (ports : List (List ℕ)) → reserved_in d ≡ (if r then result_names else []) → Agree ports (inputs_of d) → Alike (record { in_chain = false; ports = ports; known = known_names false r ports [] }) (first_scope d)
+first_alike d r ports e h = record {
+  in_chain = refl;
+  ports = h;
+  known = λ m. ap (λ xs. is_among m (ports ++ xs)) (append-nil (if r then result_names else []) ∙ sym e) ∙ agree_back ports (inputs_of d) (reserved_in d) h m;
+}
+
+-- ---- names by what is known
 pub mention_alike : (s t : Scope) → Alike s t → (m : Mention) → unknown_mention s m ≡ unknown_mention t m
 mention_alike s t h (Bare n) = λ i. unless (h.known n.text i) (unknown n.text n.at)
 mention_alike s t h (Given n) = λ i. unless (not (h.in_chain i) && h.ports n.text i) (unknown n.text n.at)
@@ -28,7 +74,7 @@ after_alike s t h (rule.Let at n e) = record { in_chain = h.in_chain; ports = h.
 after_alike s t h (rule.Out at n e) = h
 after_alike s t h (rule.Exit x) = h
 
-pub rules_alike : (s t : Scope) → Alike s t → (rs : List Rule) → unknown_in_rules s rs ≡ unknown_in_rules t rs
+rules_alike : (s t : Scope) → Alike s t → (rs : List Rule) → unknown_in_rules s rs ≡ unknown_in_rules t rs
 rules_alike s t h [] = refl
 rules_alike s t h (r ∷ rs) = λ i. unknown_alike s t h (rule_mentions r) i ++ rules_alike (scope_after r s) (scope_after r t) (after_alike s t h r) rs i
 
@@ -37,41 +83,58 @@ let_alike s t h (rule.Let at n e) = λ i. unless (not (h.known n.text i)) (twice
 let_alike s t h (rule.Out at n e) = refl
 let_alike s t h (rule.Exit x) = refl
 
-pub lets_alike : (s t : Scope) → Alike s t → (rs : List Rule) → repeated_lets_in s rs ≡ repeated_lets_in t rs
+lets_alike : (s t : Scope) → Alike s t → (rs : List Rule) → repeated_lets_in s rs ≡ repeated_lets_in t rs
 lets_alike s t h [] = refl
 lets_alike s t h (r ∷ rs) = λ i. let_alike s t h r i ++ lets_alike (scope_after r s) (scope_after r t) (after_alike s t h r) rs i
 
--- ---- one rule more, in a loop over them
-pub rule_turn : (best now : Option Finding) (s t : Scope) (r : Rule) (rs : List Rule) → now ≡ least_after best (unknown_in s (rule_mentions r)) → Alike t (scope_after r s)
-    → least_after now (unknown_in_rules t rs) ≡ least_after best (unknown_in_rules s (r ∷ rs))
-rule_turn best now s t r rs e h =
-    (λ i. least_after (e i) (rules_alike t (scope_after r s) h rs i)) ∙ sym (least_joined best (unknown_in s (rule_mentions r)) (unknown_in_rules (scope_after r s) rs))
+-- ---- in a loop over rules
+abbrev pub in_rules : Option Finding → Scope → List Rule → Option Finding
+in_rules best s rs = least_after (least_after best (repeated_lets_in s rs)) (unknown_in_rules s rs)
 
-pub let_turn : (best now : Option Finding) (s t : Scope) (r : Rule) (rs : List Rule) → now ≡ least_after best (let_repeats s r) → Alike t (scope_after r s)
-    → least_after now (repeated_lets_in t rs) ≡ least_after best (repeated_lets_in s (r ∷ rs))
-let_turn best now s t r rs e h =
-    (λ i. least_after (e i) (lets_alike t (scope_after r s) h rs i)) ∙ sym (least_joined best (let_repeats s r) (repeated_lets_in (scope_after r s) rs))
+rules_turn : (best mid now : Option Finding) (s t : Scope) (r : Rule) (rs : List Rule) → mid ≡ least_after best (let_repeats s r) → now ≡ least_after mid (unknown_in s (rule_mentions r)) → Alike t (scope_after r s)
+    → in_rules now t rs ≡ in_rules best s (r ∷ rs)
+rules_turn best mid now s t r rs p q h =
+    let u = scope_after r s in
+    let ls = repeated_lets_in u rs in
+    let us = unknown_in_rules u rs in
+    (λ i. least_after (least_after now (lets_alike t u h rs i)) (rules_alike t u h rs i))
+    ∙ ap (λ b. least_after (least_after b ls) us) (q ∙ ap (λ b. least_after b (unknown_in s (rule_mentions r))) p)
+    ∙ ap (λ b. least_after b us) (least_swapped (least_after best (let_repeats s r)) (unknown_in s (rule_mentions r)) ls)
+    ∙ sym (least_joined (least_after (least_after best (let_repeats s r)) ls) (unknown_in s (rule_mentions r)) us)
+    ∙ ap (λ b. least_after b (unknown_in s (rule_mentions r) ++ us)) (sym (least_joined best (let_repeats s r) ls))
+
+pub rules_step : (best mid now all : Option Finding) (s t : Scope) (rs : List Rule) (i : ℕ) (r : Rule)
+    → in_rules best s (drop i rs) ≡ all → mid ≡ least_after best (let_repeats s r) → now ≡ least_after mid (unknown_in s (rule_mentions r)) → Alike t (scope_after r s) → i < length rs → r ≡ get_or rs i r
+    → in_rules now t (drop (i + 1) rs) ≡ all
+rules_step best mid now all s t rs i r a p q h l e = rules_turn best mid now s t r (drop (i + 1) rs) p q h ∙ ap (in_rules best s) (sym (drop_at rs i r l e)) ∙ a
 
 -- ---- all names of a definition, by sets of what is known
 flat_alike : {A B : Type 0} (f g : A → List B) → ((a : A) → f a ≡ g a) → (xs : List A) → flat_map f xs ≡ flat_map g xs
 flat_alike f g h [] = refl
 flat_alike f g h (x ∷ xs) = λ i. h x i ++ flat_alike f g h xs i
 
-pub lines_all : (d : Definition) (s : Scope) (lines : List Expr) (b₀ b₁ : Option Finding) → Alike s (scope_of d) → lines ≡ line_exprs d
-    → b₁ ≡ least_after b₀ (flat_map (λ e. unknown_in s (mentions e)) lines) → b₁ ≡ least_after b₀ (flat_map (λ e. unknown_in (scope_of d) (mentions e)) (line_exprs d))
-lines_all d s lines b₀ b₁ h l p =
-    p ∙ ap (least_after b₀)
-    (flat_alike (λ e. unknown_in s (mentions e)) (λ e. unknown_in (scope_of d) (mentions e)) (λ e. unknown_alike s (scope_of d) h (mentions e)) lines ∙ ap (flat_map (λ e. unknown_in (scope_of d) (mentions e))) l)
+pub outside : (d : Definition) (s : Scope) (best mid now : Option Finding) (ps : List Piece) → Alike s (scope_of d) → ps ≡ pieces_of d
+    → mid ≡ least_after best (flat_map (λ e. unknown_in s (mentions e)) (line_exprs d)) → now ≡ least_after mid (flat_map (λ p. unknown_in s (piece_mentions p)) ps)
+    → now ≡ least_after best (unknown_outside d)
+outside d s best mid now ps h n p q =
+    q ∙ (λ i. least_after (p i) (flat_map (λ p. unknown_in s (piece_mentions p)) (n i)))
+    ∙ (λ i. least_after (least_after best (flat_alike (λ e. unknown_in s (mentions e)) (λ e. unknown_in (scope_of d) (mentions e)) (λ e. unknown_alike s (scope_of d) h (mentions e)) (line_exprs d) i))
+          (flat_alike (λ p. unknown_in s (piece_mentions p)) (λ p. unknown_in (scope_of d) (piece_mentions p)) (λ p. unknown_alike s (scope_of d) h (piece_mentions p)) (pieces_of d) i))
+    ∙ sym (least_joined best (flat_map (λ e. unknown_in (scope_of d) (mentions e)) (line_exprs d)) (flat_map (λ p. unknown_in (scope_of d) (piece_mentions p)) (pieces_of d)))
 
-pub rules_all : (d : Definition) (s : Scope) (rules : List Rule) (b₀ b₁ : Option Finding) → Alike s (first_scope d) → rules ≡ rules_of d → b₁ ≡ least_after b₀ (unknown_in_rules s rules)
-    → b₁ ≡ least_after b₀ (unknown_in_rules (first_scope d) (rules_of d))
-rules_all d s rules b₀ b₁ h m p = p ∙ ap (least_after b₀) (rules_alike s (first_scope d) h rules ∙ ap (unknown_in_rules (first_scope d)) m)
-
-pub outline_all : (d : Definition) (s : Scope) (ps : List Piece) (b₀ b₁ : Option Finding) → Alike s (scope_of d) → ps ≡ pieces_of d
-    → b₁ ≡ least_after b₀ (flat_map (λ a. unknown_in s (piece_mentions a)) ps) → b₁ ≡ least_after b₀ (flat_map (λ a. unknown_in (scope_of d) (piece_mentions a)) (pieces_of d))
-outline_all d s ps b₀ b₁ h n p =
-    p ∙ ap (least_after b₀)
-    (flat_alike (λ a. unknown_in s (piece_mentions a)) (λ a. unknown_in (scope_of d) (piece_mentions a)) (λ a. unknown_alike s (scope_of d) h (piece_mentions a)) ps ∙ ap (flat_map (λ a. unknown_in (scope_of d) (piece_mentions a))) n)
-
-pub lets_all : (d : Definition) (s : Scope) (rules : List Rule) (b₀ b₁ : Option Finding) → Alike s (first_scope d) → rules ≡ rules_of d → b₁ ≡ least_after b₀ (repeated_lets_in s rules) → b₁ ≡ least_after b₀ (repeated_lets d)
-lets_all d s rules b₀ b₁ h m p = p ∙ ap (least_after b₀) (lets_alike s (first_scope d) h rules ∙ ap (repeated_lets_in (first_scope d)) m)
+pub all_names : (d : Definition) (s : Scope) (rules : List Rule) (best mid now : Option Finding) → Alike s (first_scope d) → rules ≡ rules_of d → mid ≡ least_after best (unknown_outside d) → now ≡ in_rules mid s rules
+    → now ≡ least_after best (repeated_lets d ++ unknown_names d)
+all_names d s rules best mid now h m p q =
+    let lines = flat_map (λ e. unknown_in (scope_of d) (mentions e)) (line_exprs d) in
+    let outline = flat_map (λ p. unknown_in (scope_of d) (piece_mentions p)) (pieces_of d) in
+    let ls = repeated_lets d in
+    let us = unknown_in_rules (first_scope d) (rules_of d) in
+    q ∙ (λ i. in_rules (p i) s (m i))
+    ∙ (λ i. least_after (least_after (least_after best (unknown_outside d)) (lets_alike s (first_scope d) h (rules_of d) i)) (rules_alike s (first_scope d) h (rules_of d) i))
+    ∙ ap (λ b. least_after b us) (least_swapped best (lines ++ outline) ls)
+    ∙ ap (λ b. least_after b us) (least_joined (least_after best ls) lines outline)
+    ∙ least_swapped (least_after (least_after best ls) lines) outline us
+    ∙ ap (λ b. least_after b outline) (sym (least_joined (least_after best ls) lines us))
+    ∙ sym (least_joined (least_after best ls) (lines ++ us) outline)
+    ∙ ap (least_after (least_after best ls)) (append_assoc lines us outline)
+    ∙ sym (least_joined best ls (lines ++ (us ++ outline)))

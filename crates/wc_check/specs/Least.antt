@@ -5,6 +5,8 @@ use Rattle.wc_syntax.specs.Findings.{Finding, is_among}
 use Rattle.wc_syntax.specs.First.{finding_cmp}
 use Rattle.wc_check.specs.declared.best.Fault.{Fault}
 use Rattle.wc_check.specs.declared.best.Fault.TheVariants as fault
+use Rattle.wc_check.specs.declared.best.Told.{Told}
+use Rattle.wc_check.specs.declared.best.Told.TheVariants as name
 
 -- the lesser of the two; of two that are equal, the earlier
 abbrev pub lesser : Option Finding → Finding → Option Finding
@@ -30,6 +32,11 @@ number_of fault.NotData = 5
 number_of fault.BadStatus = 6
 number_of fault.TooMany = 7
 number_of fault.BadName = 8
+
+-- the name, or the digits of a number
+abbrev pub told : Told → List ℕ
+told (name.Name n) = n.now
+told (name.Digits n) = n
 
 -- the two have the same members, by a test of them
 abbrev pub AgreeAt : {A : Type 0} → (A → List A → Bool) → List A → List A → Type 0

@@ -5,12 +5,12 @@ use Rattle.wc_syntax.specs.Findings.{Finding, twice, unknown, port_missing, port
 use Rattle.wc_syntax.specs.Checked.{findings}
 use Rattle.wc_syntax.specs.First.{IsFirst}
 use Rattle.wc_check.specs.declared.best.Finding.{Finding as Found}
-use Rattle.wc_check.specs.Least.{number_of}
+use Rattle.wc_check.specs.Least.{number_of, told}
 use Rattle.wc_check.specs.declared.error.CheckError.{CheckError}
 use Rattle.wc_check.specs.declared.error.CheckError.TheVariants as error
 
 abbrev pub finding_seen : Found → Finding
-finding_seen f = record { number = number_of f.fault; name = f.name; at = f.at }
+finding_seen f = record { number = number_of f.fault; name = told f.name; at = f.at }
 
 -- the refusal has the finding's number and place, and its name where it has one; want of memory is no finding
 abbrev pub Says : CheckError → Finding → Type 0

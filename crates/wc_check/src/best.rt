@@ -1,6 +1,6 @@
-ghost use Rattle.std.specs.Prelude.{◌≡◌, None, OnOk};
+ghost use Rattle.std.specs.Prelude.{◌≡◌, None, IfOk};
 ghost use Rattle.wc_syntax.specs.Findings.{unless};
-ghost use Rattle.wc_check.specs.Least.{least_after, lesser, number_of, stands_before};
+ghost use Rattle.wc_check.specs.Least.{least_after, lesser, number_of, stands_before, told};
 ghost use Rattle.wc_check.specs.Refusals.{finding_seen, Says, SaysBest};
 
 use crate::error::CheckError;
@@ -47,52 +47,88 @@ impl Fault {
     }
 }
 
+/// What a finding names.
+#[derive(Drop)]
+pub enum Told<'a> {
+    /// A name that stands in the file, a word, or nothing.
+    Name(&'a str),
+    /// The digits of a number.
+    Digits(Text),
+}
+
+impl<'a> Told<'a> {
+    fn bytes(&self) -> &[u8]
+        ensures { result.now ≡ told self.now }
+    {
+        match self {
+            Told::Name(name) => name.as_bytes(),
+            Told::Digits(digits) => digits.bytes(),
+        }
+    }
+
+    fn text(self, alloc: Global) -> Result<Text, AllocError>
+        ensures { IfOk result (λ text. text ≡ told self.entry) }
+    {
+        match self {
+            Told::Name(name) => Text::of_str(alloc, name),
+            Told::Digits(digits) => Ok(digits),
+        }
+    }
+}
+
 /// A rule that is broken at a place of the file, with the name that stands there or none.
 #[derive(Drop)]
-pub struct Finding {
+pub struct Finding<'a> {
     pub fault: Fault,
-    pub name: Text,
+    pub name: Told<'a>,
     pub at: u32,
 }
 
-impl Finding {
-    fn refusal(self) -> CheckError
-        ensures { Says result (finding_seen self) }
+impl<'a> Finding<'a> {
+    fn refusal(self, alloc: Global) -> Result<CheckError, AllocError>
+        ensures { IfOk result (λ e. Says e (finding_seen self.entry)) }
     {
         let Finding { fault, name, at } = self;
-        match fault {
-            Fault::Twice => CheckError::Twice(name, at),
-            Fault::Unknown => CheckError::Unknown(name, at),
-            Fault::PortMissing => CheckError::PortMissing(name, at),
-            Fault::PortUnknown => CheckError::PortUnknown(name, at),
-            Fault::NotData => CheckError::NotData(at),
-            Fault::BadStatus => CheckError::BadStatus(at),
-            Fault::TooMany => CheckError::TooMany(at),
-            Fault::BadName => CheckError::BadName(name, at),
-        }
+        let name = name.text(alloc)?;
+        Ok(refusal_of(fault, name, at))
+    }
+}
+
+fn refusal_of(fault: Fault, name: Text, at: u32) -> CheckError
+    ensures { Says result (record { number = number_of fault; name = name; at = at }) }
+{
+    match fault {
+        Fault::Twice => CheckError::Twice(name, at),
+        Fault::Unknown => CheckError::Unknown(name, at),
+        Fault::PortMissing => CheckError::PortMissing(name, at),
+        Fault::PortUnknown => CheckError::PortUnknown(name, at),
+        Fault::NotData => CheckError::NotData(at),
+        Fault::BadStatus => CheckError::BadStatus(at),
+        Fault::TooMany => CheckError::TooMany(at),
+        Fault::BadName => CheckError::BadName(name, at),
     }
 }
 
 /// The first of the findings so far: that of the least place, then of the lowest number, then of the least name.
 #[derive(Drop)]
-pub struct Best {
-    found: Option<Finding>,
+pub struct Best<'a> {
+    found: Option<Finding<'a>>,
 }
 
-impl Model for Best {
+impl<'a> Model for Best<'a> {
     ghost use Rattle.std.specs.Prelude.{Option};
     ghost use Rattle.std.specs.Option.{option_map};
     ghost use Rattle.wc_syntax.specs.Findings.{Finding};
-    ghost use Rattle.wc_check.specs.Least.{number_of};
+    ghost use Rattle.wc_check.specs.Least.{number_of, told};
 
     ghost Value = { Option Finding };
 
-    ghost view = { λ b. option_map (λ f. record { number = number_of f.fault; name = f.name; at = f.at }) b.found };
+    ghost view = { λ b. option_map (λ f. record { number = number_of f.fault; name = told f.name; at = f.at }) b.found };
 }
 
-impl Best {
+impl<'a> Best<'a> {
     /// No finding.
-    pub fn none() -> Best
+    pub fn none() -> Best<'a>
         ensures { result ≡ None }
     {
         Best { found: None }
@@ -109,55 +145,49 @@ impl Best {
     }
 
     /// Takes the finding, where it comes before the first so far.
-    pub fn offer(
-        &mut self,
-        alloc: Global,
-        fault: Fault,
-        name: &str,
-        at: u32,
-    ) -> Result<(), AllocError>
-        ensures { OnOk result (self.new ≡ lesser self.old (record { number = number_of fault; name = name.now; at = at })) }
+    pub fn offer_told(&mut self, fault: Fault, name: Told<'a>, at: u32)
+        ensures { self.new ≡ lesser self.old (record { number = number_of fault; name = told name.entry; at = at }) }
     {
         let comes_before = match &self.found {
             None => true,
             Some(found) => at
                 .cmp(&found.at)
                 .then(fault.number().cmp(&found.fault.number()))
-                .then(name.as_bytes().cmp(&found.name.bytes()))
+                .then(name.bytes().cmp(&found.name.bytes()))
                 .is_lt(),
         };
         if comes_before {
-            let name = Text::of_str(alloc, name)?;
             self.found = Some(Finding { fault, name, at });
         }
-        Ok(())
     }
 
-    /// Takes the finding, unless the rule is kept.
-    pub fn offer_unless(
-        &mut self,
-        alloc: Global,
-        is_kept: bool,
-        fault: Fault,
-        name: &str,
-        at: u32,
-    ) -> Result<(), AllocError>
-        ensures { OnOk result (self.new ≡ least_after self.old (unless is_kept (record { number = number_of fault; name = name.now; at = at }))) }
+    /// Takes the finding of a name, where it comes before the first so far.
+    pub fn offer(&mut self, fault: Fault, name: &'a str, at: u32)
+        ensures { self.new ≡ lesser self.old (record { number = number_of fault; name = name.now; at = at }) }
     {
-        if is_kept {
-            return Ok(());
+        self.offer_told(fault, Told::Name(name), at);
+    }
+
+    /// Takes the finding of a name, unless the rule is kept.
+    pub fn offer_unless(&mut self, is_kept: bool, fault: Fault, name: &'a str, at: u32)
+        ensures { self.new ≡ least_after self.old (unless is_kept (record { number = number_of fault; name = name.now; at = at })) }
+    {
+        if !is_kept {
+            self.offer(fault, name, at);
         }
-        self.offer(alloc, fault, name, at)
     }
 
     /// The refusal that the first finding is, if there is one.
-    pub fn refusal(self) -> Option<CheckError>
-        ensures { SaysBest result self }
+    pub fn refusal(self, alloc: Global) -> Result<Option<CheckError>, AllocError>
+        ensures { IfOk result (λ found. SaysBest found self.entry) }
     {
         let Best { found } = self;
         match found {
-            None => None,
-            Some(finding) => Some(finding.refusal()),
+            None => Ok(None),
+            Some(finding) => {
+                let error = finding.refusal(alloc)?;
+                Ok(Some(error))
+            }
         }
     }
 }

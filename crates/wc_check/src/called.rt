@@ -1,115 +1,131 @@
 ghost use Rattle.std.specs.Prelude.{◌≡◌, flat_map, OnOk};
-ghost use Rattle.wc_syntax.specs.Findings.{missing_of, missing_ports, unknown_of, unknown_ports, callee_of, called_ports, unknown_callees, repeated_args, repeated_arguments};
-ghost use Rattle.wc_check.specs.Flat.{behind};
+ghost use Rattle.wc_syntax.specs.Findings.{callee_of, called_ports, missing_of, missing_port, unknown_of, unknown_port};
+ghost use Rattle.wc_check.specs.Flat.{behind, seen_piece, seen_pieces};
 ghost use Rattle.wc_check.specs.Least.{least_after};
+ghost use Rattle.wc_check.specs.Sought.{call_found, calls_at};
 
-use crate::best::Best;
-use crate::calls::{Signatures, missing_of, unknown_callee, unknown_of};
-use crate::parts::Parts;
-use crate::repeats::repeats;
+use crate::best::{Best, Fault};
+use crate::calls::Signatures;
+use crate::names::Names;
+use crate::pieces::Piece;
+use crate::repeats::{names_of, repeats};
 use std::alloc::{AllocError, Global};
-use wc_syntax::CallStmt;
+use wc_syntax::{CallArg, CallStmt, Stmt};
 
-fn callees_among(
-    alloc: Global,
-    best: &mut Best,
-    signatures: &Signatures<'_>,
-    calls: &[&CallStmt],
-) -> Result<(), AllocError>
-    ensures { OnOk result (best.new ≡ least_after best.old (flat_map (λ c. callee_of c (called_ports signatures.now c)) (behind calls.now))) }
+/// Finds a call of what isn't there.
+fn unknown_callee<'a>(best: &mut Best<'a>, signatures: &Signatures<'a>, call: &'a CallStmt)
+    ensures { best.new ≡ least_after best.old (callee_of call.now (called_ports signatures.now call.now)) }
 {
-    for call in calls {
-        unknown_callee(alloc, best, signatures, *call)?;
+    match signatures.called(call) {
+        Some(_) => {}
+        None => best.offer(Fault::Unknown, call.callee.text.as_str(), call.callee.at),
     }
-    Ok(())
 }
 
-fn missing_among(
-    alloc: Global,
-    best: &mut Best,
-    signatures: &Signatures<'_>,
-    calls: &[&CallStmt],
-) -> Result<(), AllocError>
-    ensures { OnOk result (best.new ≡ least_after best.old (flat_map (λ c. missing_of c (called_ports signatures.now c)) (behind calls.now))) }
+fn missing_port<'a>(best: &mut Best<'a>, given: &Names, at: u32, name: &'a str)
+    ensures { best.new ≡ least_after best.old (missing_port given.now at name.now) }
 {
-    for call in calls {
-        missing_of(alloc, best, signatures, *call)?;
-    }
-    Ok(())
+    best.offer_unless(given.has(name), Fault::PortMissing, name, at);
 }
 
-fn unknown_among(
-    alloc: Global,
-    best: &mut Best,
-    signatures: &Signatures<'_>,
-    calls: &[&CallStmt],
-) -> Result<(), AllocError>
-    ensures { OnOk result (best.new ≡ least_after best.old (flat_map (λ c. unknown_of c (called_ports signatures.now c)) (behind calls.now))) }
+fn missing_among<'a>(best: &mut Best<'a>, given: &Names, at: u32, required: &[&'a str])
+    ensures { best.new ≡ least_after best.old (flat_map (missing_port given.now at) (behind required.now)) }
 {
-    for call in calls {
-        unknown_of(alloc, best, signatures, *call)?;
+    for name in required {
+        missing_port(best, given, at, *name);
     }
-    Ok(())
 }
 
-fn repeated_args(alloc: Global, best: &mut Best, call: &CallStmt) -> Result<(), AllocError>
-    ensures { OnOk result (best.new ≡ least_after best.old (repeated_args call.now)) }
+/// Finds the ports that a call lacks. They don't matter where something is found before the call.
+fn missing_of<'a>(
+    alloc: Global,
+    best: &mut Best<'a>,
+    signatures: &Signatures<'a>,
+    call: &'a CallStmt,
+) -> Result<(), AllocError>
+    ensures { OnOk result (best.new ≡ least_after best.old (missing_of call.now (called_ports signatures.now call.now))) }
 {
+    match signatures.called(call) {
+        Some(signature) => {
+            if best.is_before(call.at) {
+                return Ok(());
+            }
+            let given = names_of(alloc, call.args.as_slice())?;
+            missing_among(best, &given, call.at, signature.required.as_slice());
+            Ok(())
+        }
+        None => Ok(()),
+    }
+}
+
+fn unknown_port<'a>(best: &mut Best<'a>, ports: &Names, arg: &'a CallArg)
+    ensures { best.new ≡ least_after best.old (unknown_port ports.now arg.now) }
+{
+    let name = arg.port.text.as_str();
+    best.offer_unless(ports.has(name), Fault::PortUnknown, name, arg.port.at);
+}
+
+fn unknown_among<'a>(best: &mut Best<'a>, ports: &Names, args: &'a [CallArg])
+    ensures { best.new ≡ least_after best.old (flat_map (unknown_port ports.now) args.now) }
+{
+    for arg in args {
+        unknown_port(best, ports, arg);
+    }
+}
+
+/// Finds the ports that a call gives and that aren't there.
+fn unknown_of<'a>(best: &mut Best<'a>, signatures: &Signatures<'a>, call: &'a CallStmt)
+    ensures { best.new ≡ least_after best.old (unknown_of call.now (called_ports signatures.now call.now)) }
+{
+    match signatures.called(call) {
+        Some(signature) => unknown_among(best, &signature.ports, call.args.as_slice()),
+        None => {}
+    }
+}
+
+/// Finds everything that a call breaks: it names a definition, and gives every required input port of it, none that isn't there
+/// and none twice.
+#[tactic(auto, using(crate::proofs::Leasts::least_joined))]
+fn find_in_call<'a>(
+    alloc: Global,
+    best: &mut Best<'a>,
+    signatures: &Signatures<'a>,
+    call: &'a CallStmt,
+) -> Result<(), AllocError>
+    ensures { OnOk result (best.new ≡ least_after best.old (call_found signatures.now call.now)) }
+{
+    unknown_callee(best, signatures, call);
+    missing_of(alloc, best, signatures, call)?;
+    unknown_of(best, signatures, call);
     repeats(alloc, best, call.args.as_slice())
 }
 
-fn repeated_among(alloc: Global, best: &mut Best, calls: &[&CallStmt]) -> Result<(), AllocError>
-    ensures { OnOk result (best.new ≡ least_after best.old (flat_map repeated_args (behind calls.now))) }
+#[tactic(auto, using(crate::proofs::Leasts::least_ended))]
+fn call_of_piece<'a>(
+    alloc: Global,
+    best: &mut Best<'a>,
+    signatures: &Signatures<'a>,
+    piece: Piece<'a>,
+) -> Result<(), AllocError>
+    ensures { OnOk result (best.new ≡ least_after best.old (calls_at signatures.now (seen_piece piece.entry))) }
 {
-    for call in calls {
-        repeated_args(alloc, best, *call)?;
+    match piece {
+        Piece::Does(Stmt::Call(call)) => find_in_call(alloc, best, signatures, call),
+        _ => Ok(()),
+    }
+}
+
+/// Finds everything that the calls of an outline break.
+pub fn bad_calls<'a>(
+    alloc: Global,
+    best: &mut Best<'a>,
+    signatures: &Signatures<'a>,
+    pieces: &[Piece<'a>],
+) -> Result<(), AllocError>
+    ensures { OnOk result (best.new ≡ least_after best.old (flat_map (calls_at signatures.now) (seen_pieces pieces.now))) }
+{
+    for piece in pieces {
+        call_of_piece(alloc, best, signatures, *piece)?;
     }
     Ok(())
-}
-
-/// `call` names a definition.
-pub fn unknown_callees(
-    alloc: Global,
-    best: &mut Best,
-    signatures: &Signatures<'_>,
-    parts: &Parts<'_>,
-) -> Result<(), AllocError>
-    ensures { OnOk result (best.new ≡ least_after best.old (unknown_callees signatures.now parts.now)) }
-{
-    callees_among(alloc, best, signatures, parts.calls())
-}
-
-/// A call gives every required input port of what it calls.
-pub fn missing_ports(
-    alloc: Global,
-    best: &mut Best,
-    signatures: &Signatures<'_>,
-    parts: &Parts<'_>,
-) -> Result<(), AllocError>
-    ensures { OnOk result (best.new ≡ least_after best.old (missing_ports signatures.now parts.now)) }
-{
-    missing_among(alloc, best, signatures, parts.calls())
-}
-
-/// A call gives no port that isn't there.
-pub fn unknown_ports(
-    alloc: Global,
-    best: &mut Best,
-    signatures: &Signatures<'_>,
-    parts: &Parts<'_>,
-) -> Result<(), AllocError>
-    ensures { OnOk result (best.new ≡ least_after best.old (unknown_ports signatures.now parts.now)) }
-{
-    unknown_among(alloc, best, signatures, parts.calls())
-}
-
-/// A call gives no port twice.
-pub fn repeated_arguments(
-    alloc: Global,
-    best: &mut Best,
-    parts: &Parts<'_>,
-) -> Result<(), AllocError>
-    ensures { OnOk result (best.new ≡ least_after best.old (repeated_arguments parts.now)) }
-{
-    repeated_among(alloc, best, parts.calls())
 }

@@ -1,18 +1,17 @@
-ghost use Rattle.std.specs.Prelude.{◌≡◌, ◌∷◌, ◌++◌, [], map, flat_map, List, OnOk, IfOk};
+ghost use Rattle.std.specs.Prelude.{◌≡◌, ◌∷◌, ◌++◌, List, OnOk, IfOk};
 ghost use Rattle.std.specs.Option.{option_copied};
 ghost use Rattle.wc_syntax.specs.declared.definition.Definition.{Definition};
-ghost use Rattle.wc_syntax.specs.Findings.{required_name, required_names, missing_port, missing_of, missing_ports, given_ports, unknown_port, unknown_of, unknown_ports, callee_of, called_ports, unknown_callees, repeated_args, repeated_arguments, calls_of};
+ghost use Rattle.wc_syntax.specs.Findings.{required_name, required_names, called_ports};
 ghost use Rattle.wc_check.specs.Flat.{behind};
-ghost use Rattle.wc_check.specs.Least.{least_after, Agree};
+ghost use Rattle.wc_check.specs.Least.{Agree};
 ghost use Rattle.wc_check.specs.Signed.{IsSignature, FitsFound, AreSignatures};
 
-use crate::best::{Best, Fault};
 use crate::names::Names;
 use crate::repeats::{head_of, names_of};
 use std::alloc::{AllocError, Global};
 use std::collections::BTreeMap;
 use std::marker::Model;
-use wc_syntax::{CallArg, CallStmt, Definition, Port};
+use wc_syntax::{CallStmt, Definition, Port};
 
 /// The input ports of a definition, as its callers meet them.
 #[derive(Drop)]
@@ -127,131 +126,9 @@ impl<'a> Signatures<'a> {
     }
 
     /// The signature of what is called, or none where that isn't there.
-    fn called(&self, call: &CallStmt) -> Option<&Signature<'a>>
+    pub fn called(&self, call: &CallStmt) -> Option<&Signature<'a>>
         ensures { FitsFound (option_copied result) (called_ports self.now call.now) }
     {
         self.of.get(call.callee.text.bytes())
-    }
-}
-
-/// Finds a call of what isn't there.
-pub fn unknown_callee(
-    alloc: Global,
-    best: &mut Best,
-    signatures: &Signatures<'_>,
-    call: &CallStmt,
-) -> Result<(), AllocError>
-    ensures { OnOk result (best.new ≡ least_after best.old (callee_of call.now (called_ports signatures.now call.now))) }
-{
-    match signatures.called(call) {
-        Some(_) => Ok(()),
-        None => {
-            best.offer(
-                alloc,
-                Fault::Unknown,
-                call.callee.text.as_str(),
-                call.callee.at,
-            )?;
-            Ok(())
-        }
-    }
-}
-
-fn missing_port(
-    alloc: Global,
-    best: &mut Best,
-    given: &Names,
-    at: u32,
-    name: &str,
-) -> Result<(), AllocError>
-    ensures { OnOk result (best.new ≡ least_after best.old (missing_port given.now at name.now)) }
-{
-    best.offer_unless(alloc, given.has(name), Fault::PortMissing, name, at)
-}
-
-fn missing_among(
-    alloc: Global,
-    best: &mut Best,
-    given: &Names,
-    at: u32,
-    required: &[&str],
-) -> Result<(), AllocError>
-    ensures { OnOk result (best.new ≡ least_after best.old (flat_map (missing_port given.now at) (behind required.now))) }
-{
-    for name in required {
-        missing_port(alloc, best, given, at, *name)?;
-    }
-    Ok(())
-}
-
-/// Finds the ports that a call lacks. They don't matter where something is found before the call.
-pub fn missing_of(
-    alloc: Global,
-    best: &mut Best,
-    signatures: &Signatures<'_>,
-    call: &CallStmt,
-) -> Result<(), AllocError>
-    ensures { OnOk result (best.new ≡ least_after best.old (missing_of call.now (called_ports signatures.now call.now))) }
-{
-    match signatures.called(call) {
-        Some(signature) => {
-            if best.is_before(call.at) {
-                return Ok(());
-            }
-            let given = names_of(alloc, call.args.as_slice())?;
-            missing_among(alloc, best, &given, call.at, signature.required.as_slice())?;
-            Ok(())
-        }
-        None => Ok(()),
-    }
-}
-
-fn unknown_port(
-    alloc: Global,
-    best: &mut Best,
-    ports: &Names,
-    arg: &CallArg,
-) -> Result<(), AllocError>
-    ensures { OnOk result (best.new ≡ least_after best.old (unknown_port ports.now arg.now)) }
-{
-    let name = arg.port.text.as_str();
-    best.offer_unless(
-        alloc,
-        ports.has(name),
-        Fault::PortUnknown,
-        name,
-        arg.port.at,
-    )
-}
-
-fn unknown_among(
-    alloc: Global,
-    best: &mut Best,
-    ports: &Names,
-    args: &[CallArg],
-) -> Result<(), AllocError>
-    ensures { OnOk result (best.new ≡ least_after best.old (flat_map (unknown_port ports.now) args.now)) }
-{
-    for arg in args {
-        unknown_port(alloc, best, ports, arg)?;
-    }
-    Ok(())
-}
-
-/// Finds the ports that a call gives and that aren't there.
-pub fn unknown_of(
-    alloc: Global,
-    best: &mut Best,
-    signatures: &Signatures<'_>,
-    call: &CallStmt,
-) -> Result<(), AllocError>
-    ensures { OnOk result (best.new ≡ least_after best.old (unknown_of call.now (called_ports signatures.now call.now))) }
-{
-    match signatures.called(call) {
-        Some(signature) => {
-            unknown_among(alloc, best, &signature.ports, call.args.as_slice())?;
-            Ok(())
-        }
-        None => Ok(()),
     }
 }

@@ -12,10 +12,10 @@ const MOST_FILE_NAME_BYTES: usize = 64;
 
 /// The names of a job's `file` lines differ, and those of its `fetch` lines.
 #[tactic(auto, using(crate::proofs::Leasts::least_joined))]
-pub fn repeated_files(
+pub fn repeated_files<'a>(
     alloc: Global,
-    best: &mut Best,
-    definition: &Definition,
+    best: &mut Best<'a>,
+    definition: &'a Definition,
 ) -> Result<(), AllocError>
     ensures { OnOk result (best.new ≡ least_after best.old (repeated_files definition.now)) }
 {
@@ -32,49 +32,36 @@ pub fn repeated_files(
 
 /// A job's files have names that they may have, and none that is written has that of the program's own output.
 #[tactic(auto, using(crate::proofs::Leasts::least_joined))]
-pub fn bad_file_names(
-    alloc: Global,
-    best: &mut Best,
-    definition: &Definition,
-) -> Result<(), AllocError>
-    ensures { OnOk result (best.new ≡ least_after best.old (bad_file_names definition.now)) }
+pub fn bad_file_names<'a>(best: &mut Best<'a>, definition: &'a Definition)
+    ensures { best.new ≡ least_after best.old (bad_file_names definition.now) }
 {
     match definition {
-        Definition::Function(_) => Ok(()),
+        Definition::Function(_) => {}
         Definition::Job(job) => {
-            bad_written(alloc, best, job.files.as_slice())?;
-            bad_fetched(alloc, best, job.fetch.as_slice())?;
-            Ok(())
+            bad_written(best, job.files.as_slice());
+            bad_fetched(best, job.fetch.as_slice());
         }
-        Definition::Chain(_) => Ok(()),
+        Definition::Chain(_) => {}
     }
 }
 
-fn bad_written(alloc: Global, best: &mut Best, files: &[JobFile]) -> Result<(), AllocError>
-    ensures { OnOk result (best.new ≡ least_after best.old (flat_map bad_written files.now)) }
+fn bad_written<'a>(best: &mut Best<'a>, files: &'a [JobFile])
+    ensures { best.new ≡ least_after best.old (flat_map bad_written files.now) }
 {
     for file in files {
         let name = file.name.text.as_str();
         let is_kept = is_file_name(name) && !is_output_file(name);
-        best.offer_unless(alloc, is_kept, Fault::BadName, name, file.name.at)?;
+        best.offer_unless(is_kept, Fault::BadName, name, file.name.at);
     }
-    Ok(())
 }
 
-fn bad_fetched(alloc: Global, best: &mut Best, files: &[Fetch]) -> Result<(), AllocError>
-    ensures { OnOk result (best.new ≡ least_after best.old (flat_map bad_fetched files.now)) }
+fn bad_fetched<'a>(best: &mut Best<'a>, files: &'a [Fetch])
+    ensures { best.new ≡ least_after best.old (flat_map bad_fetched files.now) }
 {
     for file in files {
         let name = file.name.text.as_str();
-        best.offer_unless(
-            alloc,
-            is_file_name(name),
-            Fault::BadName,
-            name,
-            file.name.at,
-        )?;
+        best.offer_unless(is_file_name(name), Fault::BadName, name, file.name.at);
     }
-    Ok(())
 }
 
 /// Whether the program's own output has this name.

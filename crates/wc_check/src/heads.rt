@@ -3,11 +3,12 @@ ghost use Rattle.std.specs.Fmt.{signed_decimal};
 ghost use Rattle.wc_syntax.specs.Findings.{is_among, is_status, result_names, head_of, repeated_ports, reserved_port, reserved_ports, repeated_statuses, repeated_statuses_after, bad_range, bad_declared, declared_numbers, unless, twice};
 ghost use Rattle.wc_check.specs.Least.{least_after, AgreeAt};
 
-use crate::best::{Best, Fault};
+use crate::best::{Best, Fault, Told};
 use crate::repeats::{head_of, repeats};
 use crate::statuses::Statuses;
 use std::alloc::{AllocError, Global};
 use wc_syntax::{Definition, ExitCode, Number, Port};
+use wc_value::Text;
 
 const LEAST_STATUS: i64 = 100;
 
@@ -15,10 +16,10 @@ const MOST_STATUS: i64 = 9999;
 
 /// Port names differ in one list.
 #[tactic(auto, using(crate::proofs::Leasts::least_joined))]
-pub fn repeated_ports(
+pub fn repeated_ports<'a>(
     alloc: Global,
-    best: &mut Best,
-    definition: &Definition,
+    best: &mut Best<'a>,
+    definition: &'a Definition,
 ) -> Result<(), AllocError>
     ensures { OnOk result (best.new ≡ least_after best.old (repeated_ports definition.now)) }
 {
@@ -29,7 +30,7 @@ pub fn repeated_ports(
 }
 
 /// Whether a name is one that the rules of a job know beside its inputs.
-fn is_reserved(name: &str) -> bool
+pub fn is_reserved(name: &str) -> bool
     ensures { result ≡ is_among name.now result_names }
 {
     name == "retrieved" || name == "code"
@@ -37,60 +38,49 @@ fn is_reserved(name: &str) -> bool
 
 /// No port of a job is named `retrieved` or `code`.
 #[tactic(auto, using(crate::proofs::Leasts::least_joined))]
-pub fn reserved_ports(
-    alloc: Global,
-    best: &mut Best,
-    definition: &Definition,
-) -> Result<(), AllocError>
-    ensures { OnOk result (best.new ≡ least_after best.old (reserved_ports definition.now)) }
+pub fn reserved_ports<'a>(best: &mut Best<'a>, definition: &'a Definition)
+    ensures { best.new ≡ least_after best.old (reserved_ports definition.now) }
 {
     match definition {
-        Definition::Function(_) => Ok(()),
+        Definition::Function(_) => {}
         Definition::Job(job) => {
-            reserved_in(alloc, best, job.head.inputs.as_slice())?;
-            reserved_in(alloc, best, job.head.outputs.as_slice())?;
-            Ok(())
+            reserved_in(best, job.head.inputs.as_slice());
+            reserved_in(best, job.head.outputs.as_slice());
         }
-        Definition::Chain(_) => Ok(()),
+        Definition::Chain(_) => {}
     }
 }
 
-fn reserved_in(alloc: Global, best: &mut Best, ports: &[Port]) -> Result<(), AllocError>
-    ensures { OnOk result (best.new ≡ least_after best.old (flat_map reserved_port ports.now)) }
+fn reserved_in<'a>(best: &mut Best<'a>, ports: &'a [Port])
+    ensures { best.new ≡ least_after best.old (flat_map reserved_port ports.now) }
 {
     for port in ports {
         let name = port.name.text.as_str();
-        best.offer_unless(alloc, !is_reserved(name), Fault::Twice, name, port.name.at)?;
+        best.offer_unless(!is_reserved(name), Fault::Twice, name, port.name.at);
     }
-    Ok(())
 }
 
 /// A declared status is 100 to 9999.
-pub fn bad_declared(
-    alloc: Global,
-    best: &mut Best,
-    definition: &Definition,
-) -> Result<(), AllocError>
-    ensures { OnOk result (best.new ≡ least_after best.old (bad_declared definition.now)) }
+pub fn bad_declared(best: &mut Best<'_>, definition: &Definition)
+    ensures { best.new ≡ least_after best.old (bad_declared definition.now) }
 {
-    bad_ranges(alloc, best, head_of(definition).codes.as_slice())
+    bad_ranges(best, head_of(definition).codes.as_slice());
 }
 
-fn bad_ranges(alloc: Global, best: &mut Best, codes: &[ExitCode]) -> Result<(), AllocError>
-    ensures { OnOk result (best.new ≡ least_after best.old (flat_map bad_range (map (λ c. c.status) codes.now))) }
+fn bad_ranges(best: &mut Best<'_>, codes: &[ExitCode])
+    ensures { best.new ≡ least_after best.old (flat_map bad_range (map (λ c. c.status) codes.now)) }
 {
     for code in codes {
         let status = code.status;
         let is_kept = LEAST_STATUS <= status.value && status.value <= MOST_STATUS;
-        best.offer_unless(alloc, is_kept, Fault::BadStatus, "", status.at)?;
+        best.offer_unless(is_kept, Fault::BadStatus, "", status.at);
     }
-    Ok(())
 }
 
 /// Exit statuses differ.
 pub fn repeated_statuses(
     alloc: Global,
-    best: &mut Best,
+    best: &mut Best<'_>,
     definition: &Definition,
 ) -> Result<(), AllocError>
     ensures { OnOk result (best.new ≡ least_after best.old (repeated_statuses definition.now)) }
@@ -98,7 +88,7 @@ pub fn repeated_statuses(
     repeated_codes(alloc, best, head_of(definition).codes.as_slice())
 }
 
-fn repeated_codes(alloc: Global, best: &mut Best, codes: &[ExitCode]) -> Result<(), AllocError>
+fn repeated_codes(alloc: Global, best: &mut Best<'_>, codes: &[ExitCode]) -> Result<(), AllocError>
     ensures { OnOk result (best.new ≡ least_after best.old (repeated_statuses_after [] (map (λ c. c.status) codes.now))) }
 {
     let mut statuses = Statuses::new(alloc);
@@ -111,7 +101,7 @@ fn repeated_codes(alloc: Global, best: &mut Best, codes: &[ExitCode]) -> Result<
 /// Adds a status to those before it, and finds it where it is one of them.
 fn meet_status(
     alloc: Global,
-    best: &mut Best,
+    best: &mut Best<'_>,
     statuses: &mut Statuses,
     status: Number,
 ) -> Result<(), AllocError>
@@ -119,8 +109,8 @@ fn meet_status(
     ensures statuses { OnOk result (AgreeAt is_status statuses.new (statuses.old ++ status.value ∷ [])) }
 {
     if !statuses.add(status.value)? {
-        let digits = format!(in alloc; "{}", status.value)?;
-        best.offer(alloc, Fault::Twice, digits.as_str(), status.at)?;
+        let digits = Text::of_string(format!(in alloc; "{}", status.value)?)?;
+        best.offer_told(Fault::Twice, Told::Digits(digits), status.at);
     }
     Ok(())
 }

@@ -1,217 +1,129 @@
-ghost use Rattle.std.specs.Prelude.{◌≡◌, ◌∷◌, ◌++◌, [], map, flat_map, OnOk, IfOk};
-ghost use Rattle.wc_syntax.specs.Mentions.{mentions, mentioned, rule_mentions};
-ghost use Rattle.wc_syntax.specs.Findings.{names_of, long_name, long_names, mentioned_names, piece_mentions, piece_names, rule_name, stmt_names};
-ghost use Rattle.wc_check.specs.Flat.{behind, seen_mention, seen_mentions, seen_piece, seen_pieces};
+ghost use Rattle.std.specs.Prelude.{◌≡◌, ◌∷◌, ◌++◌, map, flat_map};
+ghost use Rattle.wc_syntax.specs.Findings.{long_name, long_names, piece_names, rule_name, stmt_names};
+ghost use Rattle.wc_check.specs.Flat.{seen_piece, seen_pieces};
 ghost use Rattle.wc_check.specs.Least.{least_after};
+ghost use Rattle.wc_check.specs.Sought.{long_in_rule, long_in_piece};
 
 use crate::best::{Best, Fault};
-use crate::mentions::{Mention, mentions_of, mentions_of_piece, mentions_of_rule};
+use crate::mentions::{Search, find_in_lines, find_in_piece, find_in_rule};
 use crate::parts::Parts;
 use crate::pieces::Piece;
-use crate::puts::put_name;
 use crate::repeats::head_of;
-use std::alloc::{AllocError, Global};
-use wc_syntax::{CallArg, Expr, Head, Name, Port, Rule, Stmt};
+use wc_syntax::{CallArg, Head, Name, Port, Rule, Stmt};
 
 const MOST_NAME_BYTES: usize = 64;
 
-/// Every name in a definition.
-fn names_of<'a>(alloc: Global, parts: &Parts<'a>) -> Result<Vec<&'a Name>, AllocError>
-    ensures { IfOk result (λ ns. behind ns.items ≡ names_of parts.now) }
+/// Names have at most 64 bytes.
+pub fn long_names<'a>(best: &mut Best<'a>, parts: &Parts<'a>)
+    ensures { best.new ≡ least_after best.old (long_names parts.now) }
 {
-    let mut found = Vec::new(alloc);
-    put_names(alloc, &mut found, parts)?;
-    Ok(found)
+    long_in_head(best, head_of(parts.definition()));
+    find_in_lines(best, &Search::Long, parts.definition());
+    long_in_rules(best, parts.rules());
+    long_in_pieces(best, parts.pieces());
 }
 
-fn put_names<'a>(
-    alloc: Global,
-    found: &mut Vec<&'a Name>,
-    parts: &Parts<'a>,
-) -> Result<(), AllocError>
-    ensures { OnOk result (behind found.new.items ≡ behind found.old.items ++ names_of parts.now) }
+/// Finds a name that has too many bytes.
+pub fn long_name<'a>(best: &mut Best<'a>, name: &'a Name)
+    ensures { best.new ≡ least_after best.old (long_name name.now) }
 {
-    put_head_names(found, head_of(parts.definition()))?;
-    put_exprs(alloc, found, parts.lines())?;
-    put_rules(alloc, found, parts.rules())?;
-    put_pieces(alloc, found, parts.pieces())?;
-    Ok(())
+    let is_short = name.text.bytes().len() <= MOST_NAME_BYTES;
+    best.offer_unless(is_short, Fault::BadName, name.text.as_str(), name.at);
 }
 
-fn put_head_names<'a>(found: &mut Vec<&'a Name>, head: &'a Head) -> Result<(), AllocError>
-    ensures { OnOk result (behind found.new.items ≡ behind found.old.items ++ (head.now.name ∷ map (λ p. p.name) (head.now.inputs ++ head.now.outputs))) }
+#[tactic(auto, using(crate::proofs::Leasts::least_joined))]
+fn long_in_head<'a>(best: &mut Best<'a>, head: &'a Head)
+    ensures { best.new ≡ least_after best.old (long_name head.now.name ++ (flat_map (λ p. long_name p.name) head.now.inputs ++ flat_map (λ p. long_name p.name) head.now.outputs)) }
 {
-    put_name(found, &head.name)?;
-    put_ports(found, head.inputs.as_slice())?;
-    put_ports(found, head.outputs.as_slice())?;
-    Ok(())
+    long_name(best, &head.name);
+    long_in_ports(best, head.inputs.as_slice());
+    long_in_ports(best, head.outputs.as_slice());
 }
 
-fn put_ports<'a>(found: &mut Vec<&'a Name>, ports: &'a [Port]) -> Result<(), AllocError>
-    ensures { OnOk result (behind found.new.items ≡ behind found.old.items ++ map (λ p. p.name) ports.now) }
+fn long_in_ports<'a>(best: &mut Best<'a>, ports: &'a [Port])
+    ensures { best.new ≡ least_after best.old (flat_map (λ p. long_name p.name) ports.now) }
 {
     for port in ports {
-        put_name(found, &port.name)?;
-    }
-    Ok(())
-}
-
-fn put_mentioned<'a>(found: &mut Vec<&'a Name>, mentions: &[Mention<'a>]) -> Result<(), AllocError>
-    ensures { OnOk result (behind found.new.items ≡ behind found.old.items ++ mentioned_names (seen_mentions mentions.now)) }
-{
-    for mention in mentions {
-        put_name(found, mentioned(mention))?;
-    }
-    Ok(())
-}
-
-fn mentioned<'a>(mention: &Mention<'a>) -> &'a Name
-    ensures { result.now ≡ mentioned (seen_mention mention.now) }
-{
-    match *mention {
-        Mention::Bare(name) => name,
-        Mention::Given(name) => name,
-        Mention::Input(_, name) => name,
-        Mention::Context(_, name) => name,
-        Mention::Label(name) => name,
+        long_name(best, &port.name);
     }
 }
 
-fn put_expr<'a>(alloc: Global, found: &mut Vec<&'a Name>, value: &'a Expr) -> Result<(), AllocError>
-    ensures { OnOk result (behind found.new.items ≡ behind found.old.items ++ mentioned_names (mentions value.now)) }
-{
-    let mentions = mentions_of(alloc, value)?;
-    put_mentioned(found, mentions.as_slice())
-}
-
-fn put_exprs<'a>(
-    alloc: Global,
-    found: &mut Vec<&'a Name>,
-    values: &[&'a Expr],
-) -> Result<(), AllocError>
-    ensures { OnOk result (behind found.new.items ≡ behind found.old.items ++ flat_map (λ e. mentioned_names (mentions e)) (behind values.now)) }
-{
-    for value in values {
-        put_expr(alloc, found, *value)?;
-    }
-    Ok(())
-}
-
-fn put_rule<'a>(alloc: Global, found: &mut Vec<&'a Name>, rule: &'a Rule) -> Result<(), AllocError>
-    ensures { OnOk result (behind found.new.items ≡ behind found.old.items ++ (rule_name rule.now ++ mentioned_names (rule_mentions rule.now))) }
-{
-    put_rule_name(found, rule)?;
-    let mentions = mentions_of_rule(alloc, rule)?;
-    put_mentioned(found, mentions.as_slice())?;
-    Ok(())
-}
-
-fn put_rule_name<'a>(found: &mut Vec<&'a Name>, rule: &'a Rule) -> Result<(), AllocError>
-    ensures { OnOk result (behind found.new.items ≡ behind found.old.items ++ rule_name rule.now) }
+#[tactic(auto, using(crate::proofs::Leasts::least_ended))]
+fn long_rule_name<'a>(best: &mut Best<'a>, rule: &'a Rule)
+    ensures { best.new ≡ least_after best.old (flat_map long_name (rule_name rule.now)) }
 {
     match rule {
-        Rule::Let(_, name, _) => put_name(found, name),
-        Rule::Out(_, name, _) => put_name(found, name),
-        Rule::Exit(_) => Ok(()),
+        Rule::Let(_, name, _) => long_name(best, name),
+        Rule::Out(_, name, _) => long_name(best, name),
+        Rule::Exit(_) => {}
     }
 }
 
-fn put_rules<'a>(
-    alloc: Global,
-    found: &mut Vec<&'a Name>,
-    rules: &'a [Rule],
-) -> Result<(), AllocError>
-    ensures { OnOk result (behind found.new.items ≡ behind found.old.items ++ flat_map (λ r. rule_name r ++ mentioned_names (rule_mentions r)) rules.now) }
+#[tactic(auto, using(crate::proofs::Leasts::least_joined))]
+fn long_in_rule<'a>(best: &mut Best<'a>, rule: &'a Rule)
+    ensures { best.new ≡ least_after best.old (long_in_rule rule.now) }
+{
+    long_rule_name(best, rule);
+    find_in_rule(best, &Search::Long, rule);
+}
+
+fn long_in_rules<'a>(best: &mut Best<'a>, rules: &'a [Rule])
+    ensures { best.new ≡ least_after best.old (flat_map long_in_rule rules.now) }
 {
     for rule in rules {
-        put_rule(alloc, found, rule)?;
-    }
-    Ok(())
-}
-
-fn put_piece<'a>(
-    alloc: Global,
-    found: &mut Vec<&'a Name>,
-    piece: Piece<'a>,
-) -> Result<(), AllocError>
-    ensures { OnOk result (behind found.new.items ≡ behind found.old.items ++ (piece_names (seen_piece piece.entry) ++ mentioned_names (piece_mentions (seen_piece piece.entry)))) }
-{
-    put_piece_names(found, piece)?;
-    let mentions = mentions_of_piece(alloc, piece)?;
-    put_mentioned(found, mentions.as_slice())?;
-    Ok(())
-}
-
-fn put_piece_names<'a>(found: &mut Vec<&'a Name>, piece: Piece<'a>) -> Result<(), AllocError>
-    ensures { OnOk result (behind found.new.items ≡ behind found.old.items ++ piece_names (seen_piece piece.entry)) }
-{
-    match piece {
-        Piece::Begins(_) => Ok(()),
-        Piece::Named(name) => put_name(found, name),
-        Piece::Does(stmt) => put_stmt_names(found, stmt),
-        Piece::Tests(_) => Ok(()),
-        Piece::Returns(_) => Ok(()),
+        long_in_rule(best, rule);
     }
 }
 
-fn put_stmt_names<'a>(found: &mut Vec<&'a Name>, stmt: &'a Stmt) -> Result<(), AllocError>
-    ensures { OnOk result (behind found.new.items ≡ behind found.old.items ++ stmt_names stmt.now) }
+fn long_in_args<'a>(best: &mut Best<'a>, args: &'a [CallArg])
+    ensures { best.new ≡ least_after best.old (flat_map long_name (map (λ a. a.port) args.now)) }
+{
+    for arg in args {
+        long_name(best, &arg.port);
+    }
+}
+
+#[tactic(auto, using(crate::proofs::Leasts::least_ended, crate::proofs::Leasts::least_both))]
+fn long_stmt_names<'a>(best: &mut Best<'a>, stmt: &'a Stmt)
+    ensures { best.new ≡ least_after best.old (flat_map long_name (stmt_names stmt.now)) }
 {
     match stmt {
-        Stmt::Ctx(_, name, _) => put_name(found, name),
-        Stmt::Out(_, name, _) => put_name(found, name),
-        Stmt::Exit(_) => Ok(()),
+        Stmt::Ctx(_, name, _) => long_name(best, name),
+        Stmt::Out(_, name, _) => long_name(best, name),
+        Stmt::Exit(_) => {}
         Stmt::Call(call) => {
-            put_name(found, &call.callee)?;
-            put_args(found, call.args.as_slice())?;
-            put_name(found, &call.key)?;
-            Ok(())
+            long_name(best, &call.callee);
+            long_in_args(best, call.args.as_slice());
+            long_name(best, &call.key);
         }
     }
 }
 
-fn put_args<'a>(found: &mut Vec<&'a Name>, args: &'a [CallArg]) -> Result<(), AllocError>
-    ensures { OnOk result (behind found.new.items ≡ behind found.old.items ++ map (λ a. a.port) args.now) }
+#[tactic(auto, using(crate::proofs::Leasts::least_ended))]
+fn long_piece_names<'a>(best: &mut Best<'a>, piece: Piece<'a>)
+    ensures { best.new ≡ least_after best.old (flat_map long_name (piece_names (seen_piece piece.entry))) }
 {
-    for arg in args {
-        put_name(found, &arg.port)?;
+    match piece {
+        Piece::Begins(_) => {}
+        Piece::Named(name) => long_name(best, name),
+        Piece::Does(stmt) => long_stmt_names(best, stmt),
+        Piece::Tests(_) => {}
+        Piece::Returns(_) => {}
     }
-    Ok(())
 }
 
-fn put_pieces<'a>(
-    alloc: Global,
-    found: &mut Vec<&'a Name>,
-    pieces: &[Piece<'a>],
-) -> Result<(), AllocError>
-    ensures { OnOk result (behind found.new.items ≡ behind found.old.items ++ flat_map (λ p. piece_names p ++ mentioned_names (piece_mentions p)) (seen_pieces pieces.now)) }
+#[tactic(auto, using(crate::proofs::Leasts::least_joined))]
+fn long_in_piece<'a>(best: &mut Best<'a>, piece: Piece<'a>)
+    ensures { best.new ≡ least_after best.old (long_in_piece (seen_piece piece.entry)) }
+{
+    long_piece_names(best, piece);
+    find_in_piece(best, &Search::Long, piece);
+}
+
+fn long_in_pieces<'a>(best: &mut Best<'a>, pieces: &[Piece<'a>])
+    ensures { best.new ≡ least_after best.old (flat_map long_in_piece (seen_pieces pieces.now)) }
 {
     for piece in pieces {
-        put_piece(alloc, found, *piece)?;
+        long_in_piece(best, *piece);
     }
-    Ok(())
-}
-
-fn long_name(alloc: Global, best: &mut Best, name: &Name) -> Result<(), AllocError>
-    ensures { OnOk result (best.new ≡ least_after best.old (long_name name.now)) }
-{
-    let is_short = name.text.bytes().len() <= MOST_NAME_BYTES;
-    best.offer_unless(alloc, is_short, Fault::BadName, name.text.as_str(), name.at)
-}
-
-fn long_among(alloc: Global, best: &mut Best, names: &[&Name]) -> Result<(), AllocError>
-    ensures { OnOk result (best.new ≡ least_after best.old (flat_map long_name (behind names.now))) }
-{
-    for name in names {
-        long_name(alloc, best, *name)?;
-    }
-    Ok(())
-}
-
-/// Names have at most 64 bytes.
-pub fn long_names(alloc: Global, best: &mut Best, parts: &Parts<'_>) -> Result<(), AllocError>
-    ensures { OnOk result (best.new ≡ least_after best.old (long_names parts.now)) }
-{
-    let names = names_of(alloc, parts)?;
-    long_among(alloc, best, names.as_slice())
 }

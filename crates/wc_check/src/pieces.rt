@@ -1,8 +1,7 @@
-ghost use Rattle.std.specs.Prelude.{◌≡◌, ◌++◌, map, flat_map, OnOk, IfOk};
+ghost use Rattle.std.specs.Prelude.{◌≡◌, [], ◌∷◌, ◌++◌, map, flat_map, OnOk, IfOk};
 ghost use Rattle.wc_syntax.specs.Mentions.{Does, pieces, step_pieces};
-ghost use Rattle.wc_check.specs.Flat.{seen_pieces, pieces_of_instr, pieces_of_arm};
+ghost use Rattle.wc_check.specs.Flat.{seen_piece, seen_pieces, pieces_of_instr, pieces_of_arm};
 
-use crate::puts::put_piece;
 use std::alloc::{AllocError, Global};
 use wc_syntax::{Arms, Block, Expr, Instr, Name, Number, Step, Stmt};
 
@@ -28,6 +27,14 @@ pub fn pieces_of_block<'a>(alloc: Global, outline: &'a Block) -> Result<Vec<Piec
     let mut found = Vec::new(alloc);
     put_block(&mut found, outline)?;
     Ok(found)
+}
+
+/// Puts a piece at the end.
+fn put_piece<'a>(found: &mut Vec<Piece<'a>>, piece: Piece<'a>) -> Result<(), AllocError>
+    ensures { OnOk result (seen_pieces found.new.items ≡ seen_pieces found.old.items ++ seen_piece piece.entry ∷ []) }
+{
+    found.push(piece)?;
+    Ok(())
 }
 
 #[cycle(pieces)]

@@ -105,24 +105,24 @@ impl Placed for Definition {
 }
 
 /// Adds a name to those before it, and finds it where it is one of them.
-pub fn meet(
+pub fn meet<'a>(
     alloc: Global,
-    best: &mut Best,
+    best: &mut Best<'a>,
     names: &mut Names,
-    name: &str,
+    name: &'a str,
     at: u32,
 ) -> Result<(), AllocError>
     ensures best { OnOk result (best.new ≡ least_after best.old (unless (not (is_among name.now names.old)) (twice name.now at))) }
     ensures names { OnOk result (Agree names.new (names.old ++ name.now ∷ [])) }
 {
     if !names.add(alloc, name)? {
-        best.offer(alloc, Fault::Twice, name, at)?;
+        best.offer(Fault::Twice, name, at);
     }
     Ok(())
 }
 
 /// Finds each name that one of those before it has.
-pub fn repeats<T: Placed>(alloc: Global, best: &mut Best, items: &[T]) -> Result<(), AllocError>
+pub fn repeats<'a, T: Placed>(alloc: Global, best: &mut Best<'a>, items: &'a [T]) -> Result<(), AllocError>
     ensures { OnOk result (best.new ≡ least_after best.old (repeats (map T.placed items.now))) }
 {
     let mut names = Names::new(alloc);

@@ -1,18 +1,20 @@
-ghost use Rattle.std.specs.Prelude.{◌≡◌, ◌++◌, length, map, flat_map, OnOk, IfOk, ◌<◌};
-ghost use Rattle.wc_syntax.specs.Findings.{over, over_counts, over_definitions, head_of, is_data, stmt_data, not_nodes, unknown_output, unknown_outputs, undeclared, bad_exits};
+ghost use Rattle.std.specs.Prelude.{◌≡◌, ◌++◌, map, flat_map, OnOk};
+ghost use Rattle.wc_syntax.specs.Findings.{over, over_counts, over_definitions, is_data, not_nodes, unknown_output, unknown_outputs, undeclared, bad_exits, rule_output, rule_status, piece_status};
 ghost use Rattle.wc_syntax.specs.declared.expression.Form.{out-Form};
-ghost use Rattle.wc_check.specs.Flat.{behind};
+ghost use Rattle.wc_check.specs.Flat.{seen_piece, seen_pieces};
 ghost use Rattle.wc_check.specs.Least.{least_after};
+ghost use Rattle.wc_check.specs.Sought.{outputs_at};
 
 use crate::best::{Best, Fault};
-use crate::gather::{outputs_set, places, statuses_given};
 use crate::heads::declared;
 use crate::names::Names;
 use crate::parts::Parts;
+use crate::pieces::Piece;
+use crate::places::places;
 use crate::repeats::{head_of, names_of};
 use crate::statuses::Statuses;
 use std::alloc::{AllocError, Global};
-use wc_syntax::{ChildPart, Definition, ExitCode, Expr, Form, Name, Number, Port, Stmt};
+use wc_syntax::{ChildPart, Definition, ExitCode, Expr, Form, Name, Number, Port, Rule, Stmt};
 
 const MOST_DEFINITIONS: usize = 64;
 
@@ -22,77 +24,30 @@ const MOST_CODES: usize = 64;
 
 const MOST_ITEMS: usize = 512;
 
-fn unknown_output(
-    alloc: Global,
-    best: &mut Best,
-    outputs: &Names,
-    name: &Name,
-) -> Result<(), AllocError>
-    ensures { OnOk result (best.new ≡ least_after best.old (unknown_output outputs.now name.now)) }
+fn unknown_output<'a>(best: &mut Best<'a>, outputs: &Names, name: &'a Name)
+    ensures { best.new ≡ least_after best.old (unknown_output outputs.now name.now) }
 {
     let text = name.text.as_str();
-    best.offer_unless(alloc, outputs.has(text), Fault::Unknown, text, name.at)
+    best.offer_unless(outputs.has(text), Fault::Unknown, text, name.at);
 }
 
-fn unknown_among(
-    alloc: Global,
-    best: &mut Best,
-    outputs: &Names,
-    names: &[&Name],
-) -> Result<(), AllocError>
-    ensures { OnOk result (best.new ≡ least_after best.old (flat_map (unknown_output outputs.now) (behind names.now))) }
+#[tactic(auto, using(crate::proofs::Leasts::least_ended))]
+fn output_of_rule<'a>(best: &mut Best<'a>, outputs: &Names, rule: &'a Rule)
+    ensures { best.new ≡ least_after best.old (flat_map (unknown_output outputs.now) (rule_output rule.now)) }
 {
-    for name in names {
-        unknown_output(alloc, best, outputs, *name)?;
+    match rule {
+        Rule::Let(_, _, _) => {}
+        Rule::Out(_, name, _) => unknown_output(best, outputs, name),
+        Rule::Exit(_) => {}
     }
-    Ok(())
 }
 
-/// `out` names an output port.
-#[tactic(auto, using(crate::proofs::Ruled::outputs_all))]
-pub fn unknown_outputs(alloc: Global, best: &mut Best, parts: &Parts<'_>) -> Result<(), AllocError>
-    ensures { OnOk result (best.new ≡ least_after best.old (unknown_outputs parts.now)) }
+fn outputs_of_rules<'a>(best: &mut Best<'a>, outputs: &Names, rules: &'a [Rule])
+    ensures { best.new ≡ least_after best.old (flat_map (λ r. flat_map (unknown_output outputs.now) (rule_output r)) rules.now) }
 {
-    let outputs = names_of(alloc, head_of(parts.definition()).outputs.as_slice())?;
-    let names = outputs_set(alloc, parts)?;
-    unknown_among(alloc, best, &outputs, names.as_slice())?;
-    Ok(())
-}
-
-fn undeclared(
-    alloc: Global,
-    best: &mut Best,
-    declared: &Statuses,
-    status: Number,
-) -> Result<(), AllocError>
-    ensures { OnOk result (best.new ≡ least_after best.old (undeclared declared.now status)) }
-{
-    let is_known = status.value == 0 || declared.has(status.value);
-    best.offer_unless(alloc, is_known, Fault::BadStatus, "", status.at)
-}
-
-fn undeclared_among(
-    alloc: Global,
-    best: &mut Best,
-    declared: &Statuses,
-    statuses: &[Number],
-) -> Result<(), AllocError>
-    ensures { OnOk result (best.new ≡ least_after best.old (flat_map (undeclared declared.now) statuses.now)) }
-{
-    for status in statuses {
-        undeclared(alloc, best, declared, *status)?;
+    for rule in rules {
+        output_of_rule(best, outputs, rule);
     }
-    Ok(())
-}
-
-/// A number after `exit` or `return` is 0 or declared.
-pub fn bad_exits(alloc: Global, best: &mut Best, parts: &Parts<'_>) -> Result<(), AllocError>
-    ensures { OnOk result (best.new ≡ least_after best.old (bad_exits parts.now)) }
-{
-    let declared = declared(alloc, parts.definition())?;
-    let statuses = statuses_given(alloc, parts)?;
-    undeclared_among(alloc, best, &declared, statuses.as_slice())?;
-    Ok(())
 }
 
 /// Whether an expression passes a node: `inputs.N`, or a path that ends in `outputs.N`.
@@ -110,91 +65,139 @@ fn is_data(value: &Expr) -> bool
     }
 }
 
-fn stmt_data(alloc: Global, best: &mut Best, stmt: &Stmt) -> Result<(), AllocError>
-    ensures { OnOk result (best.new ≡ least_after best.old (stmt_data stmt.now)) }
+/// Finds an output of a work chain that names no output port, or that isn't data.
+#[tactic(auto, using(crate::proofs::Leasts::least_ended, crate::proofs::Leasts::least_joined))]
+fn output_of_piece<'a>(best: &mut Best<'a>, outputs: &Names, piece: Piece<'a>)
+    ensures { best.new ≡ least_after best.old (outputs_at outputs.now (seen_piece piece.entry)) }
 {
-    match stmt {
-        Stmt::Ctx(_, _, _) => Ok(()),
-        Stmt::Out(_, _, value) => {
-            best.offer_unless(alloc, is_data(value), Fault::NotData, "", value.at)
-        }
-        Stmt::Exit(_) => Ok(()),
-        Stmt::Call(_) => Ok(()),
+    if let Piece::Does(Stmt::Out(_, name, value)) = piece {
+        unknown_output(best, outputs, name);
+        best.offer_unless(is_data(value), Fault::NotData, "", value.at);
     }
 }
 
-fn not_data_among(alloc: Global, best: &mut Best, stmts: &[&Stmt]) -> Result<(), AllocError>
-    ensures { OnOk result (best.new ≡ least_after best.old (flat_map stmt_data (behind stmts.now))) }
+fn outputs_of_pieces<'a>(best: &mut Best<'a>, outputs: &Names, pieces: &[Piece<'a>])
+    ensures { best.new ≡ least_after best.old (flat_map (outputs_at outputs.now) (seen_pieces pieces.now)) }
 {
-    for stmt in stmts {
-        stmt_data(alloc, best, *stmt)?;
+    for piece in pieces {
+        output_of_piece(best, outputs, *piece);
     }
+}
+
+/// `out` names an output port, and its expression in a work chain is `inputs.N`, or a path that ends in `outputs.N`.
+pub fn bad_outputs<'a>(alloc: Global, best: &mut Best<'a>, parts: &Parts<'a>) -> Result<(), AllocError>
+    ensures { OnOk result (best.new ≡ least_after best.old (unknown_outputs parts.now ++ not_nodes parts.now)) }
+{
+    let outputs = names_of(alloc, head_of(parts.definition()).outputs.as_slice())?;
+    outputs_of_rules(best, &outputs, parts.rules());
+    outputs_of_pieces(best, &outputs, parts.pieces());
     Ok(())
 }
 
-/// The expression of `out` in a work chain is `inputs.N`, or a path that ends in `outputs.N`.
-pub fn not_nodes(alloc: Global, best: &mut Best, parts: &Parts<'_>) -> Result<(), AllocError>
-    ensures { OnOk result (best.new ≡ least_after best.old (not_nodes parts.now)) }
+fn undeclared(best: &mut Best<'_>, declared: &Statuses, status: Number)
+    ensures { best.new ≡ least_after best.old (undeclared declared.now status) }
 {
-    not_data_among(alloc, best, parts.stmts())
+    let is_known = status.value == 0 || declared.has(status.value);
+    best.offer_unless(is_known, Fault::BadStatus, "", status.at);
 }
 
-fn over_ports(alloc: Global, best: &mut Best, ports: &[Port]) -> Result<(), AllocError>
-    ensures { OnOk result (best.new ≡ least_after best.old (over 32 (map (λ p. p.at) ports.now))) }
+#[tactic(auto, using(crate::proofs::Leasts::least_ended))]
+fn exit_of_rule(best: &mut Best<'_>, declared: &Statuses, rule: &Rule)
+    ensures { best.new ≡ least_after best.old (flat_map (undeclared declared.now) (rule_status rule.now)) }
+{
+    match rule {
+        Rule::Let(_, _, _) => {}
+        Rule::Out(_, _, _) => {}
+        Rule::Exit(exit) => undeclared(best, declared, exit.status),
+    }
+}
+
+fn exits_of_rules(best: &mut Best<'_>, declared: &Statuses, rules: &[Rule])
+    ensures { best.new ≡ least_after best.old (flat_map (λ r. flat_map (undeclared declared.now) (rule_status r)) rules.now) }
+{
+    for rule in rules {
+        exit_of_rule(best, declared, rule);
+    }
+}
+
+#[tactic(auto, using(crate::proofs::Leasts::least_ended))]
+fn exit_of_piece(best: &mut Best<'_>, declared: &Statuses, piece: &Piece<'_>)
+    ensures { best.new ≡ least_after best.old (flat_map (undeclared declared.now) (piece_status (seen_piece piece.now))) }
+{
+    match *piece {
+        Piece::Begins(_) => {}
+        Piece::Named(_) => {}
+        Piece::Does(stmt) => {
+            if let Stmt::Exit(exit) = stmt {
+                undeclared(best, declared, exit.status);
+            }
+        }
+        Piece::Tests(_) => {}
+        Piece::Returns(status) => undeclared(best, declared, *status),
+    }
+}
+
+fn exits_of_pieces(best: &mut Best<'_>, declared: &Statuses, pieces: &[Piece<'_>])
+    ensures { best.new ≡ least_after best.old (flat_map (λ p. flat_map (undeclared declared.now) (piece_status p)) (seen_pieces pieces.now)) }
+{
+    for piece in pieces {
+        exit_of_piece(best, declared, piece);
+    }
+}
+
+/// A number after `exit` or `return` is 0 or declared.
+pub fn bad_exits(alloc: Global, best: &mut Best<'_>, parts: &Parts<'_>) -> Result<(), AllocError>
+    ensures { OnOk result (best.new ≡ least_after best.old (bad_exits parts.now)) }
+{
+    let declared = declared(alloc, parts.definition())?;
+    exits_of_rules(best, &declared, parts.rules());
+    exits_of_pieces(best, &declared, parts.pieces());
+    Ok(())
+}
+
+fn over_ports(best: &mut Best<'_>, ports: &[Port])
+    ensures { best.new ≡ least_after best.old (over 32 (map (λ p. p.at) ports.now)) }
 {
     if ports.len() > MOST_PORTS {
-        best.offer(alloc, Fault::TooMany, "", ports[MOST_PORTS].at)?;
+        best.offer(Fault::TooMany, "", ports[MOST_PORTS].at);
     }
-    Ok(())
 }
 
-fn over_codes(alloc: Global, best: &mut Best, codes: &[ExitCode]) -> Result<(), AllocError>
-    ensures { OnOk result (best.new ≡ least_after best.old (over 64 (map (λ c. c.at) codes.now))) }
+fn over_codes(best: &mut Best<'_>, codes: &[ExitCode])
+    ensures { best.new ≡ least_after best.old (over 64 (map (λ c. c.at) codes.now)) }
 {
     if codes.len() > MOST_CODES {
-        best.offer(alloc, Fault::TooMany, "", codes[MOST_CODES].at)?;
+        best.offer(Fault::TooMany, "", codes[MOST_CODES].at);
     }
-    Ok(())
 }
 
-fn over_items(alloc: Global, best: &mut Best, places: &[u32]) -> Result<(), AllocError>
-    ensures { OnOk result (best.new ≡ least_after best.old (over 512 places.now)) }
+fn over_items(best: &mut Best<'_>, places: &[u32])
+    ensures { best.new ≡ least_after best.old (over 512 places.now) }
 {
     if places.len() > MOST_ITEMS {
-        best.offer(alloc, Fault::TooMany, "", places[MOST_ITEMS])?;
+        best.offer(Fault::TooMany, "", places[MOST_ITEMS]);
     }
-    Ok(())
 }
 
 /// At most 32 ports in a list, 64 exit codes, and 512 instructions, statements, rules and job lines together.
 #[tactic(auto, using(crate::proofs::Leasts::least_joined))]
-pub fn over_counts(alloc: Global, best: &mut Best, parts: &Parts<'_>) -> Result<(), AllocError>
+pub fn over_counts(alloc: Global, best: &mut Best<'_>, parts: &Parts<'_>) -> Result<(), AllocError>
     ensures { OnOk result (best.new ≡ least_after best.old (over_counts parts.now)) }
 {
     let head = head_of(parts.definition());
     let places = places(alloc, parts)?;
-    over_ports(alloc, best, head.inputs.as_slice())?;
-    over_ports(alloc, best, head.outputs.as_slice())?;
-    over_codes(alloc, best, head.codes.as_slice())?;
-    over_items(alloc, best, places.as_slice())?;
+    over_ports(best, head.inputs.as_slice());
+    over_ports(best, head.outputs.as_slice());
+    over_codes(best, head.codes.as_slice());
+    over_items(best, places.as_slice());
     Ok(())
 }
 
 /// At most 64 definitions.
-pub fn over_definitions(
-    alloc: Global,
-    best: &mut Best,
-    library: &[Definition],
-) -> Result<(), AllocError>
-    ensures { OnOk result (best.new ≡ least_after best.old (over_definitions library.now)) }
+pub fn over_definitions(best: &mut Best<'_>, library: &[Definition])
+    ensures { best.new ≡ least_after best.old (over_definitions library.now) }
 {
     if library.len() > MOST_DEFINITIONS {
-        best.offer(
-            alloc,
-            Fault::TooMany,
-            "",
-            head_of(&library[MOST_DEFINITIONS]).at,
-        )?;
+        best.offer(Fault::TooMany, "", head_of(&library[MOST_DEFINITIONS]).at);
     }
-    Ok(())
 }

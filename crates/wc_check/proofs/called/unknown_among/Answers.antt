@@ -1,13 +1,6 @@
-use Rattle.std.proofs.Common.{◌∙◌, ◌+◌, ap, sym, drop}
-use Rattle.std.specs.Prelude.{flat_map}
-use Rattle.wc_syntax.specs.Findings.{unknown_of, called_ports}
-use Rattle.wc_check.specs.Flat.{behind}
-use Rattle.wc_check.specs.Least.{least_after}
-use Rattle.wc_check.proofs.Leasts.{drop_at, least_turn}
+use Rattle.wc_syntax.specs.Findings.{unknown_port}
+use Rattle.wc_check.proofs.Leasts.{least_step}
 use Rattle.wc_check.proofs.called.unknown_among.Goals as goal
 
-pub loop-call-preserved : goal.loop-call-preserved
-loop-call-preserved c =
-    least_turn (λ s. unknown_of s (called_ports c.args.signatures.now s)) c.loop-call.best c.unknown_of.new.best c.call-item.result.now (behind (drop (c.loop-call.call-index + 1) c.args.calls.now)) c.in_ok-unknown_of.ensures
-    ∙ ap (λ vs. least_after c.loop-call.best (flat_map (λ s. unknown_of s (called_ports c.args.signatures.now s)) (behind vs))) (sym (drop_at c.args.calls.now c.loop-call.call-index c.call-item.result c.loop-call-test.true c.call-item.is))
-    ∙ c.loop-call.invariant
+pub loop-arg-preserved : goal.loop-arg-preserved
+loop-arg-preserved c = least_step (unknown_port c.args.ports.now) _ _ _ c.args.args.now _ c.arg-item.result c.loop-arg.invariant c.unknown_port.ensures c.loop-arg-test.true c.arg-item.is

@@ -1,9 +1,8 @@
 use Rattle.std.proofs.Common.{◌≡◌, drop}
 use Rattle.std.specs.Prelude.{flat_map}
-use Rattle.wc_syntax.specs.Findings.{unknown_of, called_ports}
-use Rattle.wc_check.specs.Flat.{behind}
+use Rattle.wc_syntax.specs.Findings.{unknown_port}
 use Rattle.wc_check.specs.Least.{least_after}
 use Rattle.wc_check.proofs.called.unknown_among.Given as goal
 
-abbrev pub invariant-loop-call : goal.invariant-loop-call
-invariant-loop-call l = least_after l.best (flat_map (λ c. unknown_of c (called_ports l.signatures c)) (behind (drop l.call-index l.calls))) ≡ least_after l.fn.best (flat_map (λ c. unknown_of c (called_ports l.signatures c)) (behind l.calls))
+abbrev pub invariant-loop-arg : goal.invariant-loop-arg
+invariant-loop-arg l = least_after l.best (flat_map (unknown_port l.ports) (drop l.arg-index l.args)) ≡ least_after l.fn.best (flat_map (unknown_port l.ports) l.args)

@@ -1,6 +1,0 @@
-use Rattle.wc_check.specs.Flat.{seen_piece}
-use Rattle.wc_check.proofs.Gathered.{map_put}
-use Rattle.wc_check.proofs.puts.put_piece.Goals as goal
-
-pub returns : goal.returns
-returns c = map_put seen_piece _ _ _ c.in_ok-push.ensures.items

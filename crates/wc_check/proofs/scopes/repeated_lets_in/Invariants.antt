@@ -1,8 +1,0 @@
-use Rattle.std.proofs.Common.{◌≡◌, drop}
-use Rattle.wc_syntax.specs.Findings.{repeated_lets_in}
-use Rattle.wc_check.specs.Least.{least_after}
-use Rattle.wc_check.specs.Scopes.{scope_seen}
-use Rattle.wc_check.proofs.scopes.repeated_lets_in.Given as goal
-
-abbrev pub invariant-loop-rule : goal.invariant-loop-rule
-invariant-loop-rule l = least_after l.best (repeated_lets_in (scope_seen l.scope) (drop l.rule-index l.rules)) ≡ least_after l.fn.best (repeated_lets_in (scope_seen l.fn.scope) l.rules)

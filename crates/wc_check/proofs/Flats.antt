@@ -1,6 +1,6 @@
 -- One level of what an expression mentions, and of the pieces of an outline.
 use Rattle.std.proofs.Common.{◌≡◌, ℕ, List, [], ◌∷◌, ◌++◌, refl, sym, ap, ◌∙◌, map, append-nil, append_assoc}
-use Rattle.std.specs.Prelude.{flat_map, Option, Some, None}
+use Rattle.std.specs.Prelude.{flat_map, Some, None}
 use Rattle.wc_syntax.specs.declared.expression.Expr.{Expr, fold-roll-Expr}
 use Rattle.wc_syntax.specs.declared.expression.Form.{fold-Form, fold-roll-Form}
 use Rattle.wc_syntax.specs.declared.expression.Form.TheVariants as form

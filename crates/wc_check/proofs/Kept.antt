@@ -1,9 +1,9 @@
 -- A library keeps the rules exactly where nothing is found.
-use Rattle.std.proofs.Common.{◌≡◌, List, [], ◌∷◌, ◌++◌, refl, sym, ap, ◌∙◌}
+use Rattle.std.proofs.Common.{◌≡◌, List, [], ◌∷◌, ◌++◌, refl}
 use Rattle.std.specs.Prelude.{◌↔◌, flat_map}
 use Rattle.std.specs.List.{AllByRecursion}
 use Rattle.wc_syntax.specs.declared.definition.Definition.{Definition}
-use Rattle.wc_syntax.specs.Findings.{Finding, repeated_ports, reserved_ports, repeated_statuses, repeated_files, repeated_lets, unknown_names, unknown_outputs, unknown_callees, missing_ports, unknown_ports, repeated_arguments, not_nodes, bad_declared, bad_exits, over_counts, long_names, bad_file_names, repeated_definitions, over_definitions}
+use Rattle.wc_syntax.specs.Findings.{repeated_ports, reserved_ports, repeated_statuses, repeated_files, unknown_names, unknown_outputs, missing_ports, unknown_ports, not_nodes, bad_declared, bad_exits, over_counts, long_names, repeated_definitions, over_definitions}
 use Rattle.wc_syntax.specs.Checked.{IsCheckedDefinition, KeepsRules, repeated_in, unknown_to, ports_of_calls, misformed_in, findings_in, findings}
 
 none : {A : Type 0} (xs ys : List A) → xs ≡ [] → ys ≡ [] → xs ++ ys ≡ []

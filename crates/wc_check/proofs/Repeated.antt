@@ -1,5 +1,5 @@
 -- Names that stand twice, by what is known of those before.
-use Rattle.std.proofs.Common.{◌≡◌, ◌<◌, ℕ, ℤ, get_or, drop, List, [], ◌∷◌, ◌++◌, Bool, true, false, refl, sym, ap, ◌∙◌}
+use Rattle.std.proofs.Common.{◌≡◌, ℕ, ℤ, List, [], ◌∷◌, ◌++◌, Bool, true, false, refl, sym, ap, ◌∙◌}
 use Rattle.std.specs.Prelude.{◌||◌, not, Option}
 use Rattle.std.specs.Str.{bytes_eq}
 use Rattle.std.specs.Fmt.{signed_decimal}
@@ -7,7 +7,7 @@ use Rattle.std.specs.Ordering.{int_eq}
 use Rattle.std.specs.List.{list_any}
 use Rattle.wc_syntax.specs.declared.expression.Number.{Number}
 use Rattle.wc_syntax.specs.Findings.{Finding, is_among, is_status, unless, twice, repeats_after, repeated_statuses_after}
-use Rattle.wc_check.specs.Least.{Agree, AgreeAt, lesser, least_after}
+use Rattle.wc_check.specs.Least.{Agree, AgreeAt, least_after}
 use Rattle.wc_check.proofs.Leasts.{least_joined}
 
 pub any_append : {A : Type 0} (test : A → Bool) (xs zs : List A) → list_any test (xs ++ zs) ≡ (list_any test xs || list_any test zs)

@@ -1,6 +1,6 @@
 -- Rules over gathered lists.
-use Rattle.std.proofs.Common.{◌≡◌, ◌<◌, ◌≤◌, ℕ, ℤ, zero, suc, List, [], ◌∷◌, ◌++◌, Bool, refl, sym, ap, ◌∙◌, map, length, get_or, drop, drop-cons, take, arith}
-use Rattle.std.specs.Prelude.{Option, flat_map, not, ◌||◌}
+use Rattle.std.proofs.Common.{◌≡◌, ◌<◌, ◌≤◌, ℕ, ℤ, zero, suc, List, [], ◌∷◌, ◌++◌, refl, sym, ap, ◌∙◌, map, length, get_or, arith}
+use Rattle.std.specs.Prelude.{Option, flat_map, ◌||◌}
 use Rattle.std.specs.Ordering.{int_eq}
 use Rattle.std.specs.Prelude.{pos}
 use Rattle.std.proofs.lemmas.List.Concat.{flat_map-append}
@@ -12,7 +12,7 @@ use Rattle.wc_syntax.specs.declared.expression.Number.{Number}
 use Rattle.wc_syntax.specs.declared.outline.CallStmt.{CallStmt}
 use Rattle.wc_syntax.specs.Mentions.{Mention, Piece, mentions, mentioned, rule_mentions}
 use Rattle.wc_syntax.specs.Checked.{ports_of_calls, findings_in}
-use Rattle.wc_syntax.specs.Findings.{Finding, is_among, is_status, unless, unknown, bad_status, too_many, unknown_output, unknown_outputs, undeclared, bad_exits, over, first_of, head_of, port_names, rules_of, stmts_of, stmt_of, call_of, calls_of, pieces_of, rule_output, stmt_output, stmt_data, not_nodes, rule_status, piece_status, declared_numbers, called_ports, callee_of, unknown_callees, missing_of, unknown_of, repeated_args, long_name, long_names, mentioned_names, line_exprs, rule_name, piece_names, piece_mentions, repeated_ports, reserved_ports, repeated_statuses, repeated_files, repeated_lets, unknown_names, bad_declared, over_counts, bad_file_names}
+use Rattle.wc_syntax.specs.Findings.{Finding, is_status, unless, unknown, bad_status, too_many, unknown_output, unknown_outputs, undeclared, bad_exits, over, head_of, port_names, rules_of, stmts_of, stmt_of, call_of, calls_of, pieces_of, rule_output, stmt_output, stmt_data, not_nodes, rule_status, piece_status, declared_numbers, called_ports, callee_of, unknown_callees, missing_of, unknown_of, repeated_args, long_name, long_names, mentioned_names, line_exprs, rule_name, piece_names, piece_mentions, repeated_ports, reserved_ports, repeated_statuses, repeated_files, repeated_lets, unknown_names, bad_declared, over_counts, bad_file_names}
 use Rattle.wc_check.specs.Least.{Agree, AgreeAt, least_after}
 use Rattle.wc_check.specs.Sought.{long_mention, long_in_rule, long_in_piece, outputs_at, call_found, calls_at}
 use Rattle.wc_check.proofs.Leasts.{least_joined, least_both, least_split, least_swapped}
@@ -105,7 +105,7 @@ long_all d rules ps best b₁ b₂ b₃ now m n p q r s =
     let outline = flat_map (λ p. piece_names p ++ mentioned_names (piece_mentions p)) (pieces_of d) in
     let heads = (head_of d).name ∷ map (λ p. p.name) (ins ++ outs) in
     let head : long_name (head_of d).name ++ (flat_map (λ p. long_name p.name) ins ++ flat_map (λ p. long_name p.name) outs) ≡ flat_map long_name heads =
-        ap (λ fs. long_name (head_of d).name ++ fs) (sym (flat_map-append (λ p. long_name p.name) ins outs) ∙ sym (flat_map-map long_name (λ p. p.name) (ins ++ outs))) in
+    ap (λ fs. long_name (head_of d).name ++ fs) (sym (flat_map-append (λ p. long_name p.name) ins outs) ∙ sym (flat_map-map long_name (λ p. p.name) (ins ++ outs))) in
     s ∙ (λ i. least_after (r i) (flat_map long_in_piece (n i)))
     ∙ (λ i. least_after (least_after (q i) (flat_map long_in_rule (m i))) (flat_map long_in_piece (pieces_of d)))
     ∙ (λ i. least_after (least_after (least_after (p i) (flat_map (λ e. flat_map long_mention (mentions e)) (line_exprs d))) (flat_map long_in_rule (rules_of d))) (flat_map long_in_piece (pieces_of d)))
@@ -129,9 +129,9 @@ findings_all library d ps best b₁ b₂ b₃ b₄ now n p q r s t =
     let calls = unknown_callees library d ++ ports_of_calls library d in
     let rest = bad_declared d ++ (bad_exits d ++ (over_counts d ++ (long_names d ++ bad_file_names d))) in
     let swapped : b₄ ≡ least_after (least_after (least_after b₂ (unknown_outputs d)) calls) (not_nodes d) =
-        s ∙ least_joined b₃ (unknown_outputs d) (not_nodes d) ∙ ap (λ b. least_after (least_after b (unknown_outputs d)) (not_nodes d)) (calls_all library d ps b₂ b₃ n r) ∙ ap (λ b. least_after b (not_nodes d)) (least_swapped b₂ calls (unknown_outputs d)) in
+    s ∙ least_joined b₃ (unknown_outputs d) (not_nodes d) ∙ ap (λ b. least_after (least_after b (unknown_outputs d)) (not_nodes d)) (calls_all library d ps b₂ b₃ n r) ∙ ap (λ b. least_after b (not_nodes d)) (least_swapped b₂ calls (unknown_outputs d)) in
     let chained : now ≡ least_after (least_after (least_after (least_after (least_after (least_after (least_after best (repeated_ports d ++ (reserved_ports d ++ (repeated_statuses d ++ repeated_files d)))) (repeated_lets d)) (unknown_names d)) (unknown_outputs d)) calls) (not_nodes d)) rest =
-        t ∙ ap (λ b. least_after b rest) (swapped ∙ ap (λ b. least_after (least_after (least_after b (unknown_outputs d)) calls) (not_nodes d)) (q ∙ least_joined b₁ (repeated_lets d) (unknown_names d) ∙ ap (λ b. least_after (least_after b (repeated_lets d)) (unknown_names d)) p)) in
+    t ∙ ap (λ b. least_after b rest) (swapped ∙ ap (λ b. least_after (least_after (least_after b (unknown_outputs d)) calls) (not_nodes d)) (q ∙ least_joined b₁ (repeated_lets d) (unknown_names d) ∙ ap (λ b. least_after (least_after b (repeated_lets d)) (unknown_names d)) p)) in
     chained ∙ regrouped best (repeated_ports d) (reserved_ports d) (repeated_statuses d) (repeated_files d) (repeated_lets d) (unknown_names d) (unknown_outputs d) (unknown_callees library d) (ports_of_calls library d) (not_nodes d) rest
 
 -- ---- counts

@@ -7,8 +7,6 @@ use Rattle.wc_syntax.specs.declared.definition.Rule.TheVariants as rule
 use Rattle.wc_syntax.specs.Mentions.{Mention, Bare, Given, Input, Context, Label, Piece, mentions, rule_mentions}
 use Rattle.wc_syntax.specs.Findings.{Finding, Scope, is_among, unless, unknown, twice, unknown_mention, unknown_in, unknown_in_rules, unknown_names, inputs_word, ctx_word, scope_after, let_repeats, repeated_lets_in, repeated_lets, scope_of, first_scope, inputs_of, result_names, reserved_in, is_chain, line_exprs, rules_of, pieces_of, piece_mentions}
 use Rattle.wc_syntax.specs.declared.definition.Definition.{Definition}
-use Rattle.wc_syntax.specs.declared.definition.Definition.TheVariants as definition
-use Rattle.wc_syntax.specs.declared.expression.Expr.{Expr}
 use Rattle.wc_check.specs.Least.{Agree, least_after}
 use Rattle.wc_check.specs.Scopes.{Alike, known_names}
 use Rattle.wc_check.specs.Sought.{unknown_outside}
@@ -119,7 +117,7 @@ pub outside : (d : Definition) (s : Scope) (best mid now : Option Finding) (ps :
 outside d s best mid now ps h n p q =
     q ∙ (λ i. least_after (p i) (flat_map (λ p. unknown_in s (piece_mentions p)) (n i)))
     ∙ (λ i. least_after (least_after best (flat_alike (λ e. unknown_in s (mentions e)) (λ e. unknown_in (scope_of d) (mentions e)) (λ e. unknown_alike s (scope_of d) h (mentions e)) (line_exprs d) i))
-          (flat_alike (λ p. unknown_in s (piece_mentions p)) (λ p. unknown_in (scope_of d) (piece_mentions p)) (λ p. unknown_alike s (scope_of d) h (piece_mentions p)) (pieces_of d) i))
+    (flat_alike (λ p. unknown_in s (piece_mentions p)) (λ p. unknown_in (scope_of d) (piece_mentions p)) (λ p. unknown_alike s (scope_of d) h (piece_mentions p)) (pieces_of d) i))
     ∙ sym (least_joined best (flat_map (λ e. unknown_in (scope_of d) (mentions e)) (line_exprs d)) (flat_map (λ p. unknown_in (scope_of d) (piece_mentions p)) (pieces_of d)))
 
 pub all_names : (d : Definition) (s : Scope) (rules : List Rule) (best mid now : Option Finding) → Alike s (first_scope d) → rules ≡ rules_of d → mid ≡ least_after best (unknown_outside d) → now ≡ in_rules mid s rules

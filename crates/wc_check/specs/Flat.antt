@@ -1,5 +1,5 @@
 -- What a library mentions, as the lists of references that the code makes of it.
-use Rattle.std.specs.Prelude.{ℕ, List, map}
+use Rattle.std.specs.Prelude.{List, map}
 use Rattle.std.specs.Borrow.{Bor}
 use Rattle.wc_syntax.specs.declared.outline.Arm.{Arm, fold-Arm}
 use Rattle.wc_syntax.specs.declared.outline.Instr.{Instr, fold-Instr}

@@ -1,5 +1,5 @@
 -- What a refusal of a library says.
-use Rattle.std.specs.Prelude.{◌≡◌, ℕ, List, [], Option, Some, None, ⊤}
+use Rattle.std.specs.Prelude.{◌≡◌, List, [], Option, Some, None, ⊤}
 use Rattle.wc_syntax.specs.declared.definition.Definition.{Definition}
 use Rattle.wc_syntax.specs.Findings.{Finding, twice, unknown, port_missing, port_unknown, bad_name}
 use Rattle.wc_syntax.specs.Checked.{findings}

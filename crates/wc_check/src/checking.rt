@@ -1,4 +1,4 @@
-ghost use Rattle.std.specs.Prelude.{◌≡◌, ◌++◌, List, None, flat_map, OnOk, IfOk, IfErr};
+ghost use Rattle.std.specs.Prelude.{◌≡◌, ◌++◌, None, flat_map, OnOk, IfOk, IfErr};
 ghost use Rattle.wc_syntax.specs.declared.definition.Definition.{Definition};
 ghost use Rattle.wc_syntax.specs.Bare.{bare_library};
 ghost use Rattle.wc_syntax.specs.Findings.{repeated_ports, reserved_ports, repeated_statuses, repeated_files, bad_declared, bad_exits, over_counts, long_names, bad_file_names};
@@ -23,7 +23,11 @@ use wc_syntax::{Checked, Definition, Library};
 
 /// Finds what stands twice among the ports, statuses and files of a definition.
 #[tactic(auto, using(crate::proofs::Leasts::least_joined))]
-fn repeated_in<'a>(alloc: Global, best: &mut Best<'a>, definition: &'a Definition) -> Result<(), AllocError>
+fn repeated_in<'a>(
+    alloc: Global,
+    best: &mut Best<'a>,
+    definition: &'a Definition,
+) -> Result<(), AllocError>
     ensures { OnOk result (best.new ≡ least_after best.old (repeated_ports definition.now ++ (reserved_ports definition.now ++ (repeated_statuses definition.now ++ repeated_files definition.now)))) }
 {
     repeated_ports(alloc, best, definition)?;

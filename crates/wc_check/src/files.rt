@@ -1,9 +1,10 @@
-ghost use Rattle.std.specs.Prelude.{◌≡◌, flat_map, map, OnOk};
+ghost use Rattle.std.specs.Prelude.{◌≡◌, flat_map, OnOk};
 ghost use Rattle.std.specs.List.{list_all};
 ghost use Rattle.wc_syntax.specs.Findings.{is_among, is_file_byte, is_file_name, output_files, bad_written, bad_fetched, bad_file_names, repeated_files};
 ghost use Rattle.wc_check.specs.Least.{least_after};
 
 use crate::best::{Best, Fault};
+use crate::names::is_either;
 use crate::repeats::repeats;
 use std::alloc::{AllocError, Global};
 use wc_syntax::{Definition, Fetch, JobFile};
@@ -68,7 +69,7 @@ fn bad_fetched<'a>(best: &mut Best<'a>, files: &'a [Fetch])
 fn is_output_file(name: &str) -> bool
     ensures { result ≡ is_among name.now output_files }
 {
-    name == "stdout.txt" || name == "stderr.txt"
+    is_either(name, "stdout.txt", "stderr.txt")
 }
 
 /// Whether a job's file may have this name.

@@ -4,6 +4,7 @@ ghost use Rattle.wc_syntax.specs.Findings.{is_among, is_status, result_names, he
 ghost use Rattle.wc_check.specs.Least.{least_after, AgreeAt};
 
 use crate::best::{Best, Fault, Told};
+use crate::names::is_either;
 use crate::repeats::{head_of, repeats};
 use crate::statuses::Statuses;
 use std::alloc::{AllocError, Global};
@@ -33,7 +34,7 @@ pub fn repeated_ports<'a>(
 pub fn is_reserved(name: &str) -> bool
     ensures { result ≡ is_among name.now result_names }
 {
-    name == "retrieved" || name == "code"
+    is_either(name, "retrieved", "code")
 }
 
 /// No port of a job is named `retrieved` or `code`.

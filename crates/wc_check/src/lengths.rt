@@ -1,4 +1,4 @@
-ghost use Rattle.std.specs.Prelude.{◌≡◌, ◌∷◌, ◌++◌, map, flat_map};
+ghost use Rattle.std.specs.Prelude.{◌≡◌, ◌++◌, map, flat_map};
 ghost use Rattle.wc_syntax.specs.Findings.{long_name, long_names, piece_names, rule_name, stmt_names};
 ghost use Rattle.wc_check.specs.Flat.{seen_piece, seen_pieces};
 ghost use Rattle.wc_check.specs.Least.{least_after};

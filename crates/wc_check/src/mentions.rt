@@ -9,7 +9,9 @@ use crate::best::Best;
 use crate::lengths::long_name;
 use crate::pieces::Piece;
 use crate::scopes::{Scope, unknown_mention};
-use wc_syntax::{CallArg, ChildPart, Definition, Expr, Exprs, Form, JobFile, JobLine, Name, Rule, Stmt};
+use wc_syntax::{
+    CallArg, ChildPart, Definition, Expr, Exprs, Form, JobFile, JobLine, Name, Rule, Stmt,
+};
 
 /// A name in an expression, and how it stands there. An offset is that of the word `inputs` or `ctx`.
 #[derive(Clone, Copy)]
@@ -128,11 +130,7 @@ pub fn find_in_rule<'a>(best: &mut Best<'a>, search: &Search<'_, '_>, rule: &'a 
     }
 }
 
-fn find_in_condition<'a>(
-    best: &mut Best<'a>,
-    search: &Search<'_, '_>,
-    condition: &'a Option<Expr>,
-)
+fn find_in_condition<'a>(best: &mut Best<'a>, search: &Search<'_, '_>, condition: &'a Option<Expr>)
     ensures { best.new ≡ least_after best.old (flat_map (found_at search.now) (condition_mentions condition.now)) }
 {
     match condition {

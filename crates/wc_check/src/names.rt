@@ -46,3 +46,10 @@ impl Names {
         Ok(self.set.insert(name)?)
     }
 }
+
+/// Whether a name is one of the two.
+pub fn is_either(name: &str, first: &str, second: &str) -> bool
+    ensures { result ≡ is_among name.now (first.now ∷ second.now ∷ []) }
+{
+    name == first || name == second
+}

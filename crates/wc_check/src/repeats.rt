@@ -122,7 +122,11 @@ pub fn meet<'a>(
 }
 
 /// Finds each name that one of those before it has.
-pub fn repeats<'a, T: Placed>(alloc: Global, best: &mut Best<'a>, items: &'a [T]) -> Result<(), AllocError>
+pub fn repeats<'a, T: Placed>(
+    alloc: Global,
+    best: &mut Best<'a>,
+    items: &'a [T],
+) -> Result<(), AllocError>
     ensures { OnOk result (best.new ≡ least_after best.old (repeats (map T.placed items.now))) }
 {
     let mut names = Names::new(alloc);

@@ -85,7 +85,11 @@ fn outputs_of_pieces<'a>(best: &mut Best<'a>, outputs: &Names, pieces: &[Piece<'
 }
 
 /// `out` names an output port, and its expression in a work chain is `inputs.N`, or a path that ends in `outputs.N`.
-pub fn bad_outputs<'a>(alloc: Global, best: &mut Best<'a>, parts: &Parts<'a>) -> Result<(), AllocError>
+pub fn bad_outputs<'a>(
+    alloc: Global,
+    best: &mut Best<'a>,
+    parts: &Parts<'a>,
+) -> Result<(), AllocError>
     ensures { OnOk result (best.new ≡ least_after best.old (unknown_outputs parts.now ++ not_nodes parts.now)) }
 {
     let outputs = names_of(alloc, head_of(parts.definition()).outputs.as_slice())?;

@@ -153,7 +153,11 @@ fn find_outside<'a>(alloc: Global, best: &mut Best<'a>, parts: &Parts<'a>)
 
 /// A `let` differs from the input ports and the lets before it, and in a job from `retrieved` and `code`; and each name in an
 /// expression is one that may stand there.
-pub fn unknown_names<'a>(alloc: Global, best: &mut Best<'a>, parts: &Parts<'a>) -> Result<(), AllocError>
+pub fn unknown_names<'a>(
+    alloc: Global,
+    best: &mut Best<'a>,
+    parts: &Parts<'a>,
+) -> Result<(), AllocError>
     ensures { OnOk result (best.new ≡ least_after best.old (repeated_lets parts.now ++ unknown_names parts.now)) }
 {
     find_outside(alloc, best, parts);

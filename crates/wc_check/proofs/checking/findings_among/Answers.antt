@@ -10,6 +10,6 @@ pub returns : goal.returns
 returns c =
     on_ok_weaker c.misformed_in.result
     (λ h. findings_all c.args.signatures.now c.args.parts.now (seen_pieces c.pieces.result.now) _ _ _ _ _ _ c.pieces.ensures
-        (c.in_ok-repeated_in.ensures ∙ ap (λ d. least_after c.args.best.now (repeated_ports d ++ (reserved_ports d ++ (repeated_statuses d ++ repeated_files d)))) c.definition.ensures)
-        c.in_ok-unknown_names.ensures c.in_ok-bad_calls.ensures c.in_ok-bad_outputs.ensures h)
+    (c.in_ok-repeated_in.ensures ∙ ap (λ d. least_after c.args.best.now (repeated_ports d ++ (reserved_ports d ++ (repeated_statuses d ++ repeated_files d)))) c.definition.ensures)
+    c.in_ok-unknown_names.ensures c.in_ok-bad_calls.ensures c.in_ok-bad_outputs.ensures h)
     c.misformed_in.ensures

@@ -24,14 +24,14 @@ find_in_expr-returns-in-Two t c =
 
 pub find_in_expr-returns-after-index : goal.find_in_expr-returns-after-index
 find_in_expr-returns-after-index t c = elim c.match-index.branch [
-    find_in_expr-in-Some w ↦
-        least_two (found_at c.args.search.now) _ _ _ (Context c.in-Child.at c.in-Child.name ∷ mentions w.in-Some.index) (part_mentions c.in-Child.part) _
-        (w.best-is ∙ least_two (found_at c.args.search.now) _ _ _ (Context c.in-Child.at c.in-Child.name ∷ []) (mentions w.in-Some.index) _ c.find_at-in-Child.ensures
-            (w.find_in_expr.ensures ∙ ap (λ e. least_after c.find_at-in-Child.new.best (flat_map (found_at c.args.search.now) (mentions e))) w.get.ensures) refl)
-        c.find_in_part.ensures
-        (mentions_at c.args.value.now c.in-Child.at c.in-Child.name w.in-Some.index c.in-Child.part (c.in-Child.is ∙ ap (λ i. form.Child c.in-Child.at c.in-Child.name i c.in-Child.part) w.in-Some.is))
+  | find_in_expr-in-Some w ↦
+      least_two (found_at c.args.search.now) _ _ _ (Context c.in-Child.at c.in-Child.name ∷ mentions w.in-Some.index) (part_mentions c.in-Child.part) _
+      (w.best-is ∙ least_two (found_at c.args.search.now) _ _ _ (Context c.in-Child.at c.in-Child.name ∷ []) (mentions w.in-Some.index) _ c.find_at-in-Child.ensures
+      (w.find_in_expr.ensures ∙ ap (λ e. least_after c.find_at-in-Child.new.best (flat_map (found_at c.args.search.now) (mentions e))) w.get.ensures) refl)
+      c.find_in_part.ensures
+      (mentions_at c.args.value.now c.in-Child.at c.in-Child.name w.in-Some.index c.in-Child.part (c.in-Child.is ∙ ap (λ i. form.Child c.in-Child.at c.in-Child.name i c.in-Child.part) w.in-Some.is))
   | find_in_expr-in-None w ↦
-        least_two (found_at c.args.search.now) _ _ _ (Context c.in-Child.at c.in-Child.name ∷ []) (part_mentions c.in-Child.part) _
-        (w.best-is ∙ c.find_at-in-Child.ensures) c.find_in_part.ensures
-        (mentions_child c.args.value.now c.in-Child.at c.in-Child.name c.in-Child.part (c.in-Child.is ∙ ap (λ i. form.Child c.in-Child.at c.in-Child.name i c.in-Child.part) w.in-None.is))
-  ]
+      least_two (found_at c.args.search.now) _ _ _ (Context c.in-Child.at c.in-Child.name ∷ []) (part_mentions c.in-Child.part) _
+      (w.best-is ∙ c.find_at-in-Child.ensures) c.find_in_part.ensures
+      (mentions_child c.args.value.now c.in-Child.at c.in-Child.name c.in-Child.part (c.in-Child.is ∙ ap (λ i. form.Child c.in-Child.at c.in-Child.name i c.in-Child.part) w.in-None.is))
+]

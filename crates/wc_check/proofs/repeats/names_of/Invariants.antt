@@ -1,4 +1,4 @@
-use Rattle.std.proofs.Common.{◌≡◌, take, map}
+use Rattle.std.proofs.Common.{take, map}
 use Rattle.wc_check.specs.Least.{Agree}
 use Rattle.wc_check.proofs.repeats.names_of.Given as goal
 

@@ -12,6 +12,6 @@ pub returns : goal.returns
 returns c =
     on_ok_weaker c.find_in_rules.result
     (λ h. all_names c.args.parts.now (scope_seen c.first-scope.result) c.rules.result.now _ _ _
-        (subst (λ d. Alike (scope_seen c.first-scope.result) (first_scope d)) c.definition.ensures c.first-scope.ensures)
-        c.rules.ensures c.find_outside.ensures h)
+    (subst (λ d. Alike (scope_seen c.first-scope.result) (first_scope d)) c.definition.ensures c.first-scope.ensures)
+    c.rules.ensures c.find_outside.ensures h)
     c.find_in_rules.ensures

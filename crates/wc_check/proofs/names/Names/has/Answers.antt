@@ -1,4 +1,4 @@
-use Rattle.std.proofs.Common.{◌∙◌, ap}
+use Rattle.std.proofs.Common.{◌∙◌}
 use Rattle.wc_syntax.specs.Findings.{is_among}
 use Rattle.wc_check.proofs.Named.{found}
 use Rattle.wc_check.proofs.names.Names.has.Goals as goal

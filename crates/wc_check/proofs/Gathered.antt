@@ -11,10 +11,6 @@ flat_last : {A B : Type 0} (f : A → List B) (xs : List A) (x : A) → flat_map
 flat_last f [] x = append-nil (f x)
 flat_last f (y ∷ xs) x = ap (λ ys. f y ++ ys) (flat_last f xs x) ∙ sym (append_assoc (f y) (flat_map f xs) (f x))
 
--- what is seen of a list at whose end an item is put
-pub map_put : {A B : Type 0} (f : A → B) (before now : List A) (x : A) → now ≡ before ++ x ∷ [] → map f now ≡ map f before ++ f x ∷ []
-map_put f before now x h = ap (map f) h ∙ map_last f before x
-
 take_next : {A : Type 0} (xs : List A) (i : ℕ) (x : A) → i < length xs → x ≡ get_or xs i x → take (i + 1) xs ≡ take i xs ++ x ∷ []
 take_next xs i x h e = take_more xs i x h ∙ ap (λ y. take i xs ++ y ∷ []) (sym e)
 
@@ -37,10 +33,6 @@ flat_turn f = turn (flat_map f) f (flat_last f)
 pub seen_turn : {X A B : Type 0} (f : A → List B) (g : X → A) (before now new : List B) (xs : List X) (i : ℕ) (x : X)
     → now ≡ before ++ flat_map f (map g (take i xs)) → new ≡ now ++ f (g x) → i < length xs → x ≡ get_or xs i x → new ≡ before ++ flat_map f (map g (take (i + 1) xs))
 seen_turn f g = turn (λ xs. flat_map f (map g xs)) (λ x. f (g x)) (λ ys y. ap (flat_map f) (map_last g ys y) ∙ flat_last f (map g ys) (g y))
-
-pub seen_map_turn : {X A B : Type 0} (f : A → B) (g : X → A) (before now new : List B) (xs : List X) (i : ℕ) (x : X)
-    → now ≡ before ++ map f (map g (take i xs)) → new ≡ now ++ f (g x) ∷ [] → i < length xs → x ≡ get_or xs i x → new ≡ before ++ map f (map g (take (i + 1) xs))
-seen_map_turn f g = turn (λ xs. map f (map g xs)) (λ x. f (g x) ∷ []) (λ ys y. ap (map f) (map_last g ys y) ∙ map_last f (map g ys) (g y))
 
 -- ---- the whole list
 pub whole : {A B : Type 0} (all : List A → List B) (before now : List B) (xs : List A) (i : ℕ) → now ≡ before ++ all (take i xs) → length xs ≤ i → now ≡ before ++ all xs

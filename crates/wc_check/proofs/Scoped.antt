@@ -1,59 +1,16 @@
 -- What may stand in a scope depends on the names in it alone.
-use Rattle.std.proofs.Common.{◌≡◌, ◌<◌, ◌+◌, ℕ, List, [], ◌∷◌, ◌++◌, Bool, true, false, refl, sym, ap, ◌∙◌, length, get_or, drop, append-nil, append_assoc}
-use Rattle.std.specs.Prelude.{not, ◌&&◌, ◌||◌, if◌then◌else◌, Option, flat_map}
-use Rattle.std.specs.Str.{bytes_eq}
+use Rattle.std.proofs.Common.{◌≡◌, ◌<◌, ◌+◌, ℕ, List, [], ◌∷◌, ◌++◌, refl, sym, ap, ◌∙◌, length, get_or, drop, append_assoc}
+use Rattle.std.specs.Prelude.{not, ◌&&◌, if◌then◌else◌, Option, flat_map}
 use Rattle.wc_syntax.specs.declared.definition.Rule.{Rule}
 use Rattle.wc_syntax.specs.declared.definition.Rule.TheVariants as rule
 use Rattle.wc_syntax.specs.Mentions.{Mention, Bare, Given, Input, Context, Label, Piece, mentions, rule_mentions}
-use Rattle.wc_syntax.specs.Findings.{Finding, Scope, is_among, unless, unknown, twice, unknown_mention, unknown_in, unknown_in_rules, unknown_names, inputs_word, ctx_word, scope_after, let_repeats, repeated_lets_in, repeated_lets, scope_of, first_scope, inputs_of, result_names, reserved_in, is_chain, line_exprs, rules_of, pieces_of, piece_mentions}
+use Rattle.wc_syntax.specs.Findings.{Finding, Scope, unless, unknown, twice, unknown_mention, unknown_in, unknown_in_rules, unknown_names, inputs_word, ctx_word, scope_after, let_repeats, repeated_lets_in, repeated_lets, scope_of, first_scope, line_exprs, rules_of, pieces_of, piece_mentions}
 use Rattle.wc_syntax.specs.declared.definition.Definition.{Definition}
-use Rattle.wc_check.specs.Least.{Agree, least_after}
-use Rattle.wc_check.specs.Scopes.{Alike, known_names}
+use Rattle.wc_check.specs.Least.{least_after}
+use Rattle.wc_check.specs.Scopes.{Alike}
 use Rattle.wc_check.specs.Sought.{unknown_outside}
 use Rattle.wc_check.proofs.Leasts.{least_joined, least_swapped, drop_at}
-use Rattle.wc_check.proofs.Repeated.{agree_last, any_append}
-
--- ---- what a bare name may name
-pub known_in_chain : (n : List ℕ) (c r : Bool) (ports lets : List (List ℕ)) → c ≡ true → is_among n (known_names c r ports lets) ≡ is_among n lets
-known_in_chain n true r ports lets h = refl
-known_in_chain n false r ports lets h = absurd (cc)
-
-results : (n : List ℕ) (r : Bool) → is_among n (if r then result_names else []) ≡ (r && is_among n result_names)
-results n true = refl
-results n false = refl
-
-pub known_elsewhere : (n : List ℕ) (c r : Bool) (ports lets : List (List ℕ)) → c ≡ false → is_among n (known_names c r ports lets) ≡ (is_among n ports || ((r && is_among n result_names) || is_among n lets))
-known_elsewhere n true r ports lets h = absurd (cc)
-known_elsewhere n false r ports lets h =
-    any_append (λ k. bytes_eq k n) ports ((if r then result_names else []) ++ lets)
-    ∙ ap (λ b. is_among n ports || b) (any_append (λ k. bytes_eq k n) (if r then result_names else []) lets ∙ ap (λ b. b || is_among n lets) (results n r))
-
-agree_front : (ps xs ys : List (List ℕ)) → Agree xs ys → Agree (ps ++ xs) (ps ++ ys)
-agree_front ps xs ys h = λ m. any_append (λ k. bytes_eq k m) ps xs ∙ ap (λ b. is_among m ps || b) (h m) ∙ sym (any_append (λ k. bytes_eq k m) ps ys)
-
-agree_back : (xs ys ps : List (List ℕ)) → Agree xs ys → Agree (xs ++ ps) (ys ++ ps)
-agree_back xs ys ps h = λ m. any_append (λ k. bytes_eq k m) xs ps ∙ ap (λ b. b || is_among m ps) (h m) ∙ sym (any_append (λ k. bytes_eq k m) ys ps)
-
--- a let more
-pub known_after : (c r : Bool) (ports lets after : List (List ℕ)) (n : List ℕ) → Agree after (lets ++ n ∷ []) → Agree (known_names c r ports after) (known_names c r ports lets ++ n ∷ [])
-known_after true r ports lets after n h = h
-known_after false r ports lets after n h = λ m.
-    agree_front ports _ _ (agree_front (if r then result_names else []) after (lets ++ n ∷ []) h) m
-    ∙ ap (is_among m) (ap (λ xs. ports ++ xs) (sym (append_assoc (if r then result_names else []) lets (n ∷ []))) ∙ sym (append_assoc ports ((if r then result_names else []) ++ lets) (n ∷ [])))
-
-pub scope_alike : (d : Definition) (c : Bool) (ports : List (List ℕ)) → c ≡ is_chain d → Agree ports (inputs_of d) → Alike (record { in_chain = c; ports = ports; known = known_names c false ports [] }) (scope_of d)
-scope_alike d c ports e h = record { in_chain = e; ports = h; known = λ m. known c m ∙ ap (λ b. is_among m (if b then [] else inputs_of d)) e }
-  where
-    known : (c : Bool) → Agree (known_names c false ports []) (if c then [] else inputs_of d)
-    known true m = refl
-    known false m = ap (is_among m) (append-nil ports) ∙ h m
-
-pub first_alike : (d : Definition) (r : Bool) (ports : List (List ℕ)) → reserved_in d ≡ (if r then result_names else []) → Agree ports (inputs_of d) → Alike (record { in_chain = false; ports = ports; known = known_names false r ports [] }) (first_scope d)
-first_alike d r ports e h = record {
-  in_chain = refl;
-  ports = h;
-  known = λ m. ap (λ xs. is_among m (ports ++ xs)) (append-nil (if r then result_names else []) ∙ sym e) ∙ agree_back ports (inputs_of d) (reserved_in d) h m;
-}
+use Rattle.wc_check.proofs.Repeated.{agree_last}
 
 -- ---- names by what is known
 pub mention_alike : (s t : Scope) → Alike s t → (m : Mention) → unknown_mention s m ≡ unknown_mention t m

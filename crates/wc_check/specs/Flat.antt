@@ -21,9 +21,6 @@ seen_mention (mention.Input at n) = syntax.Input at n.now
 seen_mention (mention.Context at n) = syntax.Context at n.now
 seen_mention (mention.Label n) = syntax.Label n.now
 
-abbrev pub seen_mentions : List Mention → List syntax.Mention
-seen_mentions = map seen_mention
-
 abbrev pub seen_piece : Piece → syntax.Piece
 seen_piece (piece.Begins at) = syntax.Begins at
 seen_piece (piece.Named n) = syntax.Named n.now

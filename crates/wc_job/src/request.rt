@@ -11,7 +11,7 @@ use wc_meaning::find_definition;
 use wc_syntax::{Checked, Definition};
 use wc_value::{Fields, Request, Text};
 
-/// The request of a definition, where it is a job.
+/// The request of a definition that is a job.
 fn request_of_definition(
     alloc: Global,
     definition: Option<&Definition>,
@@ -22,7 +22,7 @@ fn request_of_definition(
 {
     match definition {
         Some(Definition::Job(job)) => wc_calculation::request_of(alloc, job, inputs),
-        _ => Err(AllocError),
+        _ => unreachable!(),
     }
 }
 

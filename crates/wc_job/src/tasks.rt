@@ -2,7 +2,8 @@
 
 ghost use Rattle.std.specs.Prelude.{◌≡◌, ◌≤◌, ◌<◌, ◌*◌, ◌^◌, Some, false, IsTrue};
 ghost use Rattle.wc_machine.specs.Tasks.{after as after_answer, failed};
-ghost use Rattle.wc_job.specs.Steps.{task_answer, moved, fits};
+ghost use Rattle.wc_machine.specs.Asking.{fits_task};
+ghost use Rattle.wc_job.specs.Steps.{task_answer, moved};
 
 use wc_state::{JobPart, Task};
 
@@ -84,7 +85,7 @@ fn after_failure(part: JobPart, now: u64) -> JobStep
 pub fn after(part: JobPart, answer: Answer, now: u64, poll: u64) -> JobStep
     requires few { part.fails ≤ 4 }
     // Running answers an update alone, and a retrieve that is done brings a result in place of an answer.
-    requires fits { IsTrue (fits answer part.task) }
+    requires fits { IsTrue (fits_task part.task (task_answer answer)) }
     ensures { after_answer part (task_answer answer) now poll part.task ≡ Some (moved result) }
 {
     match answer {

@@ -1,5 +1,5 @@
 -- What a transport in memory holds.
-use Rattle.std.specs.Prelude.{◌≡◌, ◌≢◌, ◌≤◌, ◌==◌, ℕ, List, Option, Some, None, true, false, unwrap_or}
+use Rattle.std.specs.Prelude.{◌≡◌, ◌≢◌, ◌≤◌, ◌==◌, ◌-◌, ◌^◌, min, ℕ, List, Option, Some, None, true, false, unwrap_or}
 use Rattle.std.specs.List.{Contains}
 use Rattle.std.specs.Map.{lookup}
 use Rattle.std.specs.Ordering.{nat_cmp}
@@ -26,6 +26,10 @@ stage_of t dir = unwrap_or (get nat_cmp t.stages dir) idle
 -- how many of the first updates of a directory answer Running
 abbrev pub busy_at : List (ℕ × ℕ) → ℕ → ℕ
 busy_at busy dir = unwrap_or (lookup (λ d. d == dir) busy) 0
+
+-- how many calls were made, which is a number of 64 bits
+abbrev pub asked_of : TableTransport → ℕ
+asked_of t = min t.schedule.number (2 ^ 64 - 1)
 
 -- The program of a directory has ended: it was started, the table has its request, and the busy updates are over.
 pub record IsFinished (t : TableTransport) (dir : ℕ) : Type 0 where

@@ -1,10 +1,12 @@
 //! The form of a transport in memory: each result is that of a table.
 ghost use Rattle.std.specs.Prelude.{true, ◌≡◌, ◌≢◌, ◌↔◌, ◌⊎◌, ℕ, Some, None, IsTrue, is_err, IsErrOf, IfOk, OnOk, OnErr, MatchOption, if◌then◌else◌};
+ghost use Rattle.std.specs.List.{Contains};
 ghost use Rattle.std.specs.Map.{lookup};
 ghost use Rattle.wc_io.specs.Counts.{counted, RisesByOne, Rises};
 ghost use Rattle.wc_io.specs.Schedule.{fails_next, Advances};
+ghost use Rattle.wc_value.specs.Requests.{requests};
 ghost use Rattle.wc_transport.specs.Outside.{CountsTaskFault, Places, Stays, IsRow, OnDone};
-ghost use Rattle.wc_transport.specs.Form.{placed_at, stage_of, busy_at, IsFinished, HoldsAnother, IsHeld, idle};
+ghost use Rattle.wc_transport.specs.Form.{placed_at, stage_of, busy_at, asked_of, IsFinished, HoldsAnother, IsHeld, idle};
 ghost use Rattle.wc_transport.specs.declared.error.TaskError.TheVariants as error;
 ghost use Rattle.wc_transport.specs.declared.transport.Progress.TheVariants as progress;
 
@@ -44,13 +46,21 @@ enum Held {
     Another,
 }
 
+/// The result that a table has for a request.
+fn row_of<'a>(table: &'a Table, request: &Request) -> Option<&'a JobResult>
+    ensures { MatchOption result (¬ Contains (requests table.now) request.now) (λ found. IsRow request.now found.now table.now) }
+{
+    // The rows tell that no request stands twice.
+    let _rows = table.rows();
+    table.find(request)
+}
+
 /// Jobs in memory. A program that was started has ended once the busy updates are over, if the table has its request.
 #[derive(Drop)]
 pub struct TableTransport {
     table: Table,
     busy: Busy,
     schedule: Schedule,
-    asked: u64,
     placed: BTreeMap<u32, Request>,
     stages: BTreeMap<u32, Stage>,
 }
@@ -63,7 +73,6 @@ impl TableTransport {
         ensures table { result.table ≡ table }
         ensures busy { result.busy ≡ busy }
         ensures schedule { result.schedule ≡ fresh failing }
-        ensures asked { result.asked ≡ 0 }
         ensures placed { (dir : ℕ) → placed_at result dir ≡ None }
         ensures idle { (dir : ℕ) → stage_of result dir ≡ idle }
     {
@@ -71,7 +80,6 @@ impl TableTransport {
             table,
             busy,
             schedule: Schedule::new(failing),
-            asked: 0,
             placed: BTreeMap::new(alloc),
             stages: BTreeMap::new(alloc),
         }
@@ -124,8 +132,7 @@ impl TableTransport {
         if !stage.started || stage.updates < self.busy(dir) {
             return None;
         }
-        let _ = self.table.rows();
-        self.table.find(request)
+        row_of(&self.table, request)
     }
 
     /// Counts a call that the rules refuse.
@@ -143,12 +150,11 @@ impl TableTransport {
     fn call(&mut self) -> Result<(), TaskError>
         ensures failed { OnErr result (IsErrOf result error.Failed) }
         ensures fails { is_err result ≡ fails_next self.old.schedule }
-        ensures kept { self.new ≡ record self.old { schedule = self.new.schedule; asked = self.new.asked } }
-        ensures asked { RisesByOne self.old.asked self.new.asked }
+        ensures kept { self.new ≡ record self.old { schedule = self.new.schedule } }
+        ensures asked { RisesByOne (asked_of self.old) (asked_of self.new) }
         ensures schedule { Advances self.old.schedule self.new.schedule }
         ensures cause { CountsTaskFault result self.old.schedule.faults self.new.schedule.faults }
     {
-        self.asked = self.asked.saturating_add(1);
         self.schedule.call()?;
         Ok(())
     }
@@ -158,22 +164,23 @@ impl TableTransport {
         ensures failed { OnErr result (IsErrOf result error.Failed) }
         ensures fails { IsErrOf result error.Failed ↔ (IsTrue (fails_next self.old.schedule) ⊎ (placed_at self.old dir ≢ Some request.now)) }
         ensures held { OnOk result (placed_at self.new dir ≡ Some request.now) }
-        ensures kept { self.new ≡ record self.old { schedule = self.new.schedule; asked = self.new.asked } }
-        ensures asked { RisesByOne self.old.asked self.new.asked }
+        ensures kept { self.new ≡ record self.old { schedule = self.new.schedule } }
+        ensures asked { RisesByOne (asked_of self.old) (asked_of self.new) }
         ensures schedule { Advances self.old.schedule self.new.schedule }
         ensures cause { CountsTaskFault result self.old.schedule.faults self.new.schedule.faults }
     {
         self.call()?;
         match self.held(dir, request) {
-            Held::This => Ok(()),
-            Held::Nothing | Held::Another => Err(self.refuse()),
+            Held::This => {}
+            Held::Nothing | Held::Another => return Err(self.refuse()),
         }
+        Ok(())
     }
 }
 
 impl Transport for TableTransport {
     ghost use Rattle.std.specs.Prelude.{Some, true};
-    ghost use Rattle.wc_transport.specs.Form.{placed_at, IsFinished};
+    ghost use Rattle.wc_transport.specs.Form.{placed_at, asked_of, IsFinished};
 
     ghost table = { λ t. Some t.table };
 
@@ -183,7 +190,7 @@ impl Transport for TableTransport {
 
     ghost finished = { IsFinished };
 
-    ghost asked = { λ t. t.asked };
+    ghost asked = { asked_of };
 
     ghost gave = { λ _ _ _ _ _. Unit {0} };
 
@@ -198,7 +205,7 @@ impl Transport for TableTransport {
         ensures table { self.new.table ≡ self.old.table }
         ensures busy { self.new.busy ≡ self.old.busy }
         ensures schedule { Advances self.old.schedule self.new.schedule }
-        ensures asked { RisesByOne self.old.asked self.new.asked }
+        ensures asked { RisesByOne (asked_of self.old) (asked_of self.new) }
         ensures cause { CountsTaskFault result self.old.schedule.faults self.new.schedule.faults }
     {
         self.call()?;
@@ -223,7 +230,7 @@ impl Transport for TableTransport {
         ensures table { self.new.table ≡ self.old.table }
         ensures busy { self.new.busy ≡ self.old.busy }
         ensures schedule { Advances self.old.schedule self.new.schedule }
-        ensures asked { RisesByOne self.old.asked self.new.asked }
+        ensures asked { RisesByOne (asked_of self.old) (asked_of self.new) }
         ensures cause { CountsTaskFault result self.old.schedule.faults self.new.schedule.faults }
     {
         self.begin(dir, request)?;
@@ -249,7 +256,7 @@ impl Transport for TableTransport {
         ensures table { self.new.table ≡ self.old.table }
         ensures busy { self.new.busy ≡ self.old.busy }
         ensures schedule { Advances self.old.schedule self.new.schedule }
-        ensures asked { RisesByOne self.old.asked self.new.asked }
+        ensures asked { RisesByOne (asked_of self.old) (asked_of self.new) }
         ensures cause { CountsTaskFault result self.old.schedule.faults self.new.schedule.faults }
     {
         self.begin(dir, request)?;
@@ -275,8 +282,8 @@ impl Transport for TableTransport {
         ensures result { IfOk result (λ brought. IsRow request.now brought self.old.table) }
         ensures held { OnOk result (placed_at self.old dir ≡ Some request.now) }
         ensures done { OnOk result (IsFinished self.old dir) }
-        ensures kept { self.new ≡ record self.old { schedule = self.new.schedule; asked = self.new.asked } }
-        ensures asked { RisesByOne self.old.asked self.new.asked }
+        ensures kept { self.new ≡ record self.old { schedule = self.new.schedule } }
+        ensures asked { RisesByOne (asked_of self.old) (asked_of self.new) }
         ensures schedule { Advances self.old.schedule self.new.schedule }
         ensures cause { CountsTaskFault result self.old.schedule.faults self.new.schedule.faults }
     {

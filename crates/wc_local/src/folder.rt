@@ -1,5 +1,6 @@
 //! The folder of a job.
 
+use crate::fault::{Failure, Fault, called};
 use crate::script::script_of;
 use std::alloc::{AllocError, Global};
 use std::fs::{File, OpenOptions};
@@ -7,8 +8,7 @@ use std::io::{Read, Write};
 use std::path::Path;
 use std::rt::Files;
 use std::string::String;
-use std::{fs, io};
-use wc_transport::TaskError;
+use std::{fs, io, str};
 use wc_value::{Bytes, JobResult, Keyed, Request, Text, encode_request};
 
 /// The request that the folder holds. It is written last.
@@ -23,83 +23,68 @@ const LOCK: &str = "_wc_lock";
 /// The exit code of the program, once it has ended.
 const STATUS: &str = "_wc_status";
 
+/// The last task that failed, and why.
+const FAILED: &str = "_wc_failed";
+
 /// The most bytes that a fetched file may have.
-const MOST_FETCHED: usize = 4 * 1024 * 1024;
+const MOST_FETCHED: u64 = 4 * 1024 * 1024;
 
 /// The most bytes of a status, which is a number and a line feed.
-const MOST_STATUS: usize = 32;
-
-/// How many bytes one read asks for.
-const PIECE: usize = 64 * 1024;
-
-/// What a call of the system that failed means for the task.
-pub fn done<T: Drop>(outcome: io::Result<T>) -> Result<T, TaskError> {
-    match outcome {
-        Ok(answer) => Ok(answer),
-        Err(_) => Err(TaskError::Failed),
-    }
-}
+const MOST_STATUS: u64 = 32;
 
 /// The path of a file in a folder.
 fn path_in(alloc: Global, folder: &str, name: &str) -> Result<String, AllocError> {
     format!(in alloc; "{folder}/{name}")
 }
 
-/// The rest of an open file, which fails where that has more bytes than may be.
-fn read_rest(alloc: Global, file: &mut impl Read, most: usize) -> Result<Bytes, TaskError> {
-    let mut content = Bytes::new(alloc);
-    let mut piece = [0; PIECE];
-    for _ in 0..u64::MAX {
-        let count = match file.read(&mut piece) {
-            Ok(count) => count,
-            Err(error) if error.kind() == io::ErrorKind::Interrupted => continue,
-            Err(_) => return Err(TaskError::Failed),
-        };
-        if count == 0 {
-            return Ok(content);
-        }
-        if count > most - content.len().min(most) {
-            return Err(TaskError::Failed);
-        }
-        content.extend(&piece[..count])?;
-    }
-    Err(TaskError::Failed)
-}
-
-/// The content of a file, or none where no file is there. What isn't a file, as a folder or a pipe, isn't opened.
-fn read_file<R: Files>(
-    rt: &R,
-    alloc: Global,
-    path: &str,
-    most: usize,
-) -> Result<Option<Bytes>, TaskError> {
+/// The length of a file, or none where no file is there. What isn't a file, as a folder or a pipe, counts as none.
+fn length_of<R: Files>(rt: &R, path: &str) -> Result<Option<u64>, Fault> {
     match fs::metadata(rt, path) {
-        Ok(found) if found.is_file() => {}
-        Ok(_) => return Ok(None),
-        Err(error) if error.kind() == io::ErrorKind::NotFound => return Ok(None),
-        Err(_) => return Err(TaskError::Failed),
+        Ok(found) if found.is_file() => Ok(Some(found.len())),
+        Ok(_) => Ok(None),
+        Err(error) if error.kind() == io::ErrorKind::NotFound => Ok(None),
+        Err(error) => called("looking for a file", Err(error)),
     }
-    let mut file = done(fs::open(rt, path))?;
-    Ok(Some(read_rest(alloc, &mut file, most)?))
 }
 
-/// Writes a file, and brings its content to the disk.
+/// The content of a file, of which one byte more than may be is read at most.
+fn content_of<R: Files>(rt: &R, alloc: Global, path: &str, most: u64) -> Result<Vec<u8>, Fault> {
+    let file = called("opening a file", fs::open(rt, path))?;
+    let mut content = Vec::new(alloc);
+    let count = file.take(most.saturating_add(1)).read_to_end(&mut content);
+    called("reading a file", count)?;
+    Ok(content)
+}
+
+/// Writes a file.
 fn write_file<R: Files<File = File>>(
     rt: &R,
     alloc: Global,
     folder: &str,
     name: &str,
     content: &[u8],
-) -> Result<(), TaskError> {
+) -> Result<File, Fault> {
     let path = path_in(alloc, folder, name)?;
     let opened = OpenOptions::new()
         .write(true)
         .create(true)
         .truncate(true)
         .open(rt, path.as_str());
-    let mut file = done(opened)?;
-    done(file.write_all(content))?;
-    done(file.sync_data())
+    let mut file = called("making a file", opened)?;
+    called("writing a file", file.write_all(content))?;
+    Ok(file)
+}
+
+/// Writes a file, and brings its content to the disk.
+fn place_file<R: Files<File = File>>(
+    rt: &R,
+    alloc: Global,
+    folder: &str,
+    name: &str,
+    content: &[u8],
+) -> Result<(), Fault> {
+    let file = write_file(rt, alloc, folder, name, content)?;
+    called("bringing a file to the disk", file.sync_data())
 }
 
 /// Whether a name is that of a file in the folder itself, and none of the folder's own.
@@ -146,33 +131,38 @@ fn folder_of(path: &str) -> &str {
 }
 
 /// Brings the names in a folder to the disk.
-pub fn sync_names<R: Files<File = File>>(rt: &R, folder: &str) -> Result<(), TaskError> {
-    let names = done(fs::open(rt, folder))?;
-    done(names.sync_all())
+pub fn sync_names<R: Files<File = File>>(rt: &R, folder: &str) -> Result<(), Fault> {
+    let names = called("opening a folder", fs::open(rt, folder))?;
+    called("bringing a folder to the disk", names.sync_all())
 }
 
 /// Brings the names in the folder of a job to the disk, its own name, and that of the folder of jobs.
-pub fn sync_placed<R: Files<File = File>>(rt: &R, folder: &str) -> Result<(), TaskError> {
+pub fn sync_placed<R: Files<File = File>>(rt: &R, folder: &str) -> Result<(), Fault> {
     let jobs = folder_of(folder);
     sync_names(rt, folder)?;
     sync_names(rt, jobs)?;
     sync_names(rt, folder_of(jobs))
 }
 
-/// Whether the folder holds this request. It fails where it holds another.
+/// Whether the folder holds this request. It fails where it holds another. One of another length isn't read.
 pub fn holds<R: Files>(
     rt: &R,
     alloc: Global,
     folder: &str,
     request: &Request,
-) -> Result<bool, TaskError> {
-    let wanted = encode_request(alloc, request)?;
+) -> Result<bool, Fault> {
     let path = path_in(alloc, folder, REQUEST)?;
-    match read_file(rt, alloc, path.as_str(), wanted.len())? {
-        None => Ok(false),
-        Some(found) if found.bytes() == wanted.bytes() => Ok(true),
-        Some(_) => Err(TaskError::Failed),
+    let Some(length) = length_of(rt, path.as_str())? else {
+        return Ok(false);
+    };
+    let wanted = encode_request(alloc, request)?;
+    if length == wanted.len() as u64 {
+        let found = content_of(rt, alloc, path.as_str(), length)?;
+        if found.as_slice() == wanted.bytes() {
+            return Ok(true);
+        }
     }
+    Err(Fault::OtherRequest)
 }
 
 /// Fails where the folder doesn't hold this request.
@@ -181,25 +171,25 @@ pub fn must_hold<R: Files>(
     alloc: Global,
     folder: &str,
     request: &Request,
-) -> Result<(), TaskError> {
+) -> Result<(), Fault> {
     if holds(rt, alloc, folder, request)? {
         return Ok(());
     }
-    Err(TaskError::Failed)
+    Err(Fault::NoRequest)
 }
 
 /// Writes the files of a request and its script.
-fn write_files<R: Files<File = File>>(
+fn place_files<R: Files<File = File>>(
     rt: &R,
     alloc: Global,
     folder: &str,
     request: &Request,
-) -> Result<(), TaskError> {
+) -> Result<(), Fault> {
     for (name, content) in request.files.as_slice() {
-        write_file(rt, alloc, folder, name.as_str(), content.bytes())?;
+        place_file(rt, alloc, folder, name.as_str(), content.bytes())?;
     }
     let script = script_of(alloc, request)?;
-    write_file(rt, alloc, folder, SCRIPT, script.bytes())
+    place_file(rt, alloc, folder, SCRIPT, script.bytes())
 }
 
 /// Makes the folder of a request. The request's own file comes by rename, when all others and their names are on the
@@ -209,46 +199,84 @@ pub fn place<R: Files<File = File>>(
     alloc: Global,
     folder: &str,
     request: &Request,
-) -> Result<(), TaskError> {
-    if !is_runnable(request) || !names_are_plain(request) {
-        return Err(TaskError::Failed);
+) -> Result<(), Fault> {
+    if !is_runnable(request) {
+        return Err(Fault::Program);
     }
-    done(fs::create_dir_all(rt, folder))?;
-    write_files(rt, alloc, folder, request)?;
+    if !names_are_plain(request) {
+        return Err(Fault::Name);
+    }
+    called("making the folder", fs::create_dir_all(rt, folder))?;
+    place_files(rt, alloc, folder, request)?;
     let spelled = encode_request(alloc, request)?;
-    write_file(rt, alloc, folder, "_wc_request.tmp", spelled.bytes())?;
+    place_file(rt, alloc, folder, "_wc_request.tmp", spelled.bytes())?;
     sync_names(rt, folder)?;
     let part = path_in(alloc, folder, "_wc_request.tmp")?;
     let whole = path_in(alloc, folder, REQUEST)?;
-    done(fs::rename(rt, part.as_str(), whole.as_str()))?;
+    called(
+        "renaming a file",
+        fs::rename(rt, part.as_str(), whole.as_str()),
+    )?;
     sync_placed(rt, folder)
 }
 
+/// Writes down why a task failed.
+pub fn note<R: Files<File = File>>(
+    rt: &R,
+    alloc: Global,
+    folder: &str,
+    failure: Failure,
+) -> Result<(), Fault> {
+    called("making the folder", fs::create_dir_all(rt, folder))?;
+    let line = format!(in alloc; "{failure}\n")?;
+    write_file(rt, alloc, folder, FAILED, line.as_bytes())?;
+    Ok(())
+}
+
+/// Whether something of this name is in the folder.
+fn is_there<R: Files>(rt: &R, alloc: Global, folder: &str, name: &str) -> Result<bool, Fault> {
+    let path = path_in(alloc, folder, name)?;
+    called("looking for a file", fs::exists(rt, path.as_str()))
+}
+
 /// Whether a run of the script has begun that no one has taken back.
-pub fn is_locked<R: Files>(rt: &R, alloc: Global, folder: &str) -> Result<bool, TaskError> {
-    let path = path_in(alloc, folder, LOCK)?;
-    done(fs::exists(rt, path.as_str()))
+pub fn is_locked<R: Files>(rt: &R, alloc: Global, folder: &str) -> Result<bool, Fault> {
+    is_there(rt, alloc, folder, LOCK)
 }
 
 /// Whether the program has ended.
-pub fn has_ended<R: Files>(rt: &R, alloc: Global, folder: &str) -> Result<bool, TaskError> {
-    let path = path_in(alloc, folder, STATUS)?;
-    done(fs::exists(rt, path.as_str()))
+pub fn has_ended<R: Files>(rt: &R, alloc: Global, folder: &str) -> Result<bool, Fault> {
+    is_there(rt, alloc, folder, STATUS)
 }
 
 /// The exit code of a program that has ended.
-fn code_of<R: Files>(rt: &R, alloc: Global, folder: &str) -> Result<i64, TaskError> {
+fn code_of<R: Files>(rt: &R, alloc: Global, folder: &str) -> Result<i64, Fault> {
     let path = path_in(alloc, folder, STATUS)?;
-    let Some(content) = read_file(rt, alloc, path.as_str(), MOST_STATUS)? else {
-        return Err(TaskError::Failed);
-    };
-    let Some(text) = Text::of(content) else {
-        return Err(TaskError::Failed);
-    };
-    match text.as_str().trim().parse::<i64>() {
-        Ok(code) => Ok(code),
-        Err(_) => Err(TaskError::Failed),
+    if length_of(rt, path.as_str())?.is_none() {
+        return Err(Fault::Running);
     }
+    let content = content_of(rt, alloc, path.as_str(), MOST_STATUS)?;
+    let Ok(text) = str::from_utf8(content.as_slice()) else {
+        return Err(Fault::Code);
+    };
+    match text.trim().parse::<i64>() {
+        Ok(code) => Ok(code),
+        Err(_) => Err(Fault::Code),
+    }
+}
+
+/// The content of a fetched file, or none where no file is there.
+fn fetched<R: Files>(rt: &R, alloc: Global, path: &str) -> Result<Option<Bytes>, Fault> {
+    if length_of(rt, path)?.is_none() {
+        return Ok(None);
+    }
+    let found = content_of(rt, alloc, path, MOST_FETCHED)?;
+    if found.len() as u64 > MOST_FETCHED {
+        return Err(Fault::Long);
+    }
+    let mut content = Bytes::new(alloc);
+    content.extend(found.as_slice())?;
+    Ok(Some(content))
 }
 
 /// What a program that has ended left: its exit code, and those files that the request asks for and that are there.
@@ -257,15 +285,15 @@ pub fn result_of<R: Files>(
     alloc: Global,
     folder: &str,
     request: &Request,
-) -> Result<JobResult, TaskError> {
+) -> Result<JobResult, Fault> {
     let code = code_of(rt, alloc, folder)?;
     let mut files = Keyed::new(alloc);
     for name in request.fetch.as_slice() {
         if !is_plain(name) {
-            return Err(TaskError::Failed);
+            return Err(Fault::Name);
         }
         let path = path_in(alloc, folder, name.as_str())?;
-        if let Some(content) = read_file(rt, alloc, path.as_str(), MOST_FETCHED)? {
+        if let Some(content) = fetched(rt, alloc, path.as_str())? {
             files.set(Text::of_str(alloc, name.as_str())?, content)?;
         }
     }

@@ -3,8 +3,9 @@ ghost use Rattle.std.specs.Prelude.{◌≡◌, None, false};
 ghost use Rattle.wc_io.specs.Counts.{RisesByOne};
 ghost use Rattle.wc_transport.specs.Outside.{CountsTaskFault};
 
+use crate::fault::{Failure, Fault, called};
 use crate::folder::{
-    done, has_ended, holds, is_locked, must_hold, place, result_of, sync_names, sync_placed,
+    has_ended, holds, is_locked, must_hold, note, place, result_of, sync_names, sync_placed,
 };
 use std::alloc::{AllocError, Global};
 use std::fs::File;
@@ -28,6 +29,7 @@ pub struct LocalTransport<R: Drop> {
     folder: Text,
     asked: u64,
     faults: u64,
+    failure: Option<Failure>,
 }
 
 impl<R: Files<File = File> + Processes + Drop> LocalTransport<R> {
@@ -38,6 +40,7 @@ impl<R: Files<File = File> + Processes + Drop> LocalTransport<R> {
         ensures unfinished { ⟦<LocalTransport<R> as Transport>⟧.tells_finished result ≡ false }
         ensures asked { result.asked ≡ 0 }
         ensures faults { result.faults ≡ 0 }
+        ensures failure { result.failure ≡ None }
     {
         LocalTransport {
             rt,
@@ -45,6 +48,7 @@ impl<R: Files<File = File> + Processes + Drop> LocalTransport<R> {
             folder,
             asked: 0,
             faults: 0,
+            failure: None,
         }
     }
 
@@ -54,19 +58,44 @@ impl<R: Files<File = File> + Processes + Drop> LocalTransport<R> {
         format!(in self.alloc; "{folder}/{dir}")
     }
 
-    /// Counts a call, and its fault if it failed.
-    fn count<T>(&mut self, outcome: &Result<T, TaskError>)
+    /// The last call that failed.
+    pub fn failure(&self) -> Option<Failure>
+        ensures { result ≡ self.now.failure }
+    {
+        self.failure
+    }
+
+    /// Writes down in the folder of a job why a task failed. Where that can't be written it is known to `failure` alone.
+    fn write_down(&self, failure: Failure) -> Result<(), Fault> {
+        let folder = self.folder_of(failure.dir)?;
+        note(&self.rt, self.alloc, folder.as_str(), failure)
+    }
+
+    /// Counts a call for a folder, and its fault if it failed, of which the reason is kept and written down.
+    fn answer<T>(
+        &mut self,
+        dir: u32,
+        task: &'static str,
+        outcome: Result<T, Fault>,
+    ) -> Result<T, TaskError>
         ensures asked { RisesByOne self.old.asked self.new.asked }
-        ensures faults { CountsTaskFault outcome.now self.old.faults self.new.faults }
+        ensures faults { CountsTaskFault result self.old.faults self.new.faults }
     {
         self.asked = self.asked.saturating_add(1);
-        if let Err(TaskError::Failed) = outcome {
-            self.faults = self.faults.saturating_add(1);
-        }
+        let fault = match outcome {
+            Ok(answer) => return Ok(answer),
+            Err(Fault::OutOfMemory) => return Err(TaskError::OutOfMemory),
+            Err(fault) => fault,
+        };
+        self.faults = self.faults.saturating_add(1);
+        let failure = Failure { dir, task, fault };
+        self.failure = Some(failure);
+        let _ = self.write_down(failure);
+        Err(TaskError::Failed)
     }
 
     /// Places a request, where the folder doesn't hold it yet. The names of one that is there may not be on the disk yet.
-    fn uploaded(&self, dir: u32, request: &Request) -> Result<(), TaskError> {
+    fn uploaded(&self, dir: u32, request: &Request) -> Result<(), Fault> {
         let folder = self.folder_of(dir)?;
         if holds(&self.rt, self.alloc, folder.as_str(), request)? {
             return sync_placed(&self.rt, folder.as_str());
@@ -89,15 +118,15 @@ impl<R: Files<File = File> + Processes + Drop> LocalTransport<R> {
     }
 
     /// Starts the script, or fails.
-    fn start(&self, folder: &str) -> Result<(), TaskError> {
-        if done(self.started(folder)?)? {
+    fn start(&self, folder: &str) -> Result<(), Fault> {
+        if called("starting sh", self.started(folder)?)? {
             return Ok(());
         }
-        Err(TaskError::Failed)
+        Err(Fault::Start)
     }
 
     /// Starts the program of a job.
-    fn submitted(&self, dir: u32, request: &Request) -> Result<(), TaskError> {
+    fn submitted(&self, dir: u32, request: &Request) -> Result<(), Fault> {
         let folder = self.folder_of(dir)?;
         must_hold(&self.rt, self.alloc, folder.as_str(), request)?;
         self.start(folder.as_str())
@@ -105,7 +134,7 @@ impl<R: Files<File = File> + Processes + Drop> LocalTransport<R> {
 
     /// Whether the program of a job has ended. Where no run has begun, or its user took that back, the script is started
     /// again.
-    fn progress(&self, dir: u32, request: &Request) -> Result<Progress, TaskError> {
+    fn progress(&self, dir: u32, request: &Request) -> Result<Progress, Fault> {
         let folder = self.folder_of(dir)?;
         must_hold(&self.rt, self.alloc, folder.as_str(), request)?;
         if has_ended(&self.rt, self.alloc, folder.as_str())? {
@@ -119,12 +148,7 @@ impl<R: Files<File = File> + Processes + Drop> LocalTransport<R> {
     }
 
     /// What the program of a job left.
-    fn retrieved(
-        &self,
-        alloc: Global,
-        dir: u32,
-        request: &Request,
-    ) -> Result<JobResult, TaskError> {
+    fn retrieved(&self, alloc: Global, dir: u32, request: &Request) -> Result<JobResult, Fault> {
         let folder = self.folder_of(dir)?;
         must_hold(&self.rt, self.alloc, folder.as_str(), request)?;
         result_of(&self.rt, alloc, folder.as_str(), request)
@@ -150,20 +174,17 @@ impl<R: Files<File = File> + Processes + Drop> Transport for LocalTransport<R> {
 
     fn upload(&mut self, dir: u32, request: &Request) -> Result<(), TaskError> {
         let outcome = self.uploaded(dir, request);
-        self.count(&outcome);
-        outcome
+        self.answer(dir, "upload", outcome)
     }
 
     fn submit(&mut self, dir: u32, request: &Request) -> Result<(), TaskError> {
         let outcome = self.submitted(dir, request);
-        self.count(&outcome);
-        outcome
+        self.answer(dir, "submit", outcome)
     }
 
     fn update(&mut self, dir: u32, request: &Request) -> Result<Progress, TaskError> {
         let outcome = self.progress(dir, request);
-        self.count(&outcome);
-        outcome
+        self.answer(dir, "update", outcome)
     }
 
     fn retrieve(
@@ -173,7 +194,6 @@ impl<R: Files<File = File> + Processes + Drop> Transport for LocalTransport<R> {
         request: &Request,
     ) -> Result<JobResult, TaskError> {
         let outcome = self.retrieved(alloc, dir, request);
-        self.count(&outcome);
-        outcome
+        self.answer(dir, "retrieve", outcome)
     }
 }

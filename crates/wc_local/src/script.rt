@@ -41,20 +41,28 @@ _wc_slot() {
   done
 }
 _wc_slot
+# The command sync, where it takes files, brings the lock to the disk before the program runs: a machine that loses its
+# power doesn't forget that it ran.
+case $(sync --help 2>&1) in *FILE*) _wc_sync=sync ;; *) _wc_sync=true ;; esac
 mkdir _wc_lock || exit 0
+"$_wc_sync" .
 # Where the output can't be written, nothing is run, and a later run may.
-true >stdout.txt && true >stderr.txt || { rmdir _wc_lock; exit 1; }
+true >stdout.txt && true >stderr.txt || {
+  echo "the script of the job failed: stdout.txt or stderr.txt can't be written" >_wc_failed
+  rmdir _wc_lock
+  exit 1
+}
 (exec"#;
 
 /// What comes behind the program: its files are brought to the disk, and then its exit code.
 const BEHIND: &str = r#") </dev/null >stdout.txt 2>stderr.txt 7>&- 8>&- 9>&-
 _wc_code=$?
 exec 9>&-
-# Brings the files to the disk, where the command sync takes files, and tries for the exit code while there is no room.
-case $(sync --help 2>&1) in *FILE*) _wc_sync=sync ;; *) _wc_sync=true ;; esac
+# Brings the files to the disk, and tries for the exit code while there is no room.
 find . ! -name . -prune -type f -exec "$_wc_sync" {} +
 until echo "$_wc_code" >_wc_status.tmp && { "$_wc_sync" _wc_status.tmp; mv _wc_status.tmp _wc_status; }; do
   [ -e _wc_request ] || exit 1
+  echo "the script of the job failed: _wc_status can't be written" >_wc_failed
   sleep 5
 done
 "#;

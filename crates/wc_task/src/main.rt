@@ -2,7 +2,8 @@
 //!
 //! Words: a folder, the numbers of the first and the last directory, letters of tasks, then any `file=NAME CONTENT` and
 //! `fetch NAME`, and last `run PROGRAM ARGUMENT...`. The letters: u upload, s submit, a one update, w updates until the
-//! programs have ended, r retrieve, d the number of open descriptors, p a pause of a second.
+//! programs have ended, r retrieve, d the number of open descriptors, e the task that failed last and why, p a pause of
+//! a second.
 #![tactic(auto)]
 
 ghost use Rattle.std.specs.Prelude.{◌<◌, length, IfSome};
@@ -16,7 +17,7 @@ use std::{env, fs};
 use wc_io::{ClockPacer, Pacer};
 use wc_local::LocalTransport;
 use wc_transport::{Progress, TaskError, Transport};
-use wc_value::{Bytes, JobResult, Keyed, List, Request, Text, Words};
+use wc_value::{Bytes, Duplicate, JobResult, Keyed, List, Request, Text, Words};
 
 /// How many updates a waiting for the end of a program makes at most, with a rest of 50 milliseconds between two.
 const MOST_UPDATES: u32 = 2000;
@@ -29,11 +30,6 @@ struct Orders {
     last: u32,
     tasks: Text,
     request: Request,
-}
-
-/// A copy of a text.
-fn copy(alloc: Global, text: &Text) -> Result<Text, AllocError> {
-    Text::of_str(alloc, text.as_str())
 }
 
 /// Where the word `run` stands first.
@@ -55,7 +51,7 @@ fn read_pairs(alloc: Global, request: &mut Request, words: &[Text]) -> Result<bo
             return Ok(false);
         };
         if key.as_str() == "fetch" {
-            request.fetch.push(copy(alloc, value)?)?;
+            request.fetch.push(value.copy()?)?;
         } else if let Some(name) = key.as_str().strip_prefix("file=") {
             let mut content: Bytes = List::new(alloc);
             content.extend(value.bytes())?;
@@ -76,13 +72,13 @@ fn request_of(alloc: Global, words: &[Text]) -> Result<Option<Request>, AllocErr
         return Ok(None);
     };
     let mut request = Request {
-        program: copy(alloc, program)?,
+        program: program.copy()?,
         args: List::new(alloc),
         files: Keyed::new(alloc),
         fetch: List::new(alloc),
     };
     for arg in given {
-        request.args.push(copy(alloc, arg)?)?;
+        request.args.push(arg.copy()?)?;
     }
     if !read_pairs(alloc, &mut request, &words[..run])? {
         return Ok(None);
@@ -102,10 +98,10 @@ fn orders_of(alloc: Global, words: &[Text]) -> Result<Option<Orders>, AllocError
         return Ok(None);
     };
     Ok(Some(Orders {
-        folder: copy(alloc, &words[0])?,
+        folder: words[0].copy()?,
         first,
         last,
-        tasks: copy(alloc, &words[3])?,
+        tasks: words[3].copy()?,
         request,
     }))
 }
@@ -212,6 +208,10 @@ fn follow<R: Files<File = File> + Processes + Clock + Print + Alloc + Copy + Dro
     for letter in orders.tasks.bytes() {
         match *letter {
             b'd' => println!(&rt; "descriptors {}", descriptors(&rt)?)?,
+            b'e' => match transport.failure() {
+                Some(failure) => println!(&rt; "{failure}")?,
+                None => println!(&rt; "no task failed")?,
+            },
             b'p' => pacer.rest(1000),
             task => {
                 for dir in orders.first..=orders.last {

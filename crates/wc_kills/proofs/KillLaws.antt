@@ -32,15 +32,15 @@ use Rattle.wc_machine.specs.Recorded.{its_definition}
 use Rattle.wc_machine.specs.Resting.{is_awaited}
 use Rattle.wc_machine.specs.Sound.{CallsAreKept, IsSound, fuel_in, is_awaited_in}
 use Rattle.wc_machine.specs.Tasks.{saturated}
-use Rattle.wc_replaced.specs.Replacing.{world_to}
-use Rattle.wc_replaced.proofs.Children.{IsCalled, IsOver, is_called}
-use Rattle.wc_replaced.proofs.Replaced.{continues}
-use Rattle.wc_binding.specs.Binding.{Waits}
-use Rattle.wc_binding.specs.Laws.{KeepsSound}
-use Rattle.wc_binding.proofs.Binding.{awaited_is_called, kept_before, over_by_call}
-use Rattle.wc_binding.proofs.BindingLaw.{exact_fuel, settled_all}
-use Rattle.wc_binding.proofs.Sums.{found_within, fuel_is_sum, is_one_of, kept_of, sum_of}
-use Rattle.wc_kills.specs.Laws.{HasEndedCalls, IsBatch, killed_fuel, SingleKillsKeepSound, LastKillsKeepSound}
+use Rattle.wc_kills.specs.Replacing.{world_to}
+use Rattle.wc_kills.proofs.Children.{IsCalled, IsOver, is_called}
+use Rattle.wc_kills.proofs.Replaced.{continues}
+use Rattle.wc_kills.specs.Binding.{Waits}
+use Rattle.wc_kills.specs.BindingLaws.{KeepsSound}
+use Rattle.wc_kills.proofs.Binding.{awaited_is_called, kept_before, over_by_call}
+use Rattle.wc_kills.proofs.BindingLaw.{exact_fuel, settled_all}
+use Rattle.wc_kills.proofs.Sums.{found_within, fuel_is_sum, is_one_of, kept_of, sum_of}
+use Rattle.wc_kills.specs.KillLaws.{HasEndedCalls, IsBatch, killed_fuel, SingleKillsKeepSound, LastKillsKeepSound}
 use Rattle.wc_kills.proofs.OneKill.{kill_is_set, killed_sound}
 use Rattle.wc_kills.proofs.WaitingKill.{waiting_killed}
 

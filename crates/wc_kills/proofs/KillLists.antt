@@ -24,12 +24,12 @@ use Rattle.wc_machine.specs.Sound.{IsSound}
 use Rattle.wc_machine.specs.Tasks.{saturated}
 use Rattle.wc_machine.proofs.EndedTrees.{call_is_called}
 use Rattle.wc_framing.proofs.CalledLabels.{targets, distinct}
-use Rattle.wc_replaced.specs.Replacing.{record_to, set_to}
-use Rattle.wc_replaced.proofs.OthersOnTrack.{any_gives}
-use Rattle.wc_replaced.proofs.Replaced.{found_now, found_other, one_record}
-use Rattle.wc_binding.proofs.Binding.{awaited_is_called}
-use Rattle.wc_binding.proofs.Sums.{is_one_of}
-use Rattle.wc_kills.specs.Laws.{HasEndedCalls, killed_fuel}
+use Rattle.wc_kills.specs.Replacing.{record_to, set_to}
+use Rattle.wc_kills.proofs.OthersOnTrack.{any_gives}
+use Rattle.wc_kills.proofs.Replaced.{found_now, found_other, one_record}
+use Rattle.wc_kills.proofs.Binding.{awaited_is_called}
+use Rattle.wc_kills.proofs.Sums.{is_one_of}
+use Rattle.wc_kills.specs.KillLaws.{HasEndedCalls, killed_fuel}
 use Rattle.wc_kills.proofs.KillOrder.{CallsOne, UnderBy, add, all_below, call_deeper, fuel_then, kids, tops_equal, under_child, under_depth}
 
 module _ (w : World) (sound : IsSound w) where

@@ -14,9 +14,9 @@ use Rattle.wc_world.specs.Records.{find_record, has_called, has_ended, is_call_f
 use Rattle.wc_world.proofs.FoundRecords.{IsDeeper, call_is_deeper, left, right}
 use Rattle.wc_machine.specs.Killing.{ends_killed, fuel_after, kill_below, killed}
 use Rattle.wc_machine.specs.Sound.{IsSound}
-use Rattle.wc_replaced.proofs.OthersOnTrack.{any_gives}
-use Rattle.wc_replaced.proofs.Replaced.{one_record}
-use Rattle.wc_binding.proofs.Binding.{same_caller}
+use Rattle.wc_kills.proofs.OthersOnTrack.{any_gives}
+use Rattle.wc_kills.proofs.Replaced.{one_record}
+use Rattle.wc_kills.proofs.Binding.{same_caller}
 
 -- ---- what stands below a process
 

@@ -1,3 +1,17 @@
+pub mod Replaced
+pub mod Children
+pub mod OthersOnTrack
+pub mod Others
+pub mod Sound
+pub mod Taken
+pub mod Contexts
+pub mod Held
+pub mod KnownChildren
+pub mod Standing
+pub mod OnTrack
+pub mod Sums
+pub mod Binding
+pub mod BindingLaw
 pub mod KilledTrees
 pub mod OneKill
 pub mod WaitingKill

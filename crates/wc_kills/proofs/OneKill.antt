@@ -41,14 +41,14 @@ use Rattle.wc_machine.specs.Sound.{CallsAreKept, IsMeant, IsSound, fuel_in, is_a
 use Rattle.wc_machine.proofs.AcceptedEnds.{live_without_output}
 use Rattle.wc_machine.proofs.CreatedOutputs.{without_output}
 use Rattle.wc_machine.proofs.Frames.{branches_by, outputs_untouched}
-use Rattle.wc_replaced.specs.Replacing.{IsSet, SetsWell, set_to}
-use Rattle.wc_replaced.proofs.Children.{IsOver}
-use Rattle.wc_replaced.proofs.OthersOnTrack.{kills_below, over_same}
-use Rattle.wc_replaced.proofs.Replaced.{after, at_it, found_now, narrows, now, one_record, setting}
-use Rattle.wc_replaced.proofs.Sound.{sets_keep_sound}
-use Rattle.wc_binding.proofs.Binding.{kept_less, over_by_call}
-use Rattle.wc_binding.proofs.Standing.{branches_filtered, branches_many, branches_there, counted}
-use Rattle.wc_binding.proofs.Sums.{fuel_is_sum, kept_of, sum_of, sums_below}
+use Rattle.wc_kills.specs.Replacing.{IsSet, SetsWell, set_to}
+use Rattle.wc_kills.proofs.Children.{IsOver}
+use Rattle.wc_kills.proofs.OthersOnTrack.{kills_below, over_same}
+use Rattle.wc_kills.proofs.Replaced.{after, at_it, found_now, narrows, now, one_record, setting}
+use Rattle.wc_kills.proofs.Sound.{sets_keep_sound}
+use Rattle.wc_kills.proofs.Binding.{kept_less, over_by_call}
+use Rattle.wc_kills.proofs.Standing.{branches_filtered, branches_many, branches_there, counted}
+use Rattle.wc_kills.proofs.Sums.{fuel_is_sum, kept_of, sum_of, sums_below}
 use Rattle.wc_kills.proofs.KilledTrees.{IsChainEnd, IsLeveled, killed_before, killed_is, killed_tree_is, killed_with, levels_enough}
 
 -- a live process that has made calls and awaits nothing is a running chain

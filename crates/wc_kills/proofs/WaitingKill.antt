@@ -19,13 +19,13 @@ use Rattle.wc_world.specs.Records.{find_record, is_call_from}
 use Rattle.wc_world.proofs.ReachedLists.{unique}
 use Rattle.wc_machine.specs.Calling.{bound, fuel_of}
 use Rattle.wc_machine.specs.Sound.{IsSound}
-use Rattle.wc_replaced.specs.Replacing.{IsSet, world_to}
-use Rattle.wc_replaced.proofs.Children.{IsOver}
-use Rattle.wc_replaced.proofs.OthersOnTrack.{over_same}
-use Rattle.wc_replaced.proofs.Replaced.{after, at_it, found_now, now, one_record, setting}
-use Rattle.wc_binding.specs.Binding.{Waits}
-use Rattle.wc_binding.proofs.Binding as binding
-use Rattle.wc_binding.proofs.Standing.{alive, calls_over}
+use Rattle.wc_kills.specs.Replacing.{IsSet, world_to}
+use Rattle.wc_kills.proofs.Children.{IsOver}
+use Rattle.wc_kills.proofs.OthersOnTrack.{over_same}
+use Rattle.wc_kills.proofs.Replaced.{after, at_it, found_now, now, one_record, setting}
+use Rattle.wc_kills.specs.Binding.{Waits}
+use Rattle.wc_kills.proofs.Binding as binding
+use Rattle.wc_kills.proofs.Standing.{alive, calls_over}
 use Rattle.wc_kills.proofs.OneKill.{kill_is_set, killed_sound}
 
 -- what is set twice is as it is set the second time

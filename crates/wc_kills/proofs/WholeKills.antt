@@ -18,11 +18,11 @@ use Rattle.wc_machine.specs.Machine.{IsLive}
 use Rattle.wc_machine.specs.Recorded.{recorded_inputs}
 use Rattle.wc_machine.specs.Sound.{IsSound}
 use Rattle.wc_world.specs.Trees.{recorded_tree}
-use Rattle.wc_replaced.specs.Replacing.{world_to}
-use Rattle.wc_replaced.proofs.Replaced.{continues, one_record}
-use Rattle.wc_binding.specs.Laws.{KeepsSound}
-use Rattle.wc_binding.proofs.BindingLaw.{settled_all}
-use Rattle.wc_kills.specs.Laws.{KillsKeepSound}
+use Rattle.wc_kills.specs.Replacing.{world_to}
+use Rattle.wc_kills.proofs.Replaced.{continues, one_record}
+use Rattle.wc_kills.specs.BindingLaws.{KeepsSound}
+use Rattle.wc_kills.proofs.BindingLaw.{settled_all}
+use Rattle.wc_kills.specs.KillLaws.{KillsKeepSound}
 use Rattle.wc_kills.proofs.KillLaws.{single}
 use Rattle.wc_kills.proofs.KillLists.{AreNext, IsDone, IsNext, kill_next, rs_after, told, without}
 use Rattle.wc_kills.proofs.KillOrder.{all_below, change_of, changes_are, fuel_then}

@@ -1,6 +1,10 @@
-//! What kills keep.
+//! One process is set anew, a chain binds its children, a process is killed with all that it called: sound worlds stay sound.
 #![tactic(auto)]
 
-mod laws;
+mod bindings;
+mod kills;
+mod sets;
 
-pub use laws::{kills_keep_sound, last_kills_keep_sound, single_kills_keep_sound};
+pub use bindings::bindings_keep_sound;
+pub use kills::{kills_keep_sound, last_kills_keep_sound, single_kills_keep_sound};
+pub use sets::sets_keep_sound;

@@ -18,7 +18,7 @@ use Rattle.wc_world.proofs.ReachedLists.{found_node}
 use Rattle.wc_machine.specs.Machine.{IsLive}
 use Rattle.wc_machine.specs.Sound.{IsSound}
 use Rattle.wc_machine.proofs.EndedTrees.{call_is_called}
-use Rattle.wc_replaced.specs.Replacing.{set_to}
+use Rattle.wc_kills.specs.Replacing.{set_to}
 use Rattle.wc_kills.proofs.KillLists.{AreNext, kill_next, without}
 use Rattle.wc_kills.proofs.KillOrder.{CallsOne, add, all_below, call_deeper, changes_are, fuel_then, its_own, kids}
 use Rattle.wc_lists.specs.Killed.{IsAtOrBelow, itself, called, KillsEach}

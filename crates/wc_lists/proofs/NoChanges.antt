@@ -16,7 +16,7 @@ use Rattle.wc_machine.specs.Killing.{fuel_after, kill_below, kill_changes, kille
 use Rattle.wc_machine.specs.Machine.{submits as submission, turns, pauses, plays, kills}
 use Rattle.wc_machine.specs.Recorded.{recorded_inputs}
 use Rattle.wc_machine.specs.Turning.{TurnGives, calculates, clones, begins, excepts, gives_up, moves, parses, advances, binds}
-use Rattle.wc_replaced.proofs.Replaced.{one_record}
+use Rattle.wc_kills.proofs.Replaced.{one_record}
 use Rattle.wc_sound_jobs.proofs.Marks.{marks_kept}
 use Rattle.wc_lists.specs.Laws.{OnlyMarksChangeNothing}
 

@@ -41,7 +41,7 @@ use Rattle.wc_machine.specs.Readiness.{may_go}
 use Rattle.wc_machine.specs.Recorded.{its_definition, recorded_inputs, request_by}
 use Rattle.wc_machine.specs.Turning.{StandsAt, TurnGives, calculates, clones, begins, excepts, gives_up, moves, parses, advances, binds}
 use Rattle.wc_machine.proofs.FittingAnswers.{fitting_answers_lead}
-use Rattle.wc_binding.proofs.Standing.{library_of}
+use Rattle.wc_kills.proofs.Standing.{library_of}
 use Rattle.wc_turns.proofs.Turns.{one_list}
 use Rattle.wc_lists.specs.Laws.{TurnsHaveChanges}
 use Rattle.wc_lists.proofs.Sources.{sources_are_there}

@@ -27,9 +27,9 @@ use Rattle.wc_outline_laws.specs.View.{context_in, env_in}
 use Rattle.wc_outline_laws.proofs.Counted.{advance_numbered}
 use Rattle.wc_outline_laws.proofs.Exact.{advances_are_exact}
 use Rattle.wc_outline_laws.proofs.Passed.{advance_holds}
-use Rattle.wc_sound_chains.specs.Laws.{IsAtTurn, ChainsStayOnTrack, LoopsStayOnTrack}
+use Rattle.wc_sound_chains.specs.TrackLaws.{IsAtTurn, ChainsStayOnTrack, LoopsStayOnTrack}
 use Rattle.wc_sound_chains.proofs.OneSet.{went, now_runs, found_now}
-use Rattle.wc_sound_chains.proofs.OnTrack.{GoesOn, stays_on_track}
+use Rattle.wc_sound_chains.proofs.TrackOnTrack.{GoesOn, stays_on_track}
 use Rattle.wc_sound_chains.proofs.Rests.{finishes}
 use Rattle.wc_sound_chains.proofs.Seen.{view_of, IsRead, IsThere, IsData, items_there, nodes_read, seen_right, read_is_data}
 use Rattle.wc_sound_chains.proofs.Standing.{Standing, begins, runs, stands_at, is_live, its_fit, keys_here, keys_there, outputs_data}

@@ -17,9 +17,9 @@ use Rattle.wc_outline_laws.specs.Nodes.{NodesAre, Holds, HoldsAfter}
 use Rattle.wc_outline_laws.proofs.Ordered.{none_ascends, advances_keep_order}
 use Rattle.wc_outline_laws.proofs.Passed.{advance_holds}
 use Rattle.wc_framing.specs.Touching.{Touches}
-use Rattle.wc_sound_chains.specs.Laws.{IsAtTurn, IsSoundChain, IsSoundTurn, ChainsStaySound}
+use Rattle.wc_sound_chains.specs.TrackLaws.{IsAtTurn, IsSoundChain, IsSoundTurn, ChainsStaySound}
 use Rattle.wc_sound_chains.proofs.Advances.{env_is, its_record, numbered, goes_on_track, loops_on_track}
-use Rattle.wc_sound_chains.proofs.Kept.{fits_now, calls_now, awaits_now, placed_now}
+use Rattle.wc_sound_chains.proofs.TrackKept.{fits_now, calls_now, awaits_now, placed_now}
 use Rattle.wc_sound_chains.proofs.Names.{nodes_known, kept_known, node_known}
 use Rattle.wc_sound_chains.proofs.OneSet.{went, now_runs, goes_touch, found_now}
 use Rattle.wc_sound_chains.proofs.Standing.{Standing, begins, runs, stands_at, is_live, its_fit}

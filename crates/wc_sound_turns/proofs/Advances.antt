@@ -12,11 +12,11 @@ use Rattle.wc_world.specs.Applied.{applied}
 use Rattle.wc_machine.specs.Advancing.{Advanced, goes, loops, submits, ends, advance}
 use Rattle.wc_machine.specs.Calling.{advanced, calls_changes, kept_outputs}
 use Rattle.wc_machine.specs.Laws.{HasPlaces}
-use Rattle.wc_binding.specs.Laws.{KeepsSound}
-use Rattle.wc_sound_chains.specs.Laws.{IsAtTurn}
-use Rattle.wc_chain_turns.proofs.Turns.{turns_keep_sound}
-use Rattle.wc_calling_chains.proofs.CallingTurns.{calls_of_chains_keep_sound}
-use Rattle.wc_chain_ends.proofs.SoundEnds.{ends_of_chains_keep_sound}
+use Rattle.wc_kills.specs.BindingLaws.{KeepsSound}
+use Rattle.wc_sound_chains.specs.TrackLaws.{IsAtTurn}
+use Rattle.wc_sound_chains.proofs.Turns.{turns_keep_sound}
+use Rattle.wc_sound_chains.proofs.CallingTurns.{calls_of_chains_keep_sound}
+use Rattle.wc_sound_chains.proofs.SoundEnds.{ends_of_chains_keep_sound}
 use Rattle.wc_sound_turns.proofs.Room.{room_before}
 
 module _ (w : World) (r : ProcessRecord) (k : Chain) (library : List Definition) (c : Checkpoint) (env : Env) (reached : IsReached w) (at : IsAtTurn w r k library c env) where

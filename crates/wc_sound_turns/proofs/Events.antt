@@ -8,7 +8,7 @@ use Rattle.wc_world.specs.World.{World, empty}
 use Rattle.wc_world.specs.Accepted.{IsReached, nothing, then_changes}
 use Rattle.wc_machine.specs.Machine.{IsLive, submits, turns, pauses, plays, kills, pause_changes, play_changes, after_changes}
 use Rattle.wc_machine.specs.Killing.{ends_killed, fuel_after, kill_below, kill_changes, killed}
-use Rattle.wc_binding.specs.Laws.{KeepsSound}
+use Rattle.wc_kills.specs.BindingLaws.{KeepsSound}
 use Rattle.wc_sound_jobs.specs.Sets.{AreSafe}
 use Rattle.wc_sound_jobs.proofs.Marks.{marks_safe}
 use Rattle.wc_kills.proofs.WholeKills.{continues_on, kills_keep_sound}

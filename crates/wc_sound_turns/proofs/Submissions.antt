@@ -15,7 +15,7 @@ use Rattle.wc_machine.proofs.Submitted.{data_node, new_nodes, submission_gives}
 use Rattle.wc_machine.proofs.SubmittedAccepted.{submissions_are_accepted}
 use Rattle.wc_machine.proofs.SubmittedContinues.{submissions_continue}
 use Rattle.wc_caching.proofs.Submissions.{any_submission}
-use Rattle.wc_binding.specs.Laws.{KeepsSound}
+use Rattle.wc_kills.specs.BindingLaws.{KeepsSound}
 
 module _ (w : World) (library : List Definition) (caching : List (List ℕ)) (name : List ℕ) (inputs : Values) (cs : List Change) (s : Submits w library caching name inputs cs) where
   -- the nodes afterwards are those up to the number of the process

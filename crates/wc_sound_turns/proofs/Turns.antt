@@ -35,8 +35,8 @@ use Rattle.wc_sound_jobs.proofs.Parses.{parses_safe}
 use Rattle.wc_sound_jobs.proofs.Tasks.{tasks_safe}
 use Rattle.wc_caching.specs.Laws.{GoesWell}
 use Rattle.wc_caching.proofs.CreatedTurns.{created_turns}
-use Rattle.wc_binding.specs.Laws.{KeepsSound}
-use Rattle.wc_binding.proofs.BindingLaw.{bindings_keep_sound}
+use Rattle.wc_kills.specs.BindingLaws.{KeepsSound}
+use Rattle.wc_kills.proofs.BindingLaw.{bindings_keep_sound}
 use Rattle.wc_sound_turns.proofs.Advances.{advances_keep, advanced_some, behind_some}
 use Rattle.wc_sound_turns.proofs.Room.{room_before}
 

@@ -1,9 +1,0 @@
-pub mod Taken
-pub mod Contexts
-pub mod Held
-pub mod KnownChildren
-pub mod Standing
-pub mod OnTrack
-pub mod Sums
-pub mod Binding
-pub mod BindingLaw

@@ -1,2 +1,0 @@
-pub mod Submitted
-pub mod Laws

@@ -1,5 +1,5 @@
 -- What follows of the changes of an event for which there is room.
-use Rattle.std.proofs.Common.{◌≡◌, ℕ, ◌+◌, ◌≤◌, List, length, Some, sym, ap, subst, ◌∙◌, arith}
+use Rattle.std.proofs.Common.{◌≡◌, ℕ, ◌+◌, ◌≤◌, true, false, List, length, Some, None, refl, sym, ap, subst, ◌∙◌, arith}
 use Rattle.wc_calculation.specs.Outcomes.{calculated}
 use Rattle.wc_calculation.specs.Rules.{Values}
 use Rattle.wc_calculation.specs.declared.outcomes.Parsed.{Parsed}
@@ -14,15 +14,16 @@ use Rattle.wc_world.specs.Records.{find_record, is_calculation}
 use Rattle.wc_world.proofs.FoundRecords.{found_holds}
 use Rattle.wc_world.proofs.SnapshotLists.{number_of_found}
 use Rattle.wc_machine.specs.Continues.{Continues}
-use Rattle.wc_machine.specs.Laws.{HasPlaces, OnlyFunctions, IsPlainFunction, IsCreatedCalculation}
+use Rattle.wc_machine.specs.Ending.{TakesSource}
+use Rattle.wc_machine.specs.Laws.{HasPlaces, IsCreatedCalculation}
 use Rattle.wc_machine.specs.Recorded.{recorded_inputs}
 use Rattle.wc_machine.specs.Sound.{IsSound, IsFitting}
 use Rattle.wc_machine.specs.Submitting.{Submits, submitted_number}
 use Rattle.wc_machine.proofs.SubmittedAccepted.{submissions_are_accepted}
 use Rattle.wc_machine.proofs.SubmittedContinues.{submissions_continue}
-use Rattle.wc_machine.proofs.SubmittedSound.{submissions_keep_sound}
 use Rattle.wc_machine.proofs.FunctionEnds.{functions_accepted, functions_continue}
-use Rattle.wc_machine.proofs.SoundFunctions.{functions_keep_sound}
+use Rattle.wc_caching.proofs.Submissions.{any_submission}
+use Rattle.wc_caching.proofs.Turns.{functions_keep_sound}
 use Rattle.wc_core.specs.Ended.{EndsFunction}
 use Rattle.wc_core.specs.Refusals.{HasRoom}
 use Rattle.wc_core.proofs.Counted.{nodes_submitted, batches_submitted, nodes_ended, batches_ended}
@@ -48,8 +49,8 @@ module _ (w : World) (library : List Definition) (caching : List (List ℕ)) (na
   pub submission_continues : Continues w (applied w cs)
   submission_continues = submissions_continue w library caching name inputs cs reached s
 
-  pub submission_sound : IsAccepted w cs → IsSound w → OnlyFunctions w → IsPlainFunction library caching name → IsSound (applied w cs) × OnlyFunctions (applied w cs)
-  submission_sound accepted sound only plain = submissions_keep_sound w library caching name inputs cs reached sound only s plain accepted
+  pub submission_sound : IsAccepted w cs → IsSound w → IsSound (applied w cs)
+  submission_sound accepted sound = any_submission w library caching name inputs cs reached sound s accepted
 
 module _ (w : World) (pid now : ℕ) (cs : List Change) (s : EndsFunction w pid now cs) (reached : IsReached w) (consistent : IsConsistent w) (plains : (q : ProcessRecord) → find_record pid w.records ≡ Some q → IsPlain q) where
   plain : IsPlain s.process
@@ -84,7 +85,11 @@ module _ (w : World) (pid now : ℕ) (cs : List Change) (s : EndsFunction w pid 
       subst (λ (xs : List Change). Continues w (applied w xs)) (sym s.changes)
       (functions_continue w s.process s.function created_there sound.calls (fits.started created_there.created) s.runs)
 
-  pub turn_sound : IsAccepted w cs → IsSound w → OnlyFunctions w → IsSound (applied w cs) × OnlyFunctions (applied w cs)
-  turn_sound accepted sound only =
-      subst (λ (xs : List Change). IsSound (applied w xs) × OnlyFunctions (applied w xs)) (sym s.changes)
-      (functions_keep_sound w s.process s.function created_there s.runs sound only (subst (IsAccepted w) s.changes accepted))
+  -- a function without caching takes no other's outcome
+  own_outcome : TakesSource w s.process None
+  own_outcome = record { on = λ on. let both : true ≡ false = sym on ∙ plain.1 in absurd (cc); off = λ off. refl }
+
+  pub turn_sound : IsAccepted w cs → IsSound w → IsSound (applied w cs)
+  turn_sound accepted sound =
+      subst (λ (xs : List Change). IsSound (applied w xs)) (sym s.changes)
+      (functions_keep_sound w s.process s.function created_there sound own_outcome s.runs (subst (IsAccepted w) s.changes accepted))

@@ -10,7 +10,6 @@ ghost use Rattle.wc_world.specs.Applied.{applied};
 ghost use Rattle.wc_world.specs.Records.{kind_of_definition};
 ghost use Rattle.wc_world.specs.Accepted.{IsAccepted};
 ghost use Rattle.wc_machine.specs.Continues.{Continues};
-ghost use Rattle.wc_machine.specs.Laws.{OnlyFunctions, IsPlainFunction};
 ghost use Rattle.wc_machine.specs.Sound.{IsSound};
 ghost use Rattle.wc_machine.specs.Submitting.{data_change, input_link, links_from, submitted_number, submission, Submits};
 ghost use Rattle.wc_state.specs.Ranges.{AreLimits};
@@ -180,8 +179,7 @@ pub fn submit_changes(
     ensures room { IfOk result (λ cs. HasRoom limits.now.max_nodes (applied world.now.world cs)) }
     ensures accepted { IfOk result (IsAccepted world.now.world) }
     ensures continues { IfOk result (λ cs. Continues world.now.world (applied world.now.world cs)) }
-    ensures sound { IfOk result (λ cs. IsSound world.now.world → OnlyFunctions world.now.world → IsPlainFunction library caching name.now
-        → IsSound (applied world.now.world cs) × OnlyFunctions (applied world.now.world cs)) }
+    ensures sound { IfOk result (λ cs. IsSound world.now.world → IsSound (applied world.now.world cs)) }
     ensures none { OnOk result (NoneHolds (RefusesSubmission world.now.world library caching name.now inputs limits.now.max_nodes)) }
     ensures refused { IfErr result (RefusesSubmission world.now.world library caching name.now inputs limits.now.max_nodes) }
 {

@@ -7,7 +7,6 @@ ghost use Rattle.wc_world.specs.Applied.{applied};
 ghost use Rattle.wc_world.specs.Records.{find_record};
 ghost use Rattle.wc_machine.specs.declared.answer.TaskAnswer.TheVariants.{Nothing};
 ghost use Rattle.wc_machine.specs.Continues.{Continues};
-ghost use Rattle.wc_machine.specs.Laws.{OnlyFunctions};
 ghost use Rattle.wc_machine.specs.Machine.{Leads, turn};
 ghost use Rattle.wc_machine.specs.Sound.{IsSound};
 ghost use Rattle.wc_core.specs.Ended.{EndsFunction};
@@ -40,8 +39,7 @@ pub fn turn(
     ensures leads { IfOk result (Leads limits.now.poll_ms world.now.world (turn pid Nothing now)) }
     ensures accepted { IfOk result (IsAccepted world.now.world) }
     ensures continues { IfOk result (λ cs. IsSound world.now.world → Continues world.now.world (applied world.now.world cs)) }
-    ensures sound { IfOk result (λ cs. IsSound world.now.world → OnlyFunctions world.now.world
-        → IsSound (applied world.now.world cs) × OnlyFunctions (applied world.now.world cs)) }
+    ensures sound { IfOk result (λ cs. IsSound world.now.world → IsSound (applied world.now.world cs)) }
     ensures room { IfOk result (λ cs. HasRoom limits.now.max_nodes (applied world.now.world cs)) }
     ensures none { OnOk result (NoneHolds (RefusesTurn world.now.world pid now limits.now.max_nodes)) }
     ensures refused { IfErr result (RefusesTurn world.now.world pid now limits.now.max_nodes) }

@@ -7,7 +7,6 @@ use Rattle.wc_world.specs.Records.{find_record}
 use Rattle.wc_machine.specs.declared.answer.TaskAnswer.TheVariants.{Nothing}
 use Rattle.wc_machine.specs.Continues.{Continues}
 use Rattle.wc_machine.specs.Ending.{ends}
-use Rattle.wc_machine.specs.Laws.{OnlyFunctions}
 use Rattle.wc_machine.specs.Sound.{IsSound}
 use Rattle.wc_machine.specs.Machine.{Leads, turn}
 use Rattle.wc_machine.specs.Readiness.{is_ready}
@@ -126,6 +125,6 @@ returns-in-Ok-clause-sound c =
     let room : HasRoom most (applied w (ends w r p None None))
     = turn_fits w c.args.pid c.args.now r consistent found plain p ready c.in_ok-parsed.ensures most
     (subst (λ (n : ℕ). AreFew (length w.nodes + n) (w.batches + 1) most) c.len.ensures.value c.in-Ok.ensures.ok) in
-    subst (λ (xs : List Change). IsSound w → OnlyFunctions w → IsSound (applied w xs) × OnlyFunctions (applied w xs)) (sym gives)
+    subst (λ (xs : List Change). IsSound w → IsSound (applied w xs)) (sym gives)
     (turn_sound w c.args.pid c.args.now (ends w r p None None) s reached consistent (λ q e. plain_found _ q c.requires.function e)
     (turn_accepted w c.args.pid c.args.now (ends w r p None None) s reached consistent (λ q e. plain_found _ q c.requires.function e) most c.requires.limits.few_nodes room))

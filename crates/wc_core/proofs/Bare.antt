@@ -1,5 +1,5 @@
 -- Offsets play no part in which input of a definition is bad.
-use Rattle.std.proofs.Common.{◌≡◌, List, Option, map, refl, sym, ap, ◌∙◌}
+use Rattle.std.proofs.Common.{◌≡◌, List, Option, sym, ap, ◌∙◌}
 use Rattle.std.specs.Prelude.{ℕ, option_map}
 use Rattle.wc_syntax.specs.Bare.{bare_definition, bare_library}
 use Rattle.wc_syntax.specs.Findings.{head_of, definition_named}

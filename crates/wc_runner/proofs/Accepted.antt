@@ -4,6 +4,8 @@ use Rattle.std.specs.Prelude.{◌==◌, IfSome, if◌then◌else◌}
 use Rattle.std.proofs.lemmas.List.{length-map}
 use Rattle.std.proofs.lemmas.List.Elements.{All-head, All-tail}
 use Rattle.wc_calculation.specs.Rules.{Values}
+use Rattle.wc_journal.specs.declared.journal.Journal.{Journal}
+use Rattle.wc_state.specs.declared.record.Limits.{Limits}
 use Rattle.wc_state.specs.declared.record.ProcessKind.TheVariants as kind
 use Rattle.wc_state.specs.declared.record.ProcessRecord.{ProcessRecord}
 use Rattle.wc_world.specs.declared.change.Change.{Change}
@@ -20,9 +22,16 @@ use Rattle.wc_machine.proofs.Endings.{ended_world, applied_ends, data_nodes}
 use Rattle.wc_machine.proofs.FunctionEnds.{functions_accepted}
 use Rattle.wc_machine.proofs.FunctionWorlds.{AreFunctions}
 use Rattle.wc_core.specs.Ended.{EndsFunction}
-use Rattle.wc_core.specs.Refusals.{HasRoom}
+use Rattle.wc_core.specs.Ready.{is_ready_at}
+use Rattle.wc_core.specs.Refusals.{HasRoom, RefusesTurn}
+use Rattle.wc_core.specs.declared.error.TurnError.{TurnError}
+use Rattle.wc_core.specs.declared.error.TurnError.TheVariants as turn_error
 use Rattle.wc_store.specs.Held.{is_plain}
-use Rattle.wc_runner.specs.Turning.{IsTurnOf}
+use Rattle.wc_store.specs.Refusals.{RefusesCommit}
+use Rattle.wc_store.specs.declared.error.StoreError.{StoreError}
+use Rattle.wc_store.specs.declared.error.StoreError.TheVariants as store_error
+use Rattle.wc_runner.specs.Leaves.{IsTurnWithin}
+use Rattle.wc_runner.specs.Turning.{IsTurnOf, IsRoomOrMemory, IsOfCommit}
 use Rattle.wc_runner.specs.Trips.{TurnOf}
 use Rattle.wc_runner.proofs.FunctionTurns.{IsPlain, created_here, ends_one, batches_after, functions_after}
 
@@ -75,6 +84,35 @@ module _ (poll : ℕ) (w : World) (pid : ℕ) (cs : List Change) (t : IsTurnOf p
 
   pub still_functions : OnlyFunctions w → OnlyFunctions (applied w cs)
   still_functions only = functions_after w (applied w cs) only (ends_one poll w (applied w cs) t.reached only (pid, one_turn))
+
+-- the turn, by one batch and within the limit of nodes
+pub turn_within : (limits : Limits) (w : World) (pid : ℕ) (cs : List Change) → IsTurnOf limits.poll_ms w pid cs → OnlyFunctions w
+    → HasRoom limits.max_nodes (applied w cs) → IsTurnWithin limits pid w (applied w cs)
+turn_within limits w pid cs t only room = record {
+  turn = one_turn limits.poll_ms w pid cs t;
+  nodes = room.0;
+  batch = one_batch limits.poll_ms w pid cs t only;
+}
+
+-- ---- refusals
+
+-- why the turn of a ready process is refused
+pub refused_turn : (w : World) (pid most : ℕ) (e : TurnError) → is_ready_at w pid 0 ≡ true → RefusesTurn w pid 0 most e → IsRoomOrMemory e
+refused_turn w pid most turn_error.NotReady ready refused = let both : true ≡ false = sym ready ∙ refused in absurd (cc)
+refused_turn w pid most (turn_error.Full what count limit) ready refused = tt
+refused_turn w pid most turn_error.UnknownProcess ready refused = refused
+refused_turn w pid most (turn_error.Ended state) ready refused = refused
+refused_turn w pid most turn_error.UnknownName ready refused = refused
+refused_turn w pid most (turn_error.BadInputs port) ready refused = refused
+refused_turn w pid most turn_error.OutOfMemory ready refused = tt
+
+-- why a commit is
+pub refused_commit : (journal : Journal) (limits : Limits) (w : World) (cs : List Change) (e : StoreError) → RefusesCommit journal limits w cs e → IsOfCommit e
+refused_commit journal limits w cs store_error.DiskFault refused = tt
+refused_commit journal limits w cs (store_error.Damaged disk at found) refused = refused
+refused_commit journal limits w cs (store_error.Full what count limit) refused = tt
+refused_commit journal limits w cs store_error.AlreadyThere refused = refused
+refused_commit journal limits w cs store_error.OutOfMemory refused = tt
 
 -- what is there is a function
 pub plain_there : (pid : ℕ) (rs : List ProcessRecord) → AreFunctions rs → IfSome (find_record pid rs) (λ r. (r.kind ≡ kind.Function) × (r.caching ≡ false))

@@ -1,8 +1,9 @@
 -- What a store that stands for its disks leaves on them.
-use Rattle.std.proofs.Common.{◌≡◌, inl, inr, ℕ, suc, List, refl, sym, ap, subst, ◌∙◌}
+use Rattle.std.proofs.Common.{◌≡◌, ◌⊎◌, ◌≤◌, ◌<◌, ◌+◌, inl, inr, ℕ, suc, List, length, refl, sym, ap, subst, ◌∙◌, arith}
 use Rattle.wc_disk.specs.declared.disk.Disk as disk
 use Rattle.wc_disk.specs.Steps.{Only}
 use Rattle.wc_disk.proofs.Runs.{no_call, both_runs, weaker_run}
+use Rattle.wc_state.specs.declared.record.Limits.{Limits}
 use Rattle.wc_world.specs.World.{World}
 use Rattle.wc_store.specs.declared.place.Place.{Place}
 use Rattle.wc_store.specs.declared.place.Place.TheVariants.{One, Two}
@@ -10,8 +11,8 @@ use Rattle.wc_store.specs.declared.store.Store.{Store}
 use Rattle.wc_store.specs.Places.{its}
 use Rattle.wc_store.specs.Held.{Standing, a_world, IsHeld}
 use Rattle.wc_store.specs.Stores.{other, HoldsAs, HoldsEither, StandsFor, CommitLeaves}
-use Rattle.wc_runner.specs.Leaves.{HoldsSome, LeavesWorlds, IsOrTurnOf, SomeTurns}
-use Rattle.wc_runner.specs.Trips.{TurnOf, Turns, one_more}
+use Rattle.wc_runner.specs.Leaves.{HoldsSome, LeavesWorlds, IsTurnWithin, IsOrTurnOf, SomeTurns}
+use Rattle.wc_runner.specs.Trips.{Turns, one_more}
 
 module _ {D : Type 0} (g : disk.Ghosts D) where
   held_as : (place : Place) (one two : D) (s : Standing) → IsHeld (g.seen one) (g.seen two) s → HoldsAs place (g.seen (its place one two)) (g.seen (other place one two)) s
@@ -37,31 +38,36 @@ module _ {D : Type 0} (g : disk.Ghosts D) where
       }
 
   -- a commit of a turn leaves the world before or the one after
-  pub commit_leaves : (poll pid : ℕ) (place : Place) (w v : World) (one two one_new two_new : D) → TurnOf poll pid w v → CommitLeaves g place w v one two one_new two_new
-      → LeavesWorlds g place (IsOrTurnOf poll pid w) one two one_new two_new
-  commit_leaves poll pid place w v one two one_new two_new t leaves = record {
+  pub commit_leaves : (limits : Limits) (pid : ℕ) (place : Place) (w v : World) (one two one_new two_new : D) → IsTurnWithin limits pid w v
+      → CommitLeaves g place w v one two one_new two_new → LeavesWorlds g place (IsOrTurnOf limits pid w) one two one_new two_new
+  commit_leaves limits pid place w v one two one_new two_new t leaves = record {
     untouched = leaves.untouched;
     each = weaker_run g (its place one two) (its place one_new two_new) _ _ leaves.each either;
   }
     where
-      either : (image : List ℕ) → HoldsEither place w v (g.seen (other place one two)) image → HoldsSome place (IsOrTurnOf poll pid w) (g.seen (other place one two)) image
+      either : (image : List ℕ) → HoldsEither place w v (g.seen (other place one two)) image → HoldsSome place (IsOrTurnOf limits pid w) (g.seen (other place one two)) image
       either image (inl before) = (w, inl refl, before)
       either image (inr after) = (v, inr t, after)
 
   -- ---- one turn more
 
-  more_turns : (poll pid n : ℕ) (u w v : World) → Turns poll n u w → IsOrTurnOf poll pid w v → SomeTurns poll u v
-  more_turns poll pid n u w v ts (inl same) = (n, subst (Turns poll n u) (sym same) ts)
-  more_turns poll pid n u w v ts (inr t) = (suc n, one_more n u w v ts (pid, t))
+  more_turns : (limits : Limits) (pid most n : ℕ) (u w v : World) → n < most → Turns limits.poll_ms n u w → w.batches ≡ u.batches + n
+      → (w ≡ u) ⊎ (length w.nodes ≤ limits.max_nodes) → IsOrTurnOf limits pid w v → SomeTurns limits most u v
+  more_turns limits pid most n u w v less ts batches fits (inl same) =
+      subst (λ (x : World). SomeTurns limits most u x) (sym same) (record { count = n; few = omega (arith, less); turns = ts; batches = batches }, fits)
+  more_turns limits pid most n u w v less ts batches fits (inr t) =
+      let more : v.batches ≡ u.batches + suc n = omega (arith, t.batch, batches) in
+      (record { count = suc n; few = omega (arith, less); turns = one_more n u w v ts (pid, t.turn); batches = more }, inr t.nodes)
 
-  pub leaves_on : (poll pid n : ℕ) (place : Place) (u w : World) (one two one_mid two_mid one_new two_new : D) → Turns poll n u w
-      → LeavesWorlds g place (SomeTurns poll u) one two one_mid two_mid → LeavesWorlds g place (IsOrTurnOf poll pid w) one_mid two_mid one_new two_new
-      → LeavesWorlds g place (SomeTurns poll u) one two one_new two_new
-  leaves_on poll pid n place u w one two one_mid two_mid one_new two_new ts first second =
+  pub leaves_on : (limits : Limits) (pid most n : ℕ) (place : Place) (u w : World) (one two one_mid two_mid one_new two_new : D) → n < most → Turns limits.poll_ms n u w
+      → w.batches ≡ u.batches + n → (w ≡ u) ⊎ (length w.nodes ≤ limits.max_nodes) → LeavesWorlds g place (SomeTurns limits most u) one two one_mid two_mid
+      → LeavesWorlds g place (IsOrTurnOf limits pid w) one_mid two_mid one_new two_new → LeavesWorlds g place (SomeTurns limits most u) one two one_new two_new
+  leaves_on limits pid most n place u w one two one_mid two_mid one_new two_new less ts batches fits first second =
       let beside : g.seen (other place one_mid two_mid) ≡ g.seen (other place one two) = ap g.seen first.untouched in
       record {
         untouched = second.untouched ∙ first.untouched;
-        each = both_runs g (its place one two) (its place one_mid two_mid) (its place one_new two_new) _ _ (HoldsSome place (SomeTurns poll u) (g.seen (other place one two)))
-            first.each second.each (λ image h. h)
-            (λ image h. (h.0, more_turns poll pid n u w h.0 ts h.1, subst (λ (rest : List ℕ). HoldsAs place image rest (a_world h.0)) beside h.2));
+        each = both_runs g (its place one two) (its place one_mid two_mid) (its place one_new two_new) _ _
+            (HoldsSome place (SomeTurns limits most u) (g.seen (other place one two))) first.each second.each (λ image h. h)
+            (λ image h.
+            (h.0, more_turns limits pid most n u w h.0 less ts batches fits h.1, subst (λ (rest : List ℕ). HoldsAs place image rest (a_world h.0)) beside h.2));
       }

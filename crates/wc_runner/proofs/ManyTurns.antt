@@ -48,20 +48,19 @@ sound_on w v sound only e =
     let r = e.process in
     let cs = ends w r (calculated_for w r e.function) None None in
     let fits : IsFitting w r = found_holds (IsFitting w) r.node w.records r sound.records e.created.found in
-    let kept = functions_keep_sound w r e.function e.created e.runs sound only e.accepted in
     record {
-      sound = subst IsSound (sym e.after) kept.0;
-      functions = subst OnlyFunctions (sym e.after) kept.1;
+      sound = subst IsSound (sym e.after) (functions_keep_sound w r e.function e.created e.runs sound only e.accepted).0;
       continues = subst (Continues w) (sym e.after) (functions_continue w r e.function e.created sound.calls (fits.started e.created.created) e.runs);
       reached = reached_after w v e;
     }
 
-sound_last : (poll n : ℕ) (w v : World) → IsReached w → IsSound w → OnlyFunctions w → Turns poll n w v → StaysSound w v
-sound_last poll n w v reached sound only (none x) = record { sound = sound; functions = only; continues = continues_itself x reached; reached = reached }
-sound_last poll n w v reached sound only (one_more m x y z ts t) =
-    let before = sound_last poll m x y reached sound only ts in
-    let last = sound_on y z before.sound before.functions (ends_one poll y z before.reached before.functions t) in
-    record { sound = last.sound; functions = last.functions; continues = continues_on x y z before.continues last.continues; reached = last.reached }
+sound_last : (poll n : ℕ) (w v : World) → AreFunctions w → IsSound w → Turns poll n w v → StaysSound w v
+sound_last poll n w v a sound (none x) = record { sound = sound; continues = continues_itself x a.reached; reached = a.reached }
+sound_last poll n w v a sound (one_more m x y z ts t) =
+    let before = sound_last poll m x y a sound ts in
+    let there = functions_last poll m x y a ts in
+    let last = sound_on y z before.sound there.only (ends_one poll y z before.reached there.only t) in
+    record { sound = last.sound; continues = continues_on x y z before.continues last.continues; reached = last.reached }
 
 pub turns_sound : TurnsKeepSound
-turns_sound poll n w v reached sound only ts = sound_last poll n w v reached sound only ts
+turns_sound poll n w v reached sound only ts = sound_last poll n w v (record { reached = reached; only = only }) sound ts

@@ -10,7 +10,6 @@ use Rattle.wc_runner.specs.Trips.{Turns}
 -- The later world is sound too, and holds all that the earlier one held.
 pub record StaysSound (w v : World) : Type 0 where
   pub sound : IsSound v
-  pub functions : OnlyFunctions v
   pub continues : Continues w v
   pub reached : IsReached v
 

@@ -1,13 +1,15 @@
 -- What calls on a store leave on its disks.
-use Rattle.std.specs.Prelude.{◌≡◌, ◌⊎◌, ℕ, List}
+use Rattle.std.specs.Prelude.{◌≡◌, ◌⊎◌, ◌≤◌, ◌+◌, ℕ, List, length}
 use Rattle.wc_disk.specs.declared.disk.Disk as disk
 use Rattle.wc_disk.specs.Images.{LeavesOnly}
+use Rattle.wc_state.specs.declared.record.Limits.{Limits}
 use Rattle.wc_world.specs.World.{World}
 use Rattle.wc_store.specs.declared.place.Place.{Place}
 use Rattle.wc_store.specs.Places.{its}
 use Rattle.wc_store.specs.Held.{a_world}
 use Rattle.wc_store.specs.Stores.{other, HoldsAs}
-use Rattle.wc_runner.specs.Trips.{TurnOf, Turns}
+use Rattle.wc_runner.specs.Trips.{TurnOf}
+use Rattle.wc_runner.specs.Running.{TakesTurns}
 
 -- The image, beside that of the other disk, holds a world of which P holds.
 abbrev pub HoldsSome : Place → (World → Type 0) → List ℕ → List ℕ → Type 0
@@ -18,10 +20,16 @@ pub record LeavesWorlds {D : Type 0} (g : disk.Ghosts D) (place : Place) (P : Wo
   pub untouched : other place one_new two_new ≡ other place one two
   pub each : LeavesOnly g (its place one two) (its place one_new two_new) (HoldsSome place P (g.seen (other place one two)))
 
--- the world, or what the turn of this process makes of it
-abbrev pub IsOrTurnOf : (poll pid : ℕ) → World → World → Type 0
-IsOrTurnOf poll pid w v = (v ≡ w) ⊎ TurnOf poll pid w v
+-- One world is what the turn of this process makes of another, by one batch and within the limit of nodes.
+pub record IsTurnWithin (limits : Limits) (pid : ℕ) (w v : World) : Type 0 where
+  pub turn : TurnOf limits.poll_ms pid w v
+  pub nodes : length v.nodes ≤ limits.max_nodes
+  pub batch : v.batches ≡ w.batches + 1
 
--- what some turns make of the world
-abbrev pub SomeTurns : ℕ → World → World → Type 0
-SomeTurns poll w v = (n : ℕ) × Turns poll n w v
+-- the world, or what the turn of this process makes of it
+abbrev pub IsOrTurnOf : Limits → (pid : ℕ) → World → World → Type 0
+IsOrTurnOf limits pid w v = (v ≡ w) ⊎ IsTurnWithin limits pid w v
+
+-- what at most so many turns make of the world, within the limit of nodes where any was taken
+abbrev pub SomeTurns : Limits → (most : ℕ) → World → World → Type 0
+SomeTurns limits most w v = TakesTurns limits.poll_ms most w v × ((v ≡ w) ⊎ (length v.nodes ≤ limits.max_nodes))

@@ -29,6 +29,16 @@ RefusesChanges w pid most DiskFault = ⊥
 RefusesChanges w pid most (Full what count limit) = RefusesTurn w pid 0 most (turn_error.Full what count limit)
 RefusesChanges w pid most OutOfMemory = Unit {0}
 
+-- a turn of a ready process is refused for fullness or want of memory alone
+abbrev pub IsRoomOrMemory : TurnError → Type 0
+IsRoomOrMemory turn_error.NotReady = ⊥
+IsRoomOrMemory (turn_error.Full what count limit) = Unit {0}
+IsRoomOrMemory turn_error.UnknownProcess = ⊥
+IsRoomOrMemory (turn_error.Ended state) = ⊥
+IsRoomOrMemory turn_error.UnknownName = ⊥
+IsRoomOrMemory (turn_error.BadInputs port) = ⊥
+IsRoomOrMemory turn_error.OutOfMemory = Unit {0}
+
 -- what a run tells of a turn's refusal
 abbrev pub of_turn : TurnError → RunError
 of_turn turn_error.NotReady = OutOfMemory
@@ -38,6 +48,14 @@ of_turn (turn_error.Ended state) = OutOfMemory
 of_turn turn_error.UnknownName = OutOfMemory
 of_turn (turn_error.BadInputs port) = OutOfMemory
 of_turn turn_error.OutOfMemory = OutOfMemory
+
+-- a commit is refused neither for damage nor for a store that is there
+abbrev pub IsOfCommit : StoreError → Type 0
+IsOfCommit store_error.DiskFault = Unit {0}
+IsOfCommit (store_error.Damaged disk at found) = ⊥
+IsOfCommit (store_error.Full what count limit) = Unit {0}
+IsOfCommit store_error.AlreadyThere = ⊥
+IsOfCommit store_error.OutOfMemory = Unit {0}
 
 -- what a run tells of a commit's refusal
 abbrev pub of_store : StoreError → RunError

@@ -50,8 +50,9 @@ pub fn run<D: Disk>(
     ensures refused { IfErr result (RefusesRun D.Disk (IsTrue (D.tells one.old) × IsTrue (D.tells two.old)) limits.now store.new one.new two.new) }
     ensures still { store.new.live ≡ true → IsTrue (D.tells one.old) → IsTrue (D.tells two.old) → StandsFor D.Disk store.new one.new two.new }
     ensures place { (store.new.place ≡ store.old.place) × (store.new.journal.generation ≡ store.old.journal.generation) × (store.new.journal.version ≡ store.old.journal.version) }
+    // At each moment the disks hold what at most as many turns as are given make, within the limit of nodes.
     ensures any_moment { IsTrue (D.tells one.old) → IsTrue (D.tells two.old)
-        → LeavesWorlds D.Disk store.old.place (SomeTurns limits.now.poll_ms store.old.world.world) one.old two.old one.new two.new }
+        → LeavesWorlds D.Disk store.old.place (SomeTurns limits.now turns store.old.world.world) one.old two.old one.new two.new }
     ensures tells { (D.tells one.new ≡ D.tells one.old) × (D.tells two.new ≡ D.tells two.old) }
     ensures cause { Counts result (D.faults one.old) (D.faults one.new) (D.faults two.old) (D.faults two.new) }
 {

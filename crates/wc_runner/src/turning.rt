@@ -3,13 +3,15 @@
 ghost use Rattle.std.specs.Prelude.{◌≡◌, ◌≤◌, ◌+◌, true, length, IsTrue, IfOk, IfErr, OnOk, OnErr};
 ghost use Rattle.wc_machine.specs.Laws.{OnlyFunctions};
 ghost use Rattle.wc_state.specs.Ranges.{AreLimits};
+ghost use Rattle.wc_world.specs.Applied.{applied};
 ghost use Rattle.wc_core.specs.Ready.{is_ready_at};
+ghost use Rattle.wc_core.specs.Refusals.{HasRoom};
 ghost use Rattle.wc_store.specs.Refusals.{byte_limit};
 ghost use Rattle.wc_store.specs.Stores.{StandsFor};
 ghost use Rattle.wc_runner.specs.Leaves.{IsOrTurnOf, LeavesWorlds};
 ghost use Rattle.wc_runner.specs.Refusals.{Counts, IsUnchanged, RefusesStep, is_live_after};
 ghost use Rattle.wc_runner.specs.Trips.{TurnOf};
-ghost use Rattle.wc_runner.specs.Turning.{IsTurnOf, RefusesChanges, of_store, of_turn};
+ghost use Rattle.wc_runner.specs.Turning.{IsOfCommit, IsRoomOrMemory, IsTurnOf, RefusesChanges, of_store, of_turn};
 
 use crate::error::RunError;
 use std::alloc::Global;
@@ -22,22 +24,26 @@ use wc_world::{Changes, World};
 
 /// What a run tells of a turn's refusal. A process whose turn is taken is there and is ready.
 fn of_turn(error: TurnError) -> RunError
+    requires { IsRoomOrMemory error }
     ensures { result ≡ of_turn error }
 {
     match error {
         TurnError::Full(what, count, limit) => RunError::Full(what, count, limit),
-        _ => RunError::OutOfMemory,
+        TurnError::OutOfMemory => RunError::OutOfMemory,
+        _ => unreachable!(),
     }
 }
 
 /// What a run tells of a commit's refusal. A store that is there is neither damaged nor made again.
 fn of_store(error: StoreError) -> RunError
+    requires { IsOfCommit error }
     ensures { result ≡ of_store error }
 {
     match error {
         StoreError::DiskFault => RunError::DiskFault,
         StoreError::Full(what, count, limit) => RunError::Full(what, count, limit),
-        _ => RunError::OutOfMemory,
+        StoreError::OutOfMemory => RunError::OutOfMemory,
+        _ => unreachable!(),
     }
 }
 
@@ -47,6 +53,7 @@ fn changes_of(alloc: Global, world: &World, limits: &Limits, pid: u32) -> Result
     requires ready { is_ready_at world.now.world pid 0 ≡ true }
     requires functions { OnlyFunctions world.now.world }
     ensures ok { IfOk result (IsTurnOf limits.now.poll_ms world.now.world pid) }
+    ensures room { IfOk result (λ cs. HasRoom limits.now.max_nodes (applied world.now.world cs)) }
     ensures refused { IfErr result (RefusesChanges world.now.world pid limits.now.max_nodes) }
 {
     // What accepted changes make is told by the graph.
@@ -85,7 +92,7 @@ pub fn turn_one<D: Disk>(
     ensures still { store.new.live ≡ true → IsTrue (D.tells one.old) → IsTrue (D.tells two.old) → StandsFor D.Disk store.new one.new two.new }
     ensures place { (store.new.place ≡ store.old.place) × (store.new.journal.generation ≡ store.old.journal.generation) × (store.new.journal.version ≡ store.old.journal.version) }
     ensures any_moment { IsTrue (D.tells one.old) → IsTrue (D.tells two.old)
-        → LeavesWorlds D.Disk store.old.place (IsOrTurnOf limits.now.poll_ms pid store.old.world.world) one.old two.old one.new two.new }
+        → LeavesWorlds D.Disk store.old.place (IsOrTurnOf limits.now pid store.old.world.world) one.old two.old one.new two.new }
     ensures tells { (D.tells one.new ≡ D.tells one.old) × (D.tells two.new ≡ D.tells two.old) }
     ensures cause { Counts result (D.faults one.old) (D.faults one.new) (D.faults two.old) (D.faults two.new) }
 {

@@ -3,7 +3,7 @@ use Rattle.wc_runner.proofs.UnderWay.{UnderWay}
 use Rattle.wc_runner.proofs.running.run.Given as goal
 
 abbrev pub invariant-trip : goal.invariant-trip
-invariant-trip g l = UnderWay g.D.Disk l.fn.limits l.fn.limits.poll_ms l.fn.turns l.fn.store l.fn.one l.fn.two l.taken l.store l.one l.two
+invariant-trip g l = UnderWay g.D.Disk l.fn.limits l.fn.turns l.fn.store l.fn.one l.fn.two l.taken l.store l.one l.two
 
 abbrev pub decreases-trip : goal.decreases-trip
 decreases-trip g l = l.turns - l.taken

@@ -11,7 +11,6 @@ pub mod SubmittedAddition
 pub mod SubmittedInputs
 pub mod OneMorePlaced
 pub mod OneMoreMeaning
-pub mod SubmittedSound
 pub mod AcceptedEnds
 pub mod CalculatedOutputs
 pub mod ContinuedEnds
@@ -24,8 +23,5 @@ pub mod Endings
 pub mod FunctionEnds
 pub mod FunctionFuel
 pub mod FunctionMeaning
-pub mod FunctionSoundness
-pub mod FunctionTrees
 pub mod FunctionWorlds
-pub mod SoundFunctions
 pub mod FittingAnswers

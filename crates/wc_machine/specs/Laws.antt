@@ -1,8 +1,7 @@
--- Laws of the machine, most of them on worlds of functions that take no other's outcome.
+-- Laws of the machine: submissions, the turns of functions, answers.
 use Rattle.std.specs.Prelude.{◌≡◌, ◌↔◌, ◌⊎◌, ℕ, ◌+◌, ◌<◌, ◌≤◌, true, false, List, length, All, Some, None}
 use Rattle.wc_value.specs.declared.process.JobResult.{JobResult}
 use Rattle.wc_value.specs.declared.process.ProcessState.TheVariants as state
-use Rattle.wc_syntax.specs.Findings.{definition_named, is_among}
 use Rattle.wc_syntax.specs.declared.definition.Definition.{Definition}
 use Rattle.wc_syntax.specs.declared.definition.Definition.TheVariants as definition
 use Rattle.wc_syntax.specs.declared.definition.Function.{Function}
@@ -50,17 +49,6 @@ abbrev pub SubmissionsContinue : Type 0
 SubmissionsContinue = (w : World) (library : List Definition) (caching : List (List ℕ)) (name : List ℕ) (inputs : Values) (cs : List Change)
     → IsReached w → Submits w library caching name inputs cs → Continues w (applied w cs)
 
--- the library has a function of this name, which is not among those with caching on
-pub record IsPlainFunction (library : List Definition) (caching : List (List ℕ)) (name : List ℕ) : Type 0 where
-  pub function : Function
-  pub is_there : definition_named name library ≡ Some (definition.Function function)
-  pub uncached : is_among name caching ≡ false
-
-abbrev pub SubmissionsKeepSound : Type 0
-SubmissionsKeepSound = (w : World) (library : List Definition) (caching : List (List ℕ)) (name : List ℕ) (inputs : Values) (cs : List Change)
-    → IsReached w → IsSound w → OnlyFunctions w → Submits w library caching name inputs cs → IsPlainFunction library caching name
-    → IsAccepted w cs → IsSound (applied w cs) × OnlyFunctions (applied w cs)
-
 -- ---- turns
 
 -- a calculation that is created, in a world that accepted changes make
@@ -82,11 +70,6 @@ FunctionsAreAccepted = (w : World) (r : ProcessRecord) (f : Function) → IsCrea
 abbrev pub FunctionsContinue : Type 0
 FunctionsContinue = (w : World) (r : ProcessRecord) (f : Function) → IsCreatedCalculation w r → All (CallsAreKept w) w.records → r.started ≡ 0
     → its_definition w r ≡ Some (definition.Function f) → Continues w (applied w (ends w r (calculated_for w r f) None None))
-
-abbrev pub FunctionsKeepSound : Type 0
-FunctionsKeepSound = (w : World) (r : ProcessRecord) (f : Function) → IsCreatedCalculation w r → its_definition w r ≡ Some (definition.Function f)
-    → IsSound w → OnlyFunctions w → IsAccepted w (ends w r (calculated_for w r f) None None)
-    → IsSound (applied w (ends w r (calculated_for w r f) None None)) × OnlyFunctions (applied w (ends w r (calculated_for w r f) None None))
 
 -- ---- the beginning
 

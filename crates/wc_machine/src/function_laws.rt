@@ -1,5 +1,5 @@
 //! Laws of a function's turn.
-ghost use Rattle.wc_machine.specs.Laws.{FunctionsAreAccepted, FunctionsContinue, FunctionsKeepSound};
+ghost use Rattle.wc_machine.specs.Laws.{FunctionsAreAccepted, FunctionsContinue};
 
 /// A world accepts the changes of a function that ends, where there is room for its outputs.
 pub fn functions_are_accepted()
@@ -9,9 +9,4 @@ pub fn functions_are_accepted()
 /// The world after the turn of a function that hasn't started continues the one before.
 pub fn functions_continue()
     ensures { FunctionsContinue }
-{}
-
-/// A function's turn keeps a world of functions sound.
-pub fn functions_keep_sound()
-    ensures { FunctionsKeepSound }
 {}

@@ -8,8 +8,7 @@ mod submission_laws;
 
 pub use answer::TaskAnswer;
 pub use answer_laws::{fitting_answers_lead, turns_fit_needs};
-pub use function_laws::{functions_are_accepted, functions_continue, functions_keep_sound};
+pub use function_laws::{functions_are_accepted, functions_continue};
 pub use submission_laws::{
-    submissions_are_accepted, submissions_continue, submissions_keep_sound,
-    the_empty_world_is_sound,
+    submissions_are_accepted, submissions_continue, the_empty_world_is_sound,
 };

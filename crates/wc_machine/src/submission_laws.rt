@@ -1,5 +1,5 @@
 //! Laws of submissions.
-ghost use Rattle.wc_machine.specs.Laws.{SubmissionsAreAccepted, SubmissionsContinue, SubmissionsKeepSound, EmptyIsSound};
+ghost use Rattle.wc_machine.specs.Laws.{SubmissionsAreAccepted, SubmissionsContinue, EmptyIsSound};
 
 /// The empty world is sound.
 pub fn the_empty_world_is_sound()
@@ -14,9 +14,4 @@ pub fn submissions_are_accepted()
 /// The world after a submission continues the one before.
 pub fn submissions_continue()
     ensures { SubmissionsContinue }
-{}
-
-/// The submission of a function keeps a world of functions sound.
-pub fn submissions_keep_sound()
-    ensures { SubmissionsKeepSound }
 {}

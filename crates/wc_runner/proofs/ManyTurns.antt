@@ -1,14 +1,15 @@
 -- Turns one after another in a world of functions.
-use Rattle.std.proofs.Common.{◌≡◌, ℕ, ◌+◌, None, sym, subst, arith}
+use Rattle.std.proofs.Common.{◌≡◌, ℕ, ◌+◌, true, false, None, refl, sym, subst, ◌∙◌, arith}
+use Rattle.wc_state.specs.declared.record.ProcessKind.TheVariants as kind
 use Rattle.wc_world.specs.World.{World}
 use Rattle.wc_world.specs.Accepted.{IsReached}
 use Rattle.wc_world.proofs.FoundRecords.{found_holds}
 use Rattle.wc_machine.specs.Continues.{Continues}
 use Rattle.wc_machine.specs.Laws.{OnlyFunctions, calculated_for}
-use Rattle.wc_machine.specs.Ending.{ends}
+use Rattle.wc_machine.specs.Ending.{ends, TakesSource}
 use Rattle.wc_machine.specs.Sound.{IsSound, IsFitting}
 use Rattle.wc_machine.proofs.FunctionEnds.{functions_continue}
-use Rattle.wc_machine.proofs.SoundFunctions.{functions_keep_sound}
+use Rattle.wc_caching.proofs.Turns.{functions_keep_sound}
 use Rattle.wc_runner.specs.Laws.{StaysSound, TurnsKeepSound, TurnsAreBatches}
 use Rattle.wc_runner.specs.Trips.{OneTurn, Turns, none, one_more}
 use Rattle.wc_runner.proofs.Continuing.{continues_itself, continues_on}
@@ -47,9 +48,11 @@ sound_on : (w v : World) → IsSound w → OnlyFunctions w → EndsOne w v → S
 sound_on w v sound only e =
     let r = e.process in
     let cs = ends w r (calculated_for w r e.function) None None in
+    let uncached : r.caching ≡ false = (found_holds (λ x. (x.kind ≡ kind.Function) × (x.caching ≡ false)) r.node w.records r only e.created.found).1 in
+    let own : TakesSource w r None = record { on = λ on. let both : true ≡ false = sym on ∙ uncached in absurd (cc); off = λ off. refl } in
     let fits : IsFitting w r = found_holds (IsFitting w) r.node w.records r sound.records e.created.found in
     record {
-      sound = subst IsSound (sym e.after) (functions_keep_sound w r e.function e.created e.runs sound only e.accepted).0;
+      sound = subst IsSound (sym e.after) (functions_keep_sound w r e.function e.created sound own e.runs e.accepted);
       continues = subst (Continues w) (sym e.after) (functions_continue w r e.function e.created sound.calls (fits.started e.created.created) e.runs);
       reached = reached_after w v e;
     }

@@ -6,7 +6,6 @@ pub mod SubmittedAccepted
 pub mod Upward
 pub mod EmptyWorld
 pub mod OneMore
-pub mod OneMoreCreated
 pub mod SubmittedAddition
 pub mod SubmittedInputs
 pub mod OneMorePlaced

@@ -14,7 +14,6 @@ use Rattle.wc_world.specs.World.{World}
 use Rattle.wc_world.specs.Accepted.{IsAccepted, IsReached, then_changes}
 use Rattle.wc_world.specs.Applied.{applied}
 use Rattle.wc_machine.specs.Continues.{Continues}
-use Rattle.wc_machine.specs.Laws.{OnlyFunctions, IsPlainFunction}
 use Rattle.wc_machine.specs.Sound.{IsSound}
 use Rattle.wc_machine.specs.Submitting.{data_change, links_from, Submits, submitted_number}
 use Rattle.wc_state.specs.Ranges.{AreLimits}
@@ -35,7 +34,7 @@ use Rattle.wc_report.specs.Lines.{submitted_text}
 use Rattle.wc_engine.specs.Replies.{prints}
 use Rattle.wc_engine.specs.Stored.{Hold, usual_limits, is_full}
 use Rattle.wc_engine.specs.StoreReplies.{store_reply, turn_reply}
-use Rattle.wc_engine.specs.Submits.{IsWithinLimits, IsReady}
+use Rattle.wc_engine.specs.Submits.{IsWithinLimits}
 use Rattle.wc_engine.proofs.Doing.{journal_held, goes_on_journal, some_is}
 
 -- ---- what a submission asks
@@ -46,9 +45,6 @@ usual_ranges = record { some_nodes = lit≤ tt; few_nodes = lit≤ tt; some_byte
 pub all_shallow : (is : Values) → AllByRecursion IsWithinLimits is → All (λ i. depth i.1 ≤ 32) is
 all_shallow [] h = All-nil (λ i. depth i.1 ≤ 32)
 all_shallow (i ∷ is) h = All-cons (λ j. depth j.1 ≤ 32) i is h.0.1 (all_shallow is h.1)
-
-pub plain_function : (s : Submission) → IsReady s → IsPlainFunction s.library [] s.name
-plain_function s ready = record { function = ready.function; is_there = ready.named; uncached = refl }
 
 -- ---- its changes
 
@@ -66,22 +62,19 @@ submission_plain w library caching name inputs cs s =
     ap is_plain s.changes ∙ plain_values inputs _ (plain_links _ _ _ inputs)
 
 pub keeps_entered : (w : World) (cs : List Change) → IsReached w → IsAccepted w cs → Continues w (applied w cs)
-    → (IsSound w → OnlyFunctions w → IsSound (applied w cs) × OnlyFunctions (applied w cs)) → Keeps w (applied w cs)
-keeps_entered w cs reached accepted continues sound is_sound functions =
-    let h = sound is_sound functions in
-    record { sound = h.0; functions = h.1; continues = continues; reached = then_changes w cs reached accepted }
+    → (IsSound w → IsSound (applied w cs)) → Keeps w (applied w cs)
+keeps_entered w cs reached accepted continues sound is_sound =
+    record { sound = sound is_sound; continues = continues; reached = then_changes w cs reached accepted }
 
 pub result_plain : {E : Type 0} (w : World) (library : List Definition) (caching : List (List ℕ)) (name : List ℕ) (inputs : Values) (result : Result (List Change) E)
     → IfOk result (Submits w library caching name inputs) → IfOk result (λ cs. is_plain cs ≡ true)
 result_plain w library caching name inputs (Ok cs) h = submission_plain w library caching name inputs cs h
 result_plain w library caching name inputs (Err e) h = h
 
-pub result_keeps : {E : Type 0} (w : World) (library : List Definition) (caching : List (List ℕ)) (name : List ℕ) (result : Result (List Change) E) → IsReached w
-    → IsPlainFunction library caching name → IfOk result (IsAccepted w) → IfOk result (λ cs. Continues w (applied w cs))
-    → IfOk result (λ cs. IsSound w → OnlyFunctions w → IsPlainFunction library caching name → IsSound (applied w cs) × OnlyFunctions (applied w cs))
-    → IfOk result (λ cs. Keeps w (applied w cs))
-result_keeps w library caching name (Ok cs) reached plain accepted continues sound = keeps_entered w cs reached accepted continues (λ is_sound functions. sound is_sound functions plain)
-result_keeps w library caching name (Err e) reached plain accepted continues sound = accepted
+pub result_keeps : {E : Type 0} (w : World) (result : Result (List Change) E) → IsReached w → IfOk result (IsAccepted w)
+    → IfOk result (λ cs. Continues w (applied w cs)) → IfOk result (λ cs. IsSound w → IsSound (applied w cs)) → IfOk result (λ cs. Keeps w (applied w cs))
+result_keeps w (Ok cs) reached accepted continues sound = keeps_entered w cs reached accepted continues sound
+result_keeps w (Err e) reached accepted continues sound = accepted
 
 -- ---- what was done
 

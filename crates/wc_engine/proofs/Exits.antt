@@ -1,17 +1,12 @@
 -- What each pair of images holds at exit.
 use Rattle.std.proofs.Common.{◌≡◌, ◌≤◌, inl, inr, ⊎_elim, ℕ, List, Option, sym, subst}
-use Rattle.std.proofs.lemmas.List.Elements.{All-nil}
-use Rattle.std.specs.Prelude.{false}
 use Rattle.wc_disk.specs.declared.disk.Disk as disk
-use Rattle.wc_state.specs.declared.record.ProcessKind.TheVariants as kind
-use Rattle.wc_state.specs.declared.record.ProcessRecord.{ProcessRecord}
 use Rattle.wc_world.specs.World.{World, empty}
-use Rattle.wc_machine.specs.Laws.{OnlyFunctions, EmptyIsSound}
+use Rattle.wc_machine.specs.Laws.{EmptyIsSound}
 use Rattle.wc_machine.specs.Sound.{IsSound}
 use Rattle.wc_store.specs.Held.{IsHeld, nothing, a_world}
 use Rattle.wc_store.specs.Laws.{HeldIsOne}
 use Rattle.wc_store.proofs.Parts.{weaker_parts}
-use Rattle.wc_runner.specs.Laws.{StaysSound}
 use Rattle.wc_engine.specs.declared.status.Status.{Status}
 use Rattle.wc_engine.specs.Crashes.{EachPair, HoldsSound, HoldsTheSame, AreDurable, HoldsKeeping, Kept, LeavesKept}
 use Rattle.wc_engine.specs.declared.status.Status.TheVariants as status
@@ -20,9 +15,6 @@ use Rattle.wc_engine.specs.Headline.{Call, Headline}
 use Rattle.wc_engine.specs.Makes.{MayBegin, Makes}
 use Rattle.wc_engine.specs.Owed.{IsOfFiles}
 use Rattle.wc_engine.specs.Replies.{IsDoneOrFull}
-
-only_functions : OnlyFunctions empty
-only_functions = All-nil (λ (r : ProcessRecord). (r.kind ≡ kind.Function) × (r.caching ≡ false))
 
 no_world : (w : World) → nothing ≡ a_world w → ⊥
 no_world w h = cc
@@ -36,15 +28,14 @@ keeping_sound : HeldIsOne → (makes : World → World → Type 0) (one two a b 
 keeping_sound law makes one two a b w (inl none) held keeping = absurd (no_world w (law one two nothing (a_world w) none held))
 keeping_sound law makes one two a b w (inr sound) held keeping =
     let same : sound.0 ≡ w = same_world sound.0 w (law one two (a_world sound.0) (a_world w) sound.1 held) in
-    let stays : StaysSound w keeping.0 = keeping.3 (subst IsSound same sound.2) (subst OnlyFunctions same sound.3) in
-    inr (keeping.0, keeping.1, stays.sound, stays.functions)
+    inr (keeping.0, keeping.1, (keeping.3 (subst IsSound same sound.2)).sound)
 
 module _ {D : Type 0} (g : disk.Ghosts D) where
   kept_sound : HeldIsOne → EmptyIsSound → (begins : Type 0) (makes : World → World → Type 0) (one two : D) (a b : List ℕ) → EachPair g one two HoldsSound
       → g.may_leave one (g.seen one) → g.may_leave two (g.seen two) → Kept g begins makes one two a b → HoldsSound a b
   kept_sound law sound begins makes one two a b entry reads reads_too (inl was) = entry a b was.0 was.1
   kept_sound law sound begins makes one two a b entry reads reads_too (inr (inl begun)) =
-      ⊎_elim (λ none. inl none) (λ held. inr (empty, held, sound, only_functions)) begun.1.held
+      ⊎_elim (λ none. inl none) (λ held. inr (empty, held, sound)) begun.1.held
   kept_sound law sound begins makes one two a b entry reads reads_too (inr (inr h)) =
       keeping_sound law makes (g.seen one) (g.seen two) a b h.0 (entry (g.seen one) (g.seen two) reads reads_too) h.1 h.2
 

@@ -6,6 +6,7 @@ use Rattle.wc_disk.proofs.Runs.{no_call, both_runs}
 use Rattle.wc_state.specs.declared.record.Limits.{Limits}
 use Rattle.wc_world.specs.World.{World}
 use Rattle.wc_world.specs.Accepted.{IsReached}
+use Rattle.wc_machine.specs.Laws.{OnlyFunctions}
 use Rattle.wc_store.specs.declared.error.StoreError.{StoreError}
 use Rattle.wc_store.specs.declared.store.Store.{Store}
 use Rattle.wc_store.specs.Held.{Standing, IsHeld, a_world}
@@ -20,12 +21,13 @@ use Rattle.wc_runner.specs.Leaves.{LeavesWorlds, SomeTurns}
 use Rattle.wc_engine.specs.declared.submission.Prepared.{Prepared}
 use Rattle.wc_engine.specs.declared.submission.Prepared.TheVariants as prepared
 use Rattle.wc_engine.specs.Crashes.{Keeps, HoldsKeeping, Kept, WritesOne, LeavesPairs, LeavesKept}
+use Rattle.wc_engine.specs.Running.{usual_turns}
 use Rattle.wc_engine.specs.Makes.{Stays, TakesSome, MakesPrepared, MakesSubmission}
 use Rattle.wc_engine.specs.Stored.{usual_limits}
 use Rattle.wc_engine.specs.Submits.{PreparesFrom}
 
 keeps_itself : WorldsContinueThemselves → (w : World) → IsReached w → Keeps w w
-keeps_itself law w reached sound functions = record { sound = sound; functions = functions; continues = law w reached; reached = reached }
+keeps_itself law w reached sound = record { sound = sound; continues = law w reached; reached = reached }
 
 pub images_hold : (one two a b : List ℕ) (s : Standing) → IsHeld one two s → AreImages one two a b → IsHeld a b s
 images_hold one two a b s held are =
@@ -95,22 +97,24 @@ module _ {D : Type 0} (g : disk.Ghosts D) (at_now : (d : D) (image : List ℕ) �
         (λ a b held. (store.world.world, held, refl, keeps_itself same_law store.world.world reached)) (other_writes store.place one two one_new two_new leaves.untouched)
 
     -- turns
-    turned : TurnsKeepSound → (poll : ℕ) (one_new two_new : D) → LeavesWorlds g store.place (SomeTurns poll store.world.world) one two one_new two_new
-        → LeavesPairs g one two one_new two_new (HoldsKeeping (SomeTurns poll) store.world.world)
-    turned turns_law poll one_new two_new leaves =
-        with_one (SomeTurns poll) (λ a b. (v : World) × SomeTurns poll store.world.world v × IsHeld a b (a_world v)) one_new two_new
-        (then_worlds g at_now one two one two (none_asked one) (none_asked two) stands.durable_one stands.durable_two store.place (SomeTurns poll store.world.world) one_new two_new
-        leaves.untouched leaves.each)
-        (λ a b held. (held.0, held.2, held.1, λ sound functions. turns_law poll held.1.0 store.world.world held.0 reached sound functions held.1.1))
+    turned : TurnsKeepSound → OnlyFunctions store.world.world → (one_new two_new : D)
+        → LeavesWorlds g store.place (SomeTurns usual_limits usual_turns store.world.world) one two one_new two_new
+        → LeavesPairs g one two one_new two_new (HoldsKeeping TakesSome store.world.world)
+    turned turns_law only one_new two_new leaves =
+        let P : World → Type 0 = SomeTurns usual_limits usual_turns store.world.world in
+        with_one TakesSome (λ a b. (v : World) × P v × IsHeld a b (a_world v)) one_new two_new
+        (then_worlds g at_now one two one two (none_asked one) (none_asked two) stands.durable_one stands.durable_two store.place P one_new two_new leaves.untouched leaves.each)
+        (λ a b held.
+        (held.0, held.2, inr (only, held.1), λ sound. turns_law usual_limits.poll_ms held.1.0.count store.world.world held.0 reached sound only held.1.0.turns))
         (own_writes store.place one two one_new two_new leaves.untouched)
 
     -- turns within the usual limits
-    pub taken : TurnsKeepSound → (limits : Limits) (one_new two_new : D) → limits ≡ usual_limits
-        → LeavesWorlds g store.place (SomeTurns limits.poll_ms store.world.world) one two one_new two_new
+    pub taken : TurnsKeepSound → OnlyFunctions store.world.world → (limits : Limits) (one_new two_new : D) → limits ≡ usual_limits
+        → LeavesWorlds g store.place (SomeTurns limits usual_turns store.world.world) one two one_new two_new
         → LeavesPairs g one two one_new two_new (HoldsKeeping TakesSome store.world.world)
-    taken turns_law limits one_new two_new usual leaves =
-        subst (λ (l : Limits). LeavesPairs g one two one_new two_new (HoldsKeeping (SomeTurns l.poll_ms) store.world.world)) usual
-        (turned turns_law limits.poll_ms one_new two_new leaves)
+    taken turns_law only limits one_new two_new usual leaves =
+        turned turns_law only one_new two_new
+        (subst (λ (l : Limits). LeavesWorlds g store.place (SomeTurns l usual_turns store.world.world) one two one_new two_new) usual leaves)
 
   -- ---- whole calls
 

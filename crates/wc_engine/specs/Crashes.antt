@@ -4,7 +4,6 @@ use Rattle.wc_disk.specs.declared.disk.Disk as disk
 use Rattle.wc_disk.specs.Images.{LeavesOnly}
 use Rattle.wc_disk.specs.Steps.{Only}
 use Rattle.wc_world.specs.World.{World}
-use Rattle.wc_machine.specs.Laws.{OnlyFunctions}
 use Rattle.wc_machine.specs.Sound.{IsSound}
 use Rattle.wc_runner.specs.Laws.{StaysSound}
 use Rattle.wc_store.specs.Held.{Standing, IsHeld, nothing, a_world}
@@ -12,9 +11,9 @@ use Rattle.wc_store.specs.Stores.{InTwoParts, BeginsFrom}
 
 -- ---- what images hold
 
--- the images hold nothing, or a sound world of functions
+-- the images hold nothing, or a sound world
 abbrev pub HoldsSound : List ℕ → List ℕ → Type 0
-HoldsSound a b = IsHeld a b nothing ⊎ ((w : World) × IsHeld a b (a_world w) × IsSound w × OnlyFunctions w)
+HoldsSound a b = IsHeld a b nothing ⊎ ((w : World) × IsHeld a b (a_world w) × IsSound w)
 
 -- each pair of images that a crash now may leave has P
 abbrev pub EachPair : {D : Type 0} → disk.Ghosts D → D → D → (List ℕ → List ℕ → Type 0) → Type 0
@@ -31,9 +30,9 @@ pub record AreDurable {D : Type 0} (g : disk.Ghosts D) (one two : D) : Type 0 wh
 
 -- ---- what calls keep
 
--- where the earlier world is a sound one of functions, so is the later one, and it has all that the earlier one had
+-- where the earlier world is sound, so is the later one, and it has all that the earlier one had
 abbrev pub Keeps : World → World → Type 0
-Keeps w v = IsSound w → OnlyFunctions w → StaysSound w v
+Keeps w v = IsSound w → StaysSound w v
 
 -- the pair holds a world that the call may make of this one, and that keeps it
 abbrev pub HoldsKeeping : (World → World → Type 0) → World → List ℕ → List ℕ → Type 0

@@ -23,7 +23,7 @@ pub record Call (D : Type 0) : Type 0 where
 
 -- In a call of two parts each image of the first is one that a crash at entry might have left. From the middle on, which is a moment of
 -- each disk's own clock, each pair of images is such a pair, or holds what the command makes of what the disks held at entry, and in both
--- cases nothing or a sound world of functions. At most one of the disks is written in all the call. At exit each pair holds nothing or a
+-- cases nothing or a sound world. At most one of the disks is written in all the call. At exit each pair holds nothing or a
 -- sound world again, as the next call needs it. Where a command of a store was done, or found the store too full, nothing is pending,
 -- and each pair holds what the disks then read as. After `submit` was done, each pair holds the process whose number was written. No
 -- disk is told to be damaged.

@@ -3,6 +3,7 @@ use Rattle.std.specs.Prelude.{◌≡◌, ◌⊎◌, ℕ, List, Option, Some, Non
 use Rattle.wc_world.specs.declared.change.Change.{Change}
 use Rattle.wc_world.specs.World.{World}
 use Rattle.wc_world.specs.Applied.{applied}
+use Rattle.wc_machine.specs.Laws.{OnlyFunctions}
 use Rattle.wc_runner.specs.Leaves.{SomeTurns}
 use Rattle.wc_cli.specs.declared.command.Command.{Command}
 use Rattle.wc_cli.specs.declared.command.Command.TheVariants.{Dry, Check, Init, Submit, Run, List as Listing, Tree, Pack}
@@ -10,6 +11,7 @@ use Rattle.wc_engine.specs.declared.submission.Submission.{Submission}
 use Rattle.wc_engine.specs.declared.submission.Prepared.{Prepared}
 use Rattle.wc_engine.specs.declared.submission.Prepared.TheVariants as prepared
 use Rattle.wc_engine.specs.Entering.{Changes}
+use Rattle.wc_engine.specs.Running.{usual_turns}
 use Rattle.wc_engine.specs.Stored.{usual_limits}
 use Rattle.wc_engine.specs.Submits.{PreparesFrom}
 
@@ -46,9 +48,9 @@ MakesPrepared (prepared.Submits s) = MayEnter s
 abbrev pub MakesSubmission : Option (List ℕ → Option (List ℕ)) → List ℕ → List ℕ → List (List ℕ × List ℕ) → World → World → Type 0
 MakesSubmission told file name given w v = (v ≡ w) ⊎ ((s : Submission) × PreparesFrom told file name given (prepared.Submits s) × HasEntered s w v)
 
--- what the turns of some processes, one after another, make of the world, or none
+-- the same world, or, of a world of functions, what at most as many turns as a run takes make of it, within the limits
 abbrev pub TakesSome : World → World → Type 0
-TakesSome w v = SomeTurns usual_limits.poll_ms w v
+TakesSome w v = (v ≡ w) ⊎ (OnlyFunctions w × SomeTurns usual_limits usual_turns w v)
 
 -- What a command makes of a world, on a shelf that tells this. A command but `submit` and `run` changes no world.
 abbrev pub Makes : Option (List ℕ → Option (List ℕ)) → Option Command → World → World → Type 0

@@ -75,11 +75,11 @@ pub fn serve<R: Shelf, W: Sink, D: Disk>(
     ensures files { AsksNoDisk (R.contents shelf.old) (command_of words.now) → (one.new ≡ one.old) × (two.new ≡ two.old) × (result ≡ Status.DiskFault → ⊥) }
     // Nor is one asked where `submit` is refused for what is in its words or its file, whether the shelf tells its contents or not.
     ensures early { IsSubmit (command_of words.now) → IsRefusedForFile result → (one.new ≡ one.old) × (two.new ≡ two.old) }
-    // It is asked that each pair of images that a crash at entry may leave holds nothing or a sound world of functions: each process that
+    // It is asked that each pair of images that a crash at entry may leave holds nothing or a sound world: each process that
     // has ended has the tree that its definition means for its recorded inputs, and each created value has one creator, whose inputs
     // give it. Two empty disks meet this, and what is left at exit meets it again.
     // Up to a moment of each disk's clock each image is one that a crash at entry might have left. From then on each pair of images holds
-    // nothing or a sound world of functions, and is two images that a crash at entry might have left, or holds what the command makes of
+    // nothing or a sound world, and is two images that a crash at entry might have left, or holds what the command makes of
     // what the disks read as at entry. Where that is nothing, `init` alone makes a store: the pair holds nothing or the empty world.
     // Where it is a world, the pair holds one that continues it: for `submit` the same world, or what the one submission makes of it as
     // which its words are prepared; for `run` what some turns make of it; for each other command the same world.

@@ -1,12 +1,11 @@
 use Rattle.std.proofs.Common.{List, ℕ, [], IfOk, IfErr, ap, sym, subst}
 use Rattle.wc_state.specs.Ranges.{AreLimits}
 use Rattle.wc_core.specs.Refusals.{HasRoom, RefusesSubmission}
-use Rattle.wc_machine.specs.Laws.{IsPlainFunction}
 use Rattle.wc_machine.specs.Submitting.{Submits}
 use Rattle.wc_state.specs.declared.record.Limits.{Limits}
 use Rattle.wc_world.specs.Applied.{applied}
 use Rattle.wc_world.specs.Fits.{names_ascend}
-use Rattle.wc_engine.proofs.Entries.{usual_ranges, all_shallow, plain_function, result_plain, result_keeps}
+use Rattle.wc_engine.proofs.Entries.{usual_ranges, all_shallow, result_plain, result_keeps}
 use Rattle.wc_engine.proofs.entering.changes_for.Goals as goal
 
 pub submit_changes-requires : goal.submit_changes-requires
@@ -32,10 +31,8 @@ returns-clause-plain c =
 
 pub returns-clause-keeps : goal.returns-clause-keeps
 returns-clause-keeps c =
-    let s = c.args.submission in
-    result_keeps c.args.world.now.world s.library c.new-caching.result s.name c.submit_changes.result c.graph-graph.ensures.reached
-    (subst (λ (l : List (List ℕ)). IsPlainFunction s.library l s.name) (sym c.new-caching.ensures) (plain_function s c.requires.ready)) c.submit_changes.ensures.accepted
-    c.submit_changes.ensures.continues c.submit_changes.ensures.sound
+    result_keeps c.args.world.now.world c.submit_changes.result c.graph-graph.ensures.reached c.submit_changes.ensures.accepted c.submit_changes.ensures.continues
+    c.submit_changes.ensures.sound
 
 pub returns-clause-refused : goal.returns-clause-refused
 returns-clause-refused c =

@@ -1,14 +1,14 @@
-use Rattle.std.proofs.Common.{◌≡◌, inl, inr, not, None, Err, IsTrue, sym, subst, ◌∙◌}
+use Rattle.std.proofs.Common.{◌≡◌, refl, inl, inr, not, None, Err, IsTrue, sym, subst, ◌∙◌}
 use Rattle.std.specs.List.{find}
 use Rattle.wc_state.specs.declared.record.Limits.{Limits}
 use Rattle.wc_world.specs.World.{World}
+use Rattle.wc_machine.specs.Laws.{OnlyFunctions}
 use Rattle.wc_runner.specs.declared.error.RunError.{RunError}
 use Rattle.wc_runner.specs.declared.error.RunError.TheVariants.{Full}
 use Rattle.wc_runner.specs.declared.running.RunEnd.{RunEnd}
 use Rattle.wc_runner.specs.Functions.{is_plain}
 use Rattle.wc_runner.specs.Refusals.{IsFullAt, RefusesRun, is_live_after}
 use Rattle.wc_runner.specs.Running.{TakesTurns, FitsAfter, EndsAs}
-use Rattle.wc_runner.specs.Trips.{none as no_turns}
 use Rattle.wc_engine.specs.Makes.{TakesSome}
 use Rattle.wc_engine.specs.Running.{usual_turns, has_run}
 use Rattle.wc_engine.proofs.Leaving.{standing, taken}
@@ -22,55 +22,55 @@ pub returns-in_err-copy-clause-kept : goal.returns-in_err-copy-clause-kept
 returns-in_err-copy-clause-kept g c =
     λ told told_too.
     standing g.D.Disk g.met.D.Disk.only_now c.worlds_are_kept.ensures.reached c.worlds_are_kept.ensures.same c.args.store c.args.one.now c.args.two.now (c.requires.stands told told_too)
-    TakesSome (0, no_turns c.args.store.world.world)
+    TakesSome (inl refl)
 
 pub returns-in_err-refuse-clause-kept : goal.returns-in_err-refuse-clause-kept
 returns-in_err-refuse-clause-kept g c =
     λ told told_too.
     standing g.D.Disk g.met.D.Disk.only_now c.worlds_are_kept.ensures.reached c.worlds_are_kept.ensures.same c.args.store c.args.one.now c.args.two.now (c.requires.stands told told_too)
-    TakesSome (0, no_turns c.args.store.world.world)
+    TakesSome (inl refl)
 
 pub returns-in-Some-clause-kept : goal.returns-in-Some-clause-kept
 returns-in-Some-clause-kept g c =
     λ told told_too.
     standing g.D.Disk g.met.D.Disk.only_now c.worlds_are_kept.ensures.reached c.worlds_are_kept.ensures.same c.args.store c.args.one.now c.args.two.now (c.requires.stands told told_too)
-    TakesSome (0, no_turns c.args.store.world.world)
+    TakesSome (inl refl)
 
 pub returns-in_err-has_run-in-Ok-clause-kept : goal.returns-in_err-has_run-in-Ok-clause-kept
 returns-in_err-has_run-in-Ok-clause-kept g c =
     λ told told_too.
     taken g.D.Disk g.met.D.Disk.only_now c.worlds_are_kept.ensures.reached c.worlds_are_kept.ensures.same c.args.store c.args.one.now c.args.two.now (c.requires.stands told told_too)
-    c.worlds_are_kept.ensures.turns c.usual_limits.result c.run.new.one c.run.new.two c.usual_limits.ensures (c.run.ensures.any_moment told told_too)
+    c.worlds_are_kept.ensures.turns (subst OnlyFunctions (λ i. (c.world.ensures i).world) (c.in_default.ensures.none refl)) c.usual_limits.result c.run.new.one c.run.new.two c.usual_limits.ensures (c.run.ensures.any_moment told told_too)
 
 pub returns-in-Ok-clause-kept : goal.returns-in-Ok-clause-kept
 returns-in-Ok-clause-kept g c =
     λ told told_too.
     taken g.D.Disk g.met.D.Disk.only_now c.worlds_are_kept.ensures.reached c.worlds_are_kept.ensures.same c.args.store c.args.one.now c.args.two.now (c.requires.stands told told_too)
-    c.worlds_are_kept.ensures.turns c.usual_limits.result c.run.new.one c.run.new.two c.usual_limits.ensures (c.run.ensures.any_moment told told_too)
+    c.worlds_are_kept.ensures.turns (subst OnlyFunctions (λ i. (c.world.ensures i).world) (c.in_default.ensures.none refl)) c.usual_limits.result c.run.new.one c.run.new.two c.usual_limits.ensures (c.run.ensures.any_moment told told_too)
 
 pub returns-in-Err-DiskFault-clause-kept : goal.returns-in-Err-DiskFault-clause-kept
 returns-in-Err-DiskFault-clause-kept g c =
     λ told told_too.
     taken g.D.Disk g.met.D.Disk.only_now c.worlds_are_kept.ensures.reached c.worlds_are_kept.ensures.same c.args.store c.args.one.now c.args.two.now (c.requires.stands told told_too)
-    c.worlds_are_kept.ensures.turns c.usual_limits.result c.run.new.one c.run.new.two c.usual_limits.ensures (c.run.ensures.any_moment told told_too)
+    c.worlds_are_kept.ensures.turns (subst OnlyFunctions (λ i. (c.world.ensures i).world) (c.in_default.ensures.none refl)) c.usual_limits.result c.run.new.one c.run.new.two c.usual_limits.ensures (c.run.ensures.any_moment told told_too)
 
 pub returns-in_err-full-in-Err-Full-clause-kept : goal.returns-in_err-full-in-Err-Full-clause-kept
 returns-in_err-full-in-Err-Full-clause-kept g c =
     λ told told_too.
     taken g.D.Disk g.met.D.Disk.only_now c.worlds_are_kept.ensures.reached c.worlds_are_kept.ensures.same c.args.store c.args.one.now c.args.two.now (c.requires.stands told told_too)
-    c.worlds_are_kept.ensures.turns c.usual_limits.result c.run.new.one c.run.new.two c.usual_limits.ensures (c.run.ensures.any_moment told told_too)
+    c.worlds_are_kept.ensures.turns (subst OnlyFunctions (λ i. (c.world.ensures i).world) (c.in_default.ensures.none refl)) c.usual_limits.result c.run.new.one c.run.new.two c.usual_limits.ensures (c.run.ensures.any_moment told told_too)
 
 pub returns-in-Err-Full-clause-kept : goal.returns-in-Err-Full-clause-kept
 returns-in-Err-Full-clause-kept g c =
     λ told told_too.
     taken g.D.Disk g.met.D.Disk.only_now c.worlds_are_kept.ensures.reached c.worlds_are_kept.ensures.same c.args.store c.args.one.now c.args.two.now (c.requires.stands told told_too)
-    c.worlds_are_kept.ensures.turns c.usual_limits.result c.run.new.one c.run.new.two c.usual_limits.ensures (c.run.ensures.any_moment told told_too)
+    c.worlds_are_kept.ensures.turns (subst OnlyFunctions (λ i. (c.world.ensures i).world) (c.in_default.ensures.none refl)) c.usual_limits.result c.run.new.one c.run.new.two c.usual_limits.ensures (c.run.ensures.any_moment told told_too)
 
 pub returns-clause-kept : goal.returns-clause-kept
 returns-clause-kept g c =
     λ told told_too.
     taken g.D.Disk g.met.D.Disk.only_now c.worlds_are_kept.ensures.reached c.worlds_are_kept.ensures.same c.args.store c.args.one.now c.args.two.now (c.requires.stands told told_too)
-    c.worlds_are_kept.ensures.turns c.usual_limits.result c.run.new.one c.run.new.two c.usual_limits.ensures (c.run.ensures.any_moment told told_too)
+    c.worlds_are_kept.ensures.turns (subst OnlyFunctions (λ i. (c.world.ensures i).world) (c.in_default.ensures.none refl)) c.usual_limits.result c.run.new.one c.run.new.two c.usual_limits.ensures (c.run.ensures.any_moment told told_too)
 
 pub returns-in-Some-clause-may : goal.returns-in-Some-clause-may
 returns-in-Some-clause-may g c = inr (inl (_, c.in_ok-refuse.ensures))

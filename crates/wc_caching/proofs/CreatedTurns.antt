@@ -20,15 +20,15 @@ use Rattle.wc_world.specs.Records.{is_calculation}
 use Rattle.wc_world.proofs.FoundRecords.{found_holds}
 use Rattle.wc_machine.specs.Continues.{Continues}
 use Rattle.wc_machine.specs.Ending.{ends, come_to}
-use Rattle.wc_machine.specs.Laws.{HasPlaces, IsCreatedCalculation, calculated_for}
+use Rattle.wc_machine.specs.Laws.{HasPlaces, calculated_for}
 use Rattle.wc_machine.specs.Recorded.{its_definition, recorded_inputs}
 use Rattle.wc_machine.specs.Sound.{IsSound}
 use Rattle.wc_machine.specs.Turning.{calculates, clones, begins, excepts, gives_up, moves, parses, advances, binds}
 use Rattle.wc_machine.proofs.AcceptedEnds.{ends_accepted}
 use Rattle.wc_machine.proofs.CalculatedOutputs.{calculated_set}
 use Rattle.wc_machine.proofs.Endings.{data_nodes, applied_ends}
-use Rattle.wc_machine.proofs.FunctionEnds.{calculated_alive, calculated_ends, functions_accepted}
-use Rattle.wc_caching.specs.Laws.{TakesOutcome, MayBegin, CreatedTurnsGoWell}
+use Rattle.wc_machine.proofs.FunctionEnds.{calculated_alive, calculated_ends}
+use Rattle.wc_caching.specs.Laws.{MayStart, TakesOutcome, MayBegin, CreatedTurnsGoWell}
 use Rattle.wc_caching.proofs.Begins.{beginnings_accepted, beginnings_continue, beginnings_keep_sound}
 use Rattle.wc_caching.proofs.Ended.{MayEnd, fresh_part, goes_on}
 use Rattle.wc_caching.proofs.Outputs.{nothing_good}
@@ -41,7 +41,7 @@ data_count [] = refl
 data_count (o ∷ os) = ap (λ (n : ℕ). suc n) (data_count os)
 
 -- room for the nodes of the world after an end is room for its outputs
-places_of_end : (w : World) (r : ProcessRecord) (p : Parsed) (source : Option ℕ) (code : Option ℤ) → HasPlaces w (length (applied w (ends w r p source code)).nodes)
+pub places_of_end : (w : World) (r : ProcessRecord) (p : Parsed) (source : Option ℕ) (code : Option ℤ) → HasPlaces w (length (applied w (ends w r p source code)).nodes)
     → HasPlaces w (length w.nodes + length p.outputs)
 places_of_end w r p source code =
     subst (HasPlaces w)
@@ -58,7 +58,7 @@ no_chain kind.Function o c is d h = let e : is_of_kind kind.Function (Some (defi
 no_chain kind.Job o c is d h = let e : is_of_kind kind.Job (Some (definition.Chain c)) ≡ true = ap (is_of_kind kind.Job) (sym d) ∙ h in cc e
 no_chain kind.Chain o c is d h = absurd (cc)
 
-module _ (w : World) (r : ProcessRecord) (h : IsCreatedCalculation w r) (s : IsSound w) where
+module _ (w : World) (r : ProcessRecord) (h : MayStart w r) (s : IsSound w) where
   stands : Stands w r
   stands = found_holds (Stands w) r.node w.records r s.consistent.records h.found
 
@@ -74,7 +74,8 @@ created_turns poll now w r a cs h s (calculates f d is takes) =
     let inputs = recorded_inputs w r.node in
     let p = calculated_for w r f in
     record {
-      accepted = λ places. functions_accepted w r f h d (places_of_end w r p None None places);
+      accepted = λ places.
+          ends_accepted w r p None None s.consistent h.found h.calculates h.created (calculated_ends f inputs) (calculated_set f inputs) (places_of_end w r p None None places) refl;
       continued = end_continues w r p (function_ends w r p h s takes (calculated_ends f inputs) (calculated_alive f inputs) (calculated_set f inputs));
       sound = functions_keep_sound w r f h s takes d;
     }

@@ -10,4 +10,5 @@ pub mod Ended
 pub mod Begins
 pub mod Turns
 pub mod CreatedTurns
+pub mod Submitted
 pub mod Submissions

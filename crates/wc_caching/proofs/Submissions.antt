@@ -11,7 +11,6 @@ use Rattle.wc_calculation.specs.Rules.{Values}
 use Rattle.wc_meaning.specs.Inputs.{bad_input}
 use Rattle.wc_state.specs.declared.record.ProcessRecord.{ProcessRecord}
 use Rattle.wc_world.specs.declared.change.Change.{Change}
-use Rattle.wc_world.specs.Accepted.{IsReached}
 use Rattle.wc_world.specs.Applied.{applied}
 use Rattle.wc_world.specs.Consistent.{Stands, IsConsistent}
 use Rattle.wc_world.specs.Records.{find_record, kind_of_definition}
@@ -31,8 +30,8 @@ use Rattle.wc_machine.proofs.SubmittedAddition.{addition}
 use Rattle.wc_machine.proofs.SubmittedInputs.{inputs_gathered}
 use Rattle.wc_framing.specs.Touching.{Touches, MayBeTouched, EndsLate, IsSoundRecord}
 use Rattle.wc_framing.proofs.Others.{others_stay_sound, sound_by_records}
-use Rattle.wc_framing.proofs.TouchingEvents.{submissions_touch}
 use Rattle.wc_caching.specs.Laws.{AnySubmissionKeepsSound}
+use Rattle.wc_caching.proofs.Submitted.{submission_touches}
 
 -- links from the new data to the new process go up
 linked_up : (type : LinkType) (source pid : ℕ) (is : Values) → source + length is ≤ pid → All GoesUp (linked type source pid is)
@@ -41,7 +40,7 @@ linked_up type source pid (i ∷ is) le =
     All-cons GoesUp (record { source = source; target = pid; link = type; label = i.0 }) (linked type (suc source) pid is) (λ e. omega arith)
     (linked_up type (suc source) pid is (omega arith))
 
-module _ (w : World) (library : List Definition) (caching : List (List ℕ)) (name : List ℕ) (inputs : Values) (cs : List Change) (reached : IsReached w) (h : IsSound w)
+module _ (w : World) (library : List Definition) (caching : List (List ℕ)) (name : List ℕ) (inputs : Values) (cs : List Change) (h : IsSound w)
     (s : Submits w library caching name inputs cs) where
   c : IsConsistent w
   c = h.consistent
@@ -60,7 +59,7 @@ module _ (w : World) (library : List Definition) (caching : List (List ℕ)) (na
   gives = ap (applied w) s.changes ∙ submission_gives w library caching name inputs s.definition
 
   touches : Touches w after (submitted_number w inputs)
-  touches = subst (λ (v : World). Touches w v (submitted_number w inputs)) gives (submissions_touch w library caching name inputs cs reached s)
+  touches = subst (λ (v : World). Touches w v (submitted_number w inputs)) gives (submission_touches w library caching name inputs cs c s)
 
   may : MayBeTouched w (submitted_number w inputs)
   may r there =
@@ -142,7 +141,7 @@ module _ (w : World) (library : List Definition) (caching : List (List ℕ)) (na
         (λ r there. others_stay_sound w after (submitted_number w inputs) h touches may cv late r there (differs w c more r.node (number_within w c more r.node r there))) new_sound)
 
 pub any_submission : AnySubmissionKeepsSound
-any_submission w library caching name inputs cs reached h s accepted =
-    let same = gives w library caching name inputs cs reached h s in
+any_submission w library caching name inputs cs h s accepted =
+    let same = gives w library caching name inputs cs h s in
     subst IsSound (sym same)
-    (submitted_sound w library caching name inputs cs reached h s (subst IsConsistent same (accepted_is_consistent w cs h.consistent accepted)))
+    (submitted_sound w library caching name inputs cs h s (subst IsConsistent same (accepted_is_consistent w cs h.consistent accepted)))

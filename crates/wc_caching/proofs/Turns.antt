@@ -4,6 +4,10 @@ use Rattle.std.specs.Prelude.{◌==◌, ◌&&◌, ◌||◌, nat_lt, if◌then◌
 use Rattle.std.proofs.lemmas.Bool.{cond-false, ne_eqb, lt-ltb}
 use Rattle.wc_value.specs.declared.process.ProcessState.{ProcessState}
 use Rattle.wc_value.specs.declared.process.ProcessState.TheVariants as state
+use Rattle.wc_value.specs.declared.process.Reason.{Reason}
+use Rattle.wc_syntax.specs.declared.definition.Definition.TheVariants as definition
+use Rattle.wc_syntax.specs.declared.definition.Job.{Job}
+use Rattle.wc_expression.specs.declared.outcome.Outcome.TheVariants.{Faults}
 use Rattle.wc_graph.specs.Rules.{node_of}
 use Rattle.wc_graph.specs.declared.node.NodeKind.{NodeKind}
 use Rattle.wc_calculation.specs.declared.outcomes.Parsed.{Parsed}
@@ -23,8 +27,8 @@ use Rattle.wc_world.proofs.ReachedWorlds.{accepted_is_consistent}
 use Rattle.wc_machine.specs.Continues.{Continues}
 use Rattle.wc_machine.specs.Created.{GivenFor, cached, function, no_request, IsGiven}
 use Rattle.wc_machine.specs.Ending.{ends, come_to, TakesSource}
-use Rattle.wc_machine.specs.Laws.{IsCreatedCalculation, calculated_for}
-use Rattle.wc_machine.specs.Recorded.{recorded_inputs}
+use Rattle.wc_machine.specs.Laws.{calculated_for}
+use Rattle.wc_machine.specs.Recorded.{its_definition, recorded_inputs}
 use Rattle.wc_machine.specs.Sound.{IsSound}
 use Rattle.wc_machine.specs.Sources.{IsLowestSource, IsSourceFor}
 use Rattle.wc_machine.specs.Submitting.{AreInputs}
@@ -33,7 +37,7 @@ use Rattle.wc_machine.proofs.CalculatedOutputs.{calculated_set}
 use Rattle.wc_machine.proofs.EndedWorlds.{inputs_kept}
 use Rattle.wc_machine.proofs.Endings.{end_set, ended_world, applied_ends}
 use Rattle.wc_machine.proofs.FunctionEnds.{calculated_ends, calculated_alive}
-use Rattle.wc_caching.specs.Laws.{TakesOutcome, clones, ClonesAreAccepted, ClonesContinue, ClonesKeepSound, CreatedFunctionsKeepSound, FaultingJobsKeepSound}
+use Rattle.wc_caching.specs.Laws.{MayStart, TakesOutcome, clones, ClonesAreAccepted, ClonesContinue, ClonesKeepSound, CreatedFunctionsKeepSound}
 use Rattle.wc_caching.proofs.Ended.{MayEnd, own, goes_on, stay, found_own, ended_sound}
 use Rattle.wc_caching.proofs.Given.{KeepsSources, one_found}
 use Rattle.wc_caching.proofs.Outputs.{nothing_good, outputs_are_inputs}
@@ -155,7 +159,7 @@ clones_keep_sound w r q t a =
 
 -- ---- no source
 
-pub function_ends : (w : World) (r : ProcessRecord) (p : Parsed) → IsCreatedCalculation w r → IsSound w → TakesSource w r None → has_ended p.state ≡ true → p.state ≢ state.Killed
+pub function_ends : (w : World) (r : ProcessRecord) (p : Parsed) → MayStart w r → IsSound w → TakesSource w r None → has_ended p.state ≡ true → p.state ≢ state.Killed
     → AreInputs p.outputs → MayEnd w r p None
 function_ends w r p h s takes over alive good = record {
   sound = s;
@@ -181,7 +185,10 @@ functions_keep_sound w r f h s takes d a =
     (function (own w r p None None m) f (found_own w r p None None m) (calculated_alive f inputs) refl d) in
     sound_by w (ends w r p None None) v same s a (λ cv. ended_sound w r p None None m cv given)
 
-pub faulting_jobs_keep_sound : FaultingJobsKeepSound
+-- a job whose request is a reason ends with it
+pub faulting_jobs_keep_sound : (w : World) (r : ProcessRecord) (j : Job) (reason : Reason) → MayStart w r → IsSound w → TakesSource w r None
+    → its_definition w r ≡ Some (definition.Job j) → request j (recorded_inputs w r.node) ≡ Faults reason → IsAccepted w (ends w r (excepted reason []) None None)
+    → IsSound (applied w (ends w r (excepted reason []) None None))
 faulting_jobs_keep_sound w r j reason h s takes d asked a =
     let p = excepted reason [] in
     let v = ended_world w r p None None in

@@ -1,29 +1,27 @@
 -- Laws of caching in sound worlds, of submissions and of the turns of created calculations.
 use Rattle.std.specs.Prelude.{◌≡◌, ◌≢◌, ℕ, ◌+◌, ◌<◌, true, false, List, [], ◌∷◌, length, All, Some, None}
 use Rattle.wc_value.specs.declared.process.ProcessState.TheVariants as state
-use Rattle.wc_value.specs.declared.process.Reason.{Reason}
 use Rattle.wc_value.specs.declared.process.Request.{Request}
 use Rattle.wc_syntax.specs.declared.definition.Definition.{Definition}
 use Rattle.wc_syntax.specs.declared.definition.Definition.TheVariants as definition
 use Rattle.wc_syntax.specs.declared.definition.Function.{Function}
 use Rattle.wc_syntax.specs.declared.definition.Job.{Job}
-use Rattle.wc_expression.specs.declared.outcome.Outcome.TheVariants.{Gives, Faults}
+use Rattle.wc_expression.specs.declared.outcome.Outcome.TheVariants.{Gives}
 use Rattle.wc_calculation.specs.declared.outcomes.Parsed.{Parsed}
-use Rattle.wc_calculation.specs.Outcomes.{excepted}
 use Rattle.wc_calculation.specs.Requests.{request}
 use Rattle.wc_calculation.specs.Rules.{Values}
 use Rattle.wc_state.specs.declared.record.ProcessRecord.{ProcessRecord}
 use Rattle.wc_world.specs.declared.change.Change.{Change}
 use Rattle.wc_world.specs.World.{World}
-use Rattle.wc_world.specs.Accepted.{IsAccepted, IsReached}
+use Rattle.wc_world.specs.Accepted.{IsAccepted}
 use Rattle.wc_world.specs.Applied.{applied}
 use Rattle.wc_world.specs.Consistent.{IsConsistent}
-use Rattle.wc_world.specs.Records.{find_record, has_ended}
+use Rattle.wc_world.specs.Records.{find_record, has_ended, is_calculation}
 use Rattle.wc_machine.specs.declared.answer.TaskAnswer.{TaskAnswer}
 use Rattle.wc_machine.specs.Continues.{Continues}
 use Rattle.wc_machine.specs.Created.{GivenFor, IsGiven}
 use Rattle.wc_machine.specs.Ending.{ends, come_to, TakesSource}
-use Rattle.wc_machine.specs.Laws.{HasPlaces, IsCreatedCalculation, calculated_for}
+use Rattle.wc_machine.specs.Laws.{HasPlaces, calculated_for}
 use Rattle.wc_machine.specs.Recorded.{its_definition, recorded_inputs, recorded_outputs}
 use Rattle.wc_machine.specs.Sound.{IsSound}
 use Rattle.wc_machine.specs.Sources.{HaveEqualKeys, KeepsCacheRule}
@@ -65,9 +63,15 @@ GivenStays = (v w : World) (pid : ℕ) → IsSound v → Touches v w pid → May
 
 -- ---- the turn of a calculation that takes the outcome of another
 
+-- a calculation of the world that is created
+pub record MayStart (w : World) (r : ProcessRecord) : Type 0 where
+  pub found : find_record r.node w.records ≡ Some r
+  pub calculates : is_calculation r.kind ≡ true
+  pub created : r.state ≡ state.Created
+
 -- a created calculation of a sound world that takes the outcome of this one
 pub record TakesOutcome (w : World) (r q : ProcessRecord) : Type 0 where
-  pub starts : IsCreatedCalculation w r
+  pub starts : MayStart w r
   pub sound : IsSound w
   pub source : TakesSource w r (Some q.node)
   pub there : find_record q.node w.records ≡ Some q
@@ -89,19 +93,13 @@ ClonesKeepSound = (w : World) (r q : ProcessRecord) → TakesOutcome w r q → I
 
 -- A function ends as its rules say, in any sound world, with caching on or off.
 abbrev pub CreatedFunctionsKeepSound : Type 0
-CreatedFunctionsKeepSound = (w : World) (r : ProcessRecord) (f : Function) → IsCreatedCalculation w r → IsSound w → TakesSource w r None
+CreatedFunctionsKeepSound = (w : World) (r : ProcessRecord) (f : Function) → MayStart w r → IsSound w → TakesSource w r None
     → its_definition w r ≡ Some (definition.Function f) → IsAccepted w (ends w r (calculated_for w r f) None None)
     → IsSound (applied w (ends w r (calculated_for w r f) None None))
 
--- A job whose request is a reason excepts with it.
-abbrev pub FaultingJobsKeepSound : Type 0
-FaultingJobsKeepSound = (w : World) (r : ProcessRecord) (j : Job) (reason : Reason) → IsCreatedCalculation w r → IsSound w → TakesSource w r None
-    → its_definition w r ≡ Some (definition.Job j) → request j (recorded_inputs w r.node) ≡ Faults reason → IsAccepted w (ends w r (excepted reason []) None None)
-    → IsSound (applied w (ends w r (excepted reason []) None None))
-
 -- A job with a request that finds no source, with caching on or off, in a sound world.
 pub record MayBegin (w : World) (r : ProcessRecord) : Type 0 where
-  pub starts : IsCreatedCalculation w r
+  pub starts : MayStart w r
   pub sound : IsSound w
   pub source : TakesSource w r None
   pub job : Job
@@ -132,12 +130,12 @@ pub record GoesWell (w : World) (cs : List Change) : Type 0 where
 
 -- So each turn of a created calculation of a sound world goes well: it takes the outcome of an equal one, is evaluated, begins, or excepts.
 abbrev pub CreatedTurnsGoWell : Type 0
-CreatedTurnsGoWell = (poll now : ℕ) (w : World) (r : ProcessRecord) (answer : TaskAnswer) (cs : List Change) → IsCreatedCalculation w r → IsSound w
+CreatedTurnsGoWell = (poll now : ℕ) (w : World) (r : ProcessRecord) (answer : TaskAnswer) (cs : List Change) → MayStart w r → IsSound w
     → TurnGives poll now w r answer cs → GoesWell w cs
 
 -- ---- submissions
 
 -- A submission of any definition, with caching on for any names, keeps a sound world sound.
 abbrev pub AnySubmissionKeepsSound : Type 0
-AnySubmissionKeepsSound = (w : World) (library : List Definition) (caching : List (List ℕ)) (name : List ℕ) (inputs : Values) (cs : List Change) → IsReached w → IsSound w
+AnySubmissionKeepsSound = (w : World) (library : List Definition) (caching : List (List ℕ)) (name : List ℕ) (inputs : Values) (cs : List Change) → IsSound w
     → Submits w library caching name inputs cs → IsAccepted w cs → IsSound (applied w cs)

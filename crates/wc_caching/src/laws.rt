@@ -1,5 +1,5 @@
 //! Laws of caching, of submissions and of created calculations.
-ghost use Rattle.wc_caching.specs.Laws.{EqualKeysRunAlike, RuleIsStable, OutputsAreInputs, GivenComes, GivenStays, ClonesAreAccepted, ClonesContinue, ClonesKeepSound, CreatedFunctionsKeepSound, FaultingJobsKeepSound, BeginningsAreAccepted, BeginningsContinue, BeginningsKeepSound, CreatedTurnsGoWell, AnySubmissionKeepsSound};
+ghost use Rattle.wc_caching.specs.Laws.{EqualKeysRunAlike, RuleIsStable, OutputsAreInputs, GivenComes, GivenStays, ClonesAreAccepted, ClonesContinue, ClonesKeepSound, CreatedFunctionsKeepSound, BeginningsAreAccepted, BeginningsContinue, BeginningsKeepSound, CreatedTurnsGoWell, AnySubmissionKeepsSound};
 
 /// Where two definitions print the same text in a world, they are the same.
 pub fn equal_keys_run_alike()
@@ -44,11 +44,6 @@ pub fn clones_keep_sound()
 /// A function that finds no source ends as its rules say.
 pub fn created_functions_keep_sound()
     ensures { CreatedFunctionsKeepSound }
-{}
-
-/// A job whose request is a reason ends with it.
-pub fn faulting_jobs_keep_sound()
-    ensures { FaultingJobsKeepSound }
 {}
 
 /// A job with a request that finds no source begins where there is room for a batch.

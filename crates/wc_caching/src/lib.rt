@@ -6,6 +6,6 @@ mod laws;
 pub use laws::{
     any_submission_keeps_sound, beginnings_are_accepted, beginnings_continue,
     beginnings_keep_sound, clones_are_accepted, clones_continue, clones_keep_sound,
-    created_functions_keep_sound, created_turns_go_well, equal_keys_run_alike,
-    faulting_jobs_keep_sound, given_comes, given_stays, outputs_are_inputs, rule_is_stable,
+    created_functions_keep_sound, created_turns_go_well, equal_keys_run_alike, given_comes,
+    given_stays, outputs_are_inputs, rule_is_stable,
 };

@@ -1,5 +1,5 @@
 -- A waiting chain whose awaited children have ended binds them.
-use Rattle.std.proofs.Common.{◌≡◌, ◌≢◌, ℕ, zero, suc, ◌+◌, ◌-◌, ◌*◌, ◌<◌, ◌≤◌, ◌^◌, Bool, true, false, List, [], ◌∷◌, ◌++◌, Option, Some, None, ◌⊎◌, inl, inr, length, map, drop, get_or, refl, sym, ap, subst, ◌∙◌, arith}
+use Rattle.std.proofs.Common.{◌≡◌, ℕ, suc, ◌+◌, ◌<◌, ◌≤◌, Bool, true, false, List, [], ◌∷◌, Some, inl, inr, map, get_or, refl, sym, ap, subst, ◌∙◌, arith}
 use Rattle.std.specs.Prelude.{All, ◌==◌, ◌&&◌, ◌||◌, not, if◌then◌else◌, is_some}
 use Rattle.std.specs.List.{list_all, list_any}
 use Rattle.std.proofs.lemmas.Bool.{and_from, and_parts, cases_Bool, cases_eq, cond-true, cond-false, eq-eqb, eqb-true, ne_eqb, or_cases}
@@ -15,11 +15,9 @@ use Rattle.wc_state.specs.declared.record.Checkpoint.{Checkpoint}
 use Rattle.wc_state.specs.declared.record.Part.{Part}
 use Rattle.wc_state.specs.declared.record.Part.TheVariants as part
 use Rattle.wc_state.specs.declared.record.ProcessKind.{ProcessKind}
-use Rattle.wc_state.specs.declared.record.ProcessKind.TheVariants as kind
 use Rattle.wc_state.specs.declared.record.ProcessRecord.{ProcessRecord}
 use Rattle.wc_world.specs.World.{World}
-use Rattle.wc_world.specs.Applied.{is_created, is_killed, started_in}
-use Rattle.wc_world.specs.Consistent.{Stands}
+use Rattle.wc_world.specs.Applied.{is_created, is_killed}
 use Rattle.wc_world.specs.Fits.{calls_from, chain_runs, has_output, held_fits, is_process, standing_fits}
 use Rattle.wc_world.specs.Records.{find_record, has_called, has_ended, is_call_from}
 use Rattle.wc_world.proofs.FoundRecords.{found_holds, left, right}
@@ -27,7 +25,6 @@ use Rattle.wc_world.proofs.ReachedGrown.{CheckpointFits, checkpoint_from, checkp
 use Rattle.wc_world.proofs.ReachedLists.{all_at_apart, found_node, unique}
 use Rattle.wc_machine.specs.Calling.{bound, bound_in, fuel_of}
 use Rattle.wc_machine.specs.Paths.{call_links}
-use Rattle.wc_machine.specs.Readiness.{ended_at}
 use Rattle.wc_machine.specs.Resting.{bound_calls, is_awaited}
 use Rattle.wc_machine.specs.Sound.{AllDiffer, AreAwaited, CallsAreKept, HoldsEnded, IsEndedCall, IsFitting, IsKnownNode, IsSound, NamesKnown, OutputsAscend, awaited_numbers, fuel_in, is_awaited_in}
 use Rattle.wc_kills.specs.Replacing.{IsSet, SetsWell}

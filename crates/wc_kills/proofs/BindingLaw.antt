@@ -1,6 +1,6 @@
 -- The law of binding.
-use Rattle.std.proofs.Common.{◌≡◌, ℕ, suc, ◌+◌, ◌-◌, ◌<◌, ◌≤◌, ◌^◌, Bool, true, false, List, [], ◌∷◌, Option, Some, None, refl, sym, ap, subst, ◌∙◌, arith}
-use Rattle.std.specs.Prelude.{All, ◌&&◌, not, if◌then◌else◌, min}
+use Rattle.std.proofs.Common.{◌≡◌, ℕ, suc, ◌+◌, ◌-◌, ◌<◌, ◌≤◌, ◌^◌, Bool, true, false, List, [], ◌∷◌, Some, None, refl, sym, ap, subst, ◌∙◌, arith}
+use Rattle.std.specs.Prelude.{All, ◌&&◌, not, if◌then◌else◌}
 use Rattle.std.proofs.Math.Nat.{min-eq_left}
 use Rattle.std.proofs.lemmas.Bool.{and_from}
 use Rattle.std.proofs.lemmas.List.Elements.{All-head, All-tail}
@@ -82,6 +82,6 @@ module _ (w : World) (sound : IsSound w) (r : ProcessRecord) (k : Chain) (c : Ch
       subst (λ (n : ℕ). KeepsSound w (chain_set w r state.Running n (part.Chain (bound c)) ∷ [])) (sym exact) with_sum
 
 pub bindings_keep_sound : BindingsKeepSound
-bindings_keep_sound w now r k c reached sound found ready def waiting is places =
+bindings_keep_sound w now r k c sound found ready def waiting is places =
     let may : may_go w now r.state r.part ≡ true = right (not r.paused) (may_go w now r.state r.part) ready in
     keeps_sound w sound r k c (record { found = found; definition = def; state = waiting; part = is; through = (λ i. may_go w now (sym waiting i) (sym is i)) ∙ may }) places.batches

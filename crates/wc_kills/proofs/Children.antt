@@ -1,9 +1,9 @@
 -- What a process of a sound world has called: which of its calls have ended.
-use Rattle.std.proofs.Common.{◌≡◌, ◌≢◌, ℕ, zero, suc, ◌+◌, ◌-◌, ◌<◌, Bool, true, false, Option, Some, None, List, [], ◌∷◌, ◌⊎◌, inl, inr, length, map, take, drop, get_or, refl, sym, ap, subst, ◌∙◌, arith}
-use Rattle.std.specs.Prelude.{All, ◌==◌, ◌&&◌, ◌||◌, not, filter, slice_get}
+use Rattle.std.proofs.Common.{◌≡◌, ℕ, zero, suc, ◌<◌, true, false, Some, List, [], ◌∷◌, inl, inr, length, map, take, drop, get_or, refl, sym, ap, subst, ◌∙◌}
+use Rattle.std.specs.Prelude.{All, ◌==◌, ◌||◌}
 use Rattle.std.specs.List.{AllByRecursion, IsDistinct, list_any}
 use Rattle.std.proofs.lemmas.Bool.{eqb-false, ne_eqb}
-use Rattle.std.proofs.lemmas.List.Elements.{All-nil, All-cons, All-head, All-tail, All-filter, All-take}
+use Rattle.std.proofs.lemmas.List.Elements.{All-nil, All-cons, All-filter, All-take}
 use Rattle.wc_graph.specs.declared.link.Link.{Link}
 use Rattle.wc_state.specs.declared.record.Await.{Await}
 use Rattle.wc_state.specs.declared.record.Checkpoint.{Checkpoint}
@@ -18,7 +18,7 @@ use Rattle.wc_machine.specs.Paths.{call_links}
 use Rattle.wc_machine.specs.Resting.{bound_calls, is_awaited}
 use Rattle.wc_machine.specs.Sound.{AreAwaited, AwaitsLastCalls, CallsAreKept, IsSound}
 use Rattle.wc_machine.proofs.EndedTrees.{call_is_called}
-use Rattle.wc_framing.proofs.CalledLabels.{targets, distinct}
+use Rattle.wc_framing.proofs.CalledLabels.{distinct}
 
 -- there is a process of this number, which has ended
 abbrev pub IsOver : World → ℕ → Type 0

@@ -1,15 +1,14 @@
 -- The laws of kills of processes whose calls have ended.
-use Rattle.std.proofs.Common.{◌≡◌, ℕ, zero, suc, ◌+◌, ◌<◌, ◌≤◌, Bool, true, false, List, [], ◌∷◌, ◌++◌, Option, Some, None, inl, inr, get_or, refl, sym, ap, subst, ◌∙◌, arith}
-use Rattle.std.specs.Prelude.{All, ◌==◌, ◌&&◌, ◌||◌, not, if◌then◌else◌, flat_map}
+use Rattle.std.proofs.Common.{◌≡◌, ℕ, suc, ◌+◌, ◌≤◌, Bool, true, false, List, [], ◌∷◌, Option, Some, None, get_or, refl, sym, ap, subst, ◌∙◌, arith}
+use Rattle.std.specs.Prelude.{All, ◌==◌, ◌||◌, not, if◌then◌else◌}
 use Rattle.std.specs.List.{list_all}
-use Rattle.std.proofs.lemmas.Bool.{and_from, cases_Bool, cond-false, cond-true, eq-eqb}
+use Rattle.std.proofs.lemmas.Bool.{and_from, eq-eqb}
 use Rattle.std.proofs.lemmas.List.Elements.{All-cons, All-head, All-nil, All-tail}
 use Rattle.wc_value.specs.declared.process.ProcessState.{ProcessState}
 use Rattle.wc_value.specs.declared.process.ProcessState.TheVariants as state
 use Rattle.wc_syntax.specs.declared.definition.Chain.{Chain}
 use Rattle.wc_syntax.specs.declared.definition.Definition.{Definition}
 use Rattle.wc_syntax.specs.declared.definition.Definition.TheVariants as definition
-use Rattle.wc_graph.specs.declared.link.Link.{Link}
 use Rattle.wc_state.specs.declared.record.Await.{Await}
 use Rattle.wc_state.specs.declared.record.Checkpoint.{Checkpoint}
 use Rattle.wc_state.specs.declared.record.Part.{Part}
@@ -17,31 +16,27 @@ use Rattle.wc_state.specs.declared.record.Part.TheVariants as part
 use Rattle.wc_state.specs.declared.record.ProcessKind.{ProcessKind}
 use Rattle.wc_state.specs.declared.record.ProcessKind.TheVariants as kind
 use Rattle.wc_state.specs.declared.record.ProcessRecord.{ProcessRecord}
-use Rattle.wc_world.specs.declared.change.Change.{Change}
 use Rattle.wc_world.specs.World.{World}
 use Rattle.wc_world.specs.Consistent.{Stands}
 use Rattle.wc_world.specs.Fits.{is_nil, is_of_kind, part_fits}
-use Rattle.wc_world.specs.Records.{find_record, has_called, has_ended, is_call_from}
+use Rattle.wc_world.specs.Records.{has_ended, is_call_from}
 use Rattle.wc_world.proofs.FoundRecords.{found_holds}
-use Rattle.wc_world.proofs.ReachedLists.{found_node}
-use Rattle.wc_machine.specs.Calling.{fuel_at, fuel_of}
-use Rattle.wc_machine.specs.Killing.{awaited_fuel, awaits_of, ends_killed, fuel_after, kill_below, kill_changes, killed}
+use Rattle.wc_machine.specs.Calling.{fuel_of}
+use Rattle.wc_machine.specs.Killing.{awaits_of}
 use Rattle.wc_machine.specs.Machine.{IsLive}
 use Rattle.wc_machine.specs.Readiness.{ended_at, is_over}
 use Rattle.wc_machine.specs.Recorded.{its_definition}
 use Rattle.wc_machine.specs.Resting.{is_awaited}
-use Rattle.wc_machine.specs.Sound.{CallsAreKept, IsSound, fuel_in, is_awaited_in}
+use Rattle.wc_machine.specs.Sound.{IsSound, fuel_in, is_awaited_in}
 use Rattle.wc_machine.specs.Tasks.{saturated}
 use Rattle.wc_kills.specs.Replacing.{world_to}
 use Rattle.wc_kills.proofs.Children.{IsCalled, IsOver, is_called}
-use Rattle.wc_kills.proofs.Replaced.{continues}
 use Rattle.wc_kills.specs.Binding.{Waits}
-use Rattle.wc_kills.specs.BindingLaws.{KeepsSound}
 use Rattle.wc_kills.proofs.Binding.{awaited_is_called, kept_before, over_by_call}
-use Rattle.wc_kills.proofs.BindingLaw.{exact_fuel, settled_all}
+use Rattle.wc_kills.proofs.BindingLaw.{exact_fuel}
 use Rattle.wc_kills.proofs.Sums.{found_within, fuel_is_sum, is_one_of, kept_of, sum_of}
-use Rattle.wc_kills.specs.KillLaws.{HasEndedCalls, IsBatch, killed_fuel, SingleKillsKeepSound, LastKillsKeepSound}
-use Rattle.wc_kills.proofs.OneKill.{kill_is_set, killed_sound}
+use Rattle.wc_kills.specs.KillLaws.{HasEndedCalls, IsBatch, killed_fuel, SingleKillsKeepSound}
+use Rattle.wc_kills.proofs.OneKill.{killed_sound}
 use Rattle.wc_kills.proofs.WaitingKill.{waiting_killed}
 
 chain_defined : (o : Option Definition) (k : ProcessKind) → k ≡ kind.Chain → is_of_kind k o ≡ true → (c : Chain) × (o ≡ Some (definition.Chain c))
@@ -147,92 +142,3 @@ module _ (w : World) (sound : IsSound w) (r : ProcessRecord) (l : IsLive w r) (e
 
 pub single_kills_keep_sound : SingleKillsKeepSound
 single_kills_keep_sound w batch r sound l ended b = single w sound r l ended batch b
-
--- ---- the kill of such a process
-
-flat_none : (f : Link → List Change) (ls : List Link) → All (λ l. f l ≡ []) ls → flat_map f ls ≡ []
-flat_none f [] h = refl
-flat_none f (l ∷ ls) h = λ i. All-head (λ l. f l ≡ []) l ls h i ++ flat_none f ls (All-tail (λ l. f l ≡ []) l ls h) i
-
-module _ (w : World) (sound : IsSound w) where
-  -- a link to what has ended, or no call
-  call_none : (levels pid : ℕ) → ((x : ProcessRecord) → find_record x.node w.records ≡ Some x → has_ended x.state ≡ true → kill_below levels w (Some x) ≡ [])
-      → All (λ l. is_call_from pid l ≡ true → IsOver w l.target) w.links
-      → All (λ l. (if is_call_from pid l then kill_below levels w (find_record l.target w.records) else []) ≡ []) w.links
-  call_none levels pid rest over = λ i d lt.
-      let l : Link = get_or w.links i d in
-      elim (cases_Bool (is_call_from pid l)) [
-        | inl called ↦
-            let o : IsOver w l.target = over i d lt called in
-            let number : o.0.node ≡ l.target = found_node l.target w.records o.0 o.1 in
-            cond-true (is_call_from pid l) (kill_below levels w (find_record l.target w.records)) [] called ∙ ap (kill_below levels w) o.1
-            ∙ rest o.0 (ap (λ (n : ℕ). find_record n w.records) number ∙ o.1) o.2
-        | inr other ↦ cond-false (is_call_from pid l) (kill_below levels w (find_record l.target w.records)) [] other
-      ]
-
-  calls_of_ended : (x : ProcessRecord) (found : find_record x.node w.records ≡ Some x) → has_ended x.state ≡ true → All (λ l. is_call_from x.node l ≡ true → IsOver w l.target) w.links
-  calls_of_ended x found dead = λ i d lt called.
-      let c : IsCalled w sound x found (get_or w.links i d).target = is_called w sound x found i d lt called in
-      elim (found_holds (CallsAreKept w) x.node w.records x sound.calls found c.child c.itself c.reached) [
-        | inl over ↦ (c.child, c.is, over)
-        | inr lives ↦ absurd (cc (lives.0, dead))
-      ]
-
-  -- nothing is killed at or below what has ended
-  none_killed : (levels : ℕ) (x : ProcessRecord) → find_record x.node w.records ≡ Some x → has_ended x.state ≡ true → kill_below levels w (Some x) ≡ []
-  none_killed zero x found dead = cond-true (has_ended x.state) [] (killed x (fuel_after 16 w (Some x)) ∷ []) dead
-  none_killed (suc levels) x found dead =
-      λ i. flat_none (λ l. if is_call_from x.node l then kill_below levels w (find_record l.target w.records) else []) w.links
-      (call_none levels x.node (none_killed levels) (calls_of_ended x found dead)) i
-      ++ cond-true (has_ended x.state) [] (killed x (fuel_after 16 w (Some x)) ∷ []) dead i
-
-  module _ (r : ProcessRecord) (l : IsLive w r) (ended : HasEndedCalls w r) where
-    one_change : kill_changes w r ≡ killed r (fuel_after 16 w (Some r)) ∷ []
-    one_change =
-        λ i. flat_none (λ l. if is_call_from r.node l then kill_below 15 w (find_record l.target w.records) else []) w.links
-        (call_none 15 r.node (none_killed 15) (over w sound r l ended)) i
-        ++ cond-false (has_ended r.state) [] (killed r (fuel_after 16 w (Some r)) ∷ []) l.live i
-
-    children_fuel : (as' : List Await) → All (λ a. IsOver w a.pid) as' → awaited_fuel (λ pid. fuel_after 15 w (find_record pid w.records)) as' ≡ fuel_of w.records as'
-    children_fuel [] h = refl
-    children_fuel (a ∷ as') h =
-        let o : IsOver w a.pid = All-head (λ a. IsOver w a.pid) a as' h in
-        let rest = children_fuel as' (All-tail (λ a. IsOver w a.pid) a as' h) in
-        let one : fuel_after 15 w (find_record a.pid w.records) ≡ fuel_at (find_record a.pid w.records) =
-        ap (fuel_after 15 w) o.1 ∙ cond-true (has_ended o.0.state) o.0.fuel _ o.2 ∙ ap fuel_at (sym o.1) in
-        λ i. suc (one i) + rest i
-
-    its_awaited : All (λ a. IsOver w a.pid) (awaits_of r.part)
-    its_awaited = awaited_over w sound r l ended (awaits_of r.part) (λ pid h. at r.part pid h)
-      where
-        at : (p : Part) (pid : ℕ) → is_one_of (awaits_of p) pid ≡ true → is_awaited p pid ≡ true
-        at part.Fresh pid h = h
-        at (part.Chain c) pid h = h
-        at (part.Job j) pid h = h
-        at part.Over pid h = h
-
-    same_fuel : fuel_after 16 w (Some r) ≡ killed_fuel w r
-    same_fuel =
-        cond-false (has_ended r.state) r.fuel (saturated (r.fuel + awaited_fuel (λ pid. fuel_after 15 w (find_record pid w.records)) (awaits_of r.part))) l.live
-        ∙ ap (λ (n : ℕ). saturated (r.fuel + n)) (children_fuel (awaits_of r.part) its_awaited)
-
-    with_fuel : w.batches < 4000000000 → KeepsSound w (killed r (killed_fuel w r) ∷ [])
-    with_fuel room =
-        let b : IsBatch w (w.batches + 1) = record { first = omega arith; later = omega arith; few = omega arith } in
-        let then_sound = single w sound r l ended (w.batches + 1) b in
-        let live : not (has_ended r.state) ≡ true = ap not l.live in
-        let fits : (not (has_ended r.state) && true) ≡ true = and_from (not (has_ended r.state)) true live refl in
-        record {
-          accepted = record {
-            batch = room;
-            each = ((r, l.found, fits, refl), tt);
-            settled = settled_all w.links (world_to w (w.batches + 1) r state.Killed (killed_fuel w r) part.Over).records (λ j d lt. (then_sound.consistent.records j d lt).settled);
-          };
-          continues = continues w (w.batches + 1) r state.Killed (killed_fuel w r) part.Over (kill_is_set w (w.batches + 1) r l.found l.live b.first b.later b.few) sound;
-          sound = then_sound;
-        }
-
-pub last_kills_keep_sound : LastKillsKeepSound
-last_kills_keep_sound w r reached sound l ended places =
-    subst (KeepsSound w) (sym (one_change w sound r l ended ∙ ap (λ (n : ℕ). killed r n ∷ []) (same_fuel w sound r l ended)))
-    (with_fuel w sound r l ended places.batches)

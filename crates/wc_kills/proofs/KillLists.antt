@@ -1,8 +1,8 @@
 -- A kill is a list of single kills in one batch, so it keeps a sound world sound.
-use Rattle.std.proofs.Common.{◌≡◌, ℕ, zero, suc, ◌+◌, ◌-◌, ◌<◌, ◌≤◌, Bool, true, false, List, [], ◌∷◌, ◌++◌, Option, Some, None, ◌⊎◌, inl, inr, map, get_or, refl, sym, ap, subst, ◌∙◌, arith}
+use Rattle.std.proofs.Common.{◌≡◌, ℕ, zero, suc, ◌+◌, ◌<◌, ◌≤◌, Bool, true, false, List, [], ◌∷◌, ◌++◌, Option, Some, None, map, get_or, refl, sym, ap, subst, ◌∙◌, arith}
 use Rattle.std.specs.Prelude.{All, ◌==◌, ◌&&◌, ◌||◌, if◌then◌else◌, filter, flat_map}
 use Rattle.std.specs.List.{AllByRecursion, IsDistinct}
-use Rattle.std.proofs.lemmas.Bool.{cases_Bool, cond-false, cond-true, eq-eqb, eqb-true, eqb-false}
+use Rattle.std.proofs.lemmas.Bool.{cond-false, cond-true, eq-eqb, eqb-true, eqb-false}
 use Rattle.std.proofs.lemmas.List.{append-nil}
 use Rattle.std.proofs.lemmas.List.Elements.{All-cons, All-head, All-nil, All-tail}
 use Rattle.wc_value.specs.declared.process.ProcessState.TheVariants as state
@@ -34,13 +34,13 @@ use Rattle.wc_kills.proofs.KillOrder.{CallsOne, UnderBy, add, all_below, call_de
 
 module _ (w : World) (sound : IsSound w) where
   -- a process that another one called
-  record IsKid (x : ProcessRecord) (pid : ℕ) : Type 0 where
-    child : ProcessRecord
-    is : find_record pid w.records ≡ Some child
-    number : child.node ≡ pid
-    deeper : child.depth ≡ suc x.depth
+  pub record IsKid (x : ProcessRecord) (pid : ℕ) : Type 0 where
+    pub child : ProcessRecord
+    pub is : find_record pid w.records ≡ Some child
+    pub number : child.node ≡ pid
+    pub deeper : child.depth ≡ suc x.depth
 
-  kid_of : (x : ProcessRecord) → find_record x.node w.records ≡ Some x → (pid : ℕ) → has_called w.links x.node pid ≡ true → IsKid x pid
+  pub kid_of : (x : ProcessRecord) → find_record x.node w.records ≡ Some x → (pid : ℕ) → has_called w.links x.node pid ≡ true → IsKid x pid
   kid_of x found pid called =
       any_gives (IsKid x pid) (λ l. is_call_from x.node l && (l.target == pid)) w.links called
       (λ i d lt pass.
@@ -51,7 +51,7 @@ module _ (w : World) (sound : IsSound w) where
       let is : find_record pid w.records ≡ Some deeper.0 = ap (λ (n : ℕ). find_record n w.records) (sym target) ∙ deeper.1 in
       record { child = deeper.0; is = is; number = found_node pid w.records deeper.0 is; deeper = deeper.2 })
 
-  low : (x : ProcessRecord) → find_record x.node w.records ≡ Some x → (1 ≤ x.depth) × (x.depth ≤ 16)
+  pub low : (x : ProcessRecord) → find_record x.node w.records ≡ Some x → (1 ≤ x.depth) × (x.depth ≤ 16)
   low x found = let s : Stands w x = found_holds (Stands w) x.node w.records x sound.consistent.records found in (s.not_below, s.not_above)
 
   awaited_called : (x : ProcessRecord) → find_record x.node w.records ≡ Some x → (as' : List Await) → ((pid : ℕ) → is_one_of as' pid ≡ true → is_awaited x.part pid ≡ true)
@@ -67,7 +67,7 @@ module _ (w : World) (sound : IsSound w) where
       or_true true y h = refl
       or_true false y h = h
 
-  its_awaited : (x : ProcessRecord) → find_record x.node w.records ≡ Some x → All (λ a. has_called w.links x.node a.pid ≡ true) (awaits_of x.part)
+  pub its_awaited : (x : ProcessRecord) → find_record x.node w.records ≡ Some x → All (λ a. has_called w.links x.node a.pid ≡ true) (awaits_of x.part)
   its_awaited x found = awaited_called x found (awaits_of x.part) (λ pid h. at x.part pid h)
     where
       at : (p : Part) (pid : ℕ) → is_one_of (awaits_of p) pid ≡ true → is_awaited p pid ≡ true
@@ -81,7 +81,7 @@ module _ (w : World) (sound : IsSound w) where
   same_awaited f g (a ∷ as') h = λ i. suc (All-head (λ a. f a.pid ≡ g a.pid) a as' h i) + same_awaited f g as' (All-tail (λ a. f a.pid ≡ g a.pid) a as' h) i
 
   -- so many levels are enough for the fuel of a process of its depth
-  fuel_enough : (levels : ℕ) (x : ProcessRecord) → find_record x.node w.records ≡ Some x → 17 ≤ levels + x.depth → fuel_after levels w (Some x) ≡ fuel_after (suc levels) w (Some x)
+  pub fuel_enough : (levels : ℕ) (x : ProcessRecord) → find_record x.node w.records ≡ Some x → 17 ≤ levels + x.depth → fuel_after levels w (Some x) ≡ fuel_after (suc levels) w (Some x)
   fuel_enough zero x found enough = let d = (low x found).1 in absurd (omega arith)
   fuel_enough (suc levels) x found enough =
       ap (λ (n : ℕ). if has_ended x.state then x.fuel else saturated (x.fuel + n))

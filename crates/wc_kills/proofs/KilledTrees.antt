@@ -1,7 +1,6 @@
 -- The tree of a killed process: what a killed run leaves, and what a world records.
-use Rattle.std.proofs.Common.{◌≡◌, ℕ, zero, suc, ◌+◌, ◌<◌, ◌≤◌, Bool, true, false, List, [], ◌∷◌, Option, Some, None, map, get_or, refl, sym, ap, subst, ◌∙◌, arith}
+use Rattle.std.proofs.Common.{◌≡◌, ℕ, zero, suc, ◌+◌, ◌≤◌, Bool, true, false, List, [], Option, Some, None, map, get_or, sym, ap, ◌∙◌, arith}
 use Rattle.std.specs.Prelude.{All, if◌then◌else◌, option_map, option_and_then}
-use Rattle.std.proofs.lemmas.List.Elements.{All-weaker}
 use Rattle.wc_value.specs.declared.process.ProcessState.{ProcessState}
 use Rattle.wc_value.specs.declared.process.ProcessState.TheVariants as state
 use Rattle.wc_value.specs.declared.process.Tree.{Tree, Tree-F, out-Tree, roll-Tree, out-roll-Tree}
@@ -12,8 +11,7 @@ use Rattle.wc_syntax.specs.declared.definition.Port.{Port}
 use Rattle.wc_graph.specs.declared.link.Link.{Link}
 use Rattle.wc_graph.specs.Rules.{IsCall}
 use Rattle.wc_calculation.specs.Rules.{Values}
-use Rattle.wc_run.specs.declared.progress.Answer.{Answer}
-use Rattle.wc_run.specs.declared.progress.Answer.TheVariants.{Gave, TooLittle, Without, Astray}
+use Rattle.wc_run.specs.declared.progress.Answer.TheVariants.{Gave, Astray}
 use Rattle.wc_run.specs.declared.progress.Flow.{Flow}
 use Rattle.wc_run.specs.declared.progress.Flow.TheVariants.{Goes, Ends, NoFuel, Lacks, Off}
 use Rattle.wc_run.specs.declared.progress.Progress.{Progress}
@@ -25,7 +23,7 @@ use Rattle.wc_state.specs.declared.record.ProcessRecord.{ProcessRecord}
 use Rattle.wc_world.specs.World.{World}
 use Rattle.wc_world.specs.Fits.{call_fits}
 use Rattle.wc_world.specs.Records.{find_record, is_call_from}
-use Rattle.wc_world.specs.Trees.{Branch, branches, outputs_of, tree_with, tree_within, values_alone}
+use Rattle.wc_world.specs.Trees.{Branch, outputs_of, tree_with, tree_within, values_alone}
 use Rattle.wc_world.proofs.FoundRecords.{IsDeeper, call_is_deeper, found_holds}
 use Rattle.wc_machine.proofs.Frames.{branches_by}
 

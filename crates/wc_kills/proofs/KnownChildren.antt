@@ -1,20 +1,18 @@
 -- What is known of the awaited children of a chain that have ended: each is, at its fuel, the call of its caller.
-use Rattle.std.proofs.Common.{◌≡◌, ◌≢◌, ℕ, zero, suc, ◌+◌, ◌-◌, ◌<◌, ◌≤◌, Bool, true, false, List, [], ◌∷◌, ◌++◌, Option, Some, None, ◌⊎◌, inl, inr, length, map, get_or, refl, sym, ap, subst, ◌∙◌, arith}
-use Rattle.std.specs.Prelude.{All, ◌==◌, ◌&&◌, ◌||◌, if◌then◌else◌, option_map, option_and_then, slice_get}
-use Rattle.std.specs.List.{list_all, list_any}
-use Rattle.std.proofs.lemmas.Bool.{and_parts, cases_eq, cond-true, eqb-true, or_cases}
+use Rattle.std.proofs.Common.{◌≡◌, ℕ, suc, ◌+◌, ◌-◌, ◌<◌, ◌≤◌, true, List, [], ◌∷◌, ◌++◌, Option, Some, None, inl, inr, length, map, get_or, refl, sym, ap, subst, ◌∙◌, arith}
+use Rattle.std.specs.Prelude.{All, ◌==◌, ◌&&◌, option_map, option_and_then, slice_get}
+use Rattle.std.specs.List.{list_all}
+use Rattle.std.proofs.lemmas.Bool.{and_parts, cases_eq, cond-true, eqb-true}
 use Rattle.std.proofs.lemmas.List.{append_assoc, append-nil, length_push}
 use Rattle.std.proofs.lemmas.List.Elements.{All-head, All-tail}
 use Rattle.std.proofs.lemmas.Option.{slice_get-get_or}
 use Rattle.wc_value.specs.declared.process.Tree.{Tree, Tree-F, out-Tree, roll-Tree, out-roll-Tree}
-use Rattle.wc_value.specs.declared.value.Value.{Value}
 use Rattle.wc_syntax.specs.declared.definition.Definition.{Definition}
 use Rattle.wc_graph.specs.declared.link.Link.{Link}
 use Rattle.wc_graph.specs.declared.link.LinkType.{LinkType}
 use Rattle.wc_graph.specs.declared.link.LinkType.TheVariants as link
 use Rattle.wc_graph.specs.Rules.{IsCall}
 use Rattle.wc_calculation.specs.Rules.{unnumbered}
-use Rattle.wc_run.specs.declared.progress.Answer.{Answer}
 use Rattle.wc_run.specs.declared.progress.Answer.TheVariants.{Gave}
 use Rattle.wc_run.specs.declared.progress.Planned.{Planned}
 use Rattle.wc_run.specs.declared.progress.Progress.{Progress}
@@ -26,15 +24,13 @@ use Rattle.wc_run.specs.Statements.{keyed}
 use Rattle.wc_run.specs.Tables.{Label, Path, Table, Kills, under}
 use Rattle.wc_state.specs.Context.{Pairs, found_at, with_set}
 use Rattle.wc_state.specs.declared.environment.Child.{Child}
-use Rattle.wc_state.specs.declared.environment.Env.{Env}
 use Rattle.wc_state.specs.declared.environment.Item.{Item}
-use Rattle.wc_state.specs.declared.environment.NodeValue.{NodeValue}
 use Rattle.wc_state.specs.declared.record.Await.{Await}
 use Rattle.wc_state.specs.declared.record.ProcessRecord.{ProcessRecord}
 use Rattle.wc_value.specs.Ascending.{lookup}
 use Rattle.wc_world.specs.World.{World}
 use Rattle.wc_world.specs.Consistent.{Stands}
-use Rattle.wc_world.specs.Records.{find_record, has_ended, has_called, calls, is_call_from, library_at}
+use Rattle.wc_world.specs.Records.{find_record, has_ended, calls, is_call_from, library_at}
 use Rattle.wc_world.specs.Trees.{NamedValues, Branch, and_branch, branches, child_at, items_of, outputs_of, recorded_tree, tree_with, tree_within, values_alone}
 use Rattle.wc_world.proofs.FoundRecords.{IsDeeper, call_is_deeper, found_holds, left, right}
 use Rattle.wc_world.proofs.ReachedLists.{found_node}
@@ -44,7 +40,7 @@ use Rattle.wc_machine.specs.Calling.{bound_in, fuel_at, fuel_of}
 use Rattle.wc_machine.specs.Paths.{called_under, kills}
 use Rattle.wc_machine.specs.Readiness.{ended_at, is_over}
 use Rattle.wc_machine.specs.Recorded.{recorded_inputs}
-use Rattle.wc_machine.specs.Resting.{GivesTree, and_planned, awaited, child_alone, levels_of, meant, planned_of, without_number}
+use Rattle.wc_machine.specs.Resting.{and_planned, awaited, child_alone, levels_of, planned_of, without_number}
 use Rattle.wc_machine.specs.Sound.{AreAwaited, IsMeant, IsPlaced, IsSound}
 use Rattle.wc_framing.specs.Laws.{IsUnderItsLabel}
 use Rattle.wc_framing.proofs.CalledLabels.{calls_under_labels}

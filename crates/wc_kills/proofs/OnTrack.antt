@@ -1,12 +1,10 @@
 -- A chain that has bound its children is on track.
-use Rattle.std.proofs.Common.{◌≡◌, ◌≢◌, ℕ, zero, suc, ◌+◌, ◌-◌, ◌<◌, ◌≤◌, Bool, true, false, List, [], ◌∷◌, ◌++◌, Option, Some, None, ◌⊎◌, inl, inr, length, map, take, drop, refl, sym, ap, subst, ◌∙◌, arith}
-use Rattle.std.specs.Prelude.{All, ◌==◌, ◌&&◌, ◌||◌, not, if◌then◌else◌, option_map, option_and_then}
-use Rattle.std.specs.List.{list_all, list_any}
-use Rattle.std.proofs.lemmas.Bool.{and_parts}
+use Rattle.std.proofs.Common.{◌≡◌, ℕ, suc, ◌+◌, ◌-◌, Bool, true, false, List, [], ◌∷◌, ◌++◌, Option, Some, None, length, map, take, drop, refl, sym, ap, subst, ◌∙◌, arith}
+use Rattle.std.specs.Prelude.{All, ◌&&◌, ◌||◌, not, if◌then◌else◌, option_map, option_and_then}
+use Rattle.std.specs.List.{list_any}
 use Rattle.std.specs.Str.{bytes_eq}
 use Rattle.std.proofs.lemmas.List.{length-map, map-append, take_all, take-append-drop}
-use Rattle.std.proofs.lemmas.List.Elements.{All-cons, All-filter, All-head, All-push, All-tail, All-weaker, filter_passes}
-use Rattle.wc_value.specs.declared.process.ProcessState.{ProcessState}
+use Rattle.std.proofs.lemmas.List.Elements.{All-filter, All-weaker, filter_passes}
 use Rattle.wc_value.specs.declared.process.ProcessState.TheVariants as state
 use Rattle.wc_value.specs.declared.process.Tree.{Tree, Tree-F, out-Tree, out-roll-Tree}
 use Rattle.wc_syntax.specs.declared.definition.Chain.{Chain}
@@ -24,9 +22,6 @@ use Rattle.wc_run.specs.Run.{Around, run}
 use Rattle.wc_run.specs.Tables.{Label, Path, Table, Kills, under}
 use Rattle.wc_run.proofs.Keeps.{meaning_more}
 use Rattle.wc_run.proofs.More.{MoreCall}
-use Rattle.wc_state.specs.Context.{Pairs, found_at, with_set}
-use Rattle.wc_state.specs.declared.context.CtxRef.{CtxRef}
-use Rattle.wc_state.specs.declared.context.CtxRef.TheVariants as held
 use Rattle.wc_state.specs.declared.environment.Env.{Env}
 use Rattle.wc_state.specs.declared.environment.Item.{Item}
 use Rattle.wc_state.specs.declared.record.Await.{Await}
@@ -35,20 +30,16 @@ use Rattle.wc_state.specs.declared.record.Part.{Part}
 use Rattle.wc_state.specs.declared.record.Part.TheVariants as part
 use Rattle.wc_state.specs.declared.record.ProcessRecord.{ProcessRecord}
 use Rattle.wc_world.specs.World.{World}
-use Rattle.wc_world.specs.Fits.{calls_from, standing_fits}
-use Rattle.wc_world.specs.Records.{find_record, has_called, has_ended, is_call_from, library_at}
+use Rattle.wc_world.specs.Fits.{calls_from}
+use Rattle.wc_world.specs.Records.{find_record, has_ended, is_call_from, library_at}
 use Rattle.wc_world.specs.Trees.{Branch, branches, environment_at, inputs_of, items_of, context_of, recorded_tree}
 use Rattle.wc_world.proofs.FoundRecords.{found_holds}
-use Rattle.wc_world.proofs.ReachedGrown.{checkpoint_parts}
 use Rattle.wc_machine.specs.Agreeing.{Agrees}
-use Rattle.wc_machine.specs.Calling as calling
 use Rattle.wc_machine.specs.Calling.{bound, bound_in, fuel_of}
 use Rattle.wc_machine.specs.Outlines.{blocks, left}
 use Rattle.wc_machine.specs.Paths.{call_links, called_under, cut_after, kills}
-use Rattle.wc_machine.specs.Readiness.{ended_at}
-use Rattle.wc_machine.specs.Recorded.{its_definition}
-use Rattle.wc_machine.specs.Resting.{FitKills, GivesTree, IsOnTrack, and_planned, as_call, awaited, bound_calls, bound_trees, chain_rest, env_alone, gone_on, has_bound, levels_of, meant, part_rest, planned_of, progress_of, progress_with, rest, set_values, with_stop}
-use Rattle.wc_machine.specs.Sound.{HoldsEnded, IsEndedCall, IsSound, NamesKnown}
+use Rattle.wc_machine.specs.Resting.{FitKills, GivesTree, IsOnTrack, and_planned, as_call, awaited, bound_calls, bound_trees, chain_rest, env_alone, gone_on, levels_of, meant, part_rest, planned_of, progress_of, progress_with, rest, with_stop}
+use Rattle.wc_machine.specs.Sound.{IsSound}
 use Rattle.wc_machine.proofs.Frames.{branches_by}
 use Rattle.wc_framing.specs.Instead.{GiveOneTree}
 use Rattle.wc_framing.proofs.Blind.{equal_trees_end_alike}
@@ -58,10 +49,9 @@ use Rattle.wc_kills.proofs.Replaced.{after, now, found_now, narrows}
 use Rattle.wc_kills.proofs.Children.{IsOver}
 use Rattle.wc_kills.proofs.OthersOnTrack.{bound_call, items_same, kills_below, kills_under, over_same}
 use Rattle.wc_kills.specs.Binding.{Waits}
-use Rattle.wc_kills.proofs.Contexts.{alone}
 use Rattle.wc_kills.proofs.KnownChildren.{AreTaken, FitCalls, taken_all}
 use Rattle.wc_kills.proofs.Standing.{IsStanding, alive, branches_append, branches_filtered, branches_many, calls_over, is_standing, its_library, many_calls, names_bound, one_level, progress_is, ready, some_awaited, standing_at}
-use Rattle.wc_kills.proofs.Taken.{GivesThis, Taken, back, bound_now, bound_run, cost, forth, killed_then, plans, waiting_run}
+use Rattle.wc_kills.proofs.Taken.{back, bound_now, bound_run, cost, forth, killed_then, plans, waiting_run}
 
 -- ---- answers that give one tree
 

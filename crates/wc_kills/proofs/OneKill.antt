@@ -1,9 +1,9 @@
 -- One live process is killed that awaits nothing, and whose calls have all ended.
-use Rattle.std.proofs.Common.{◌≡◌, ◌≢◌, ℕ, zero, suc, ◌+◌, ◌<◌, ◌≤◌, Bool, true, false, List, [], ◌∷◌, Option, Some, None, ◌⊎◌, inl, inr, length, get_or, refl, sym, ap, subst, ◌∙◌, arith}
+use Rattle.std.proofs.Common.{◌≡◌, ℕ, zero, suc, ◌+◌, ◌<◌, ◌≤◌, Bool, true, false, List, [], ◌∷◌, Option, Some, None, inl, inr, length, get_or, refl, sym, ap, subst, ◌∙◌, arith}
 use Rattle.std.specs.List.{list_any}
 use Rattle.std.specs.Prelude.{All, ◌==◌, ◌&&◌, ◌||◌, not, filter, if◌then◌else◌, option_map, option_and_then}
 use Rattle.std.proofs.lemmas.Bool.{and_parts, and_right, cases_eq, cond-false, cond-true, eq-eqb, eqb-true, ne_eqb}
-use Rattle.std.proofs.lemmas.List.Elements.{All-weaker, filter_passes}
+use Rattle.std.proofs.lemmas.List.Elements.{filter_passes}
 use Rattle.wc_value.specs.declared.process.ProcessState.{ProcessState}
 use Rattle.wc_value.specs.declared.process.ProcessState.TheVariants as state
 use Rattle.wc_value.specs.declared.process.Tree.{Tree, out-Tree}
@@ -14,7 +14,7 @@ use Rattle.wc_run.specs.declared.progress.Answer.{Answer}
 use Rattle.wc_run.specs.declared.progress.Answer.TheVariants.{Gave}
 use Rattle.wc_run.specs.declared.progress.Replayed.{Replayed}
 use Rattle.wc_run.specs.Meaning.{killed_first, meaning}
-use Rattle.wc_run.specs.Tables.{Path, Table, Kills}
+use Rattle.wc_run.specs.Tables.{Path, Table}
 use Rattle.wc_state.specs.declared.record.Await.{Await}
 use Rattle.wc_state.specs.declared.record.Checkpoint.{Checkpoint}
 use Rattle.wc_state.specs.declared.record.Part.{Part}
@@ -35,7 +35,7 @@ use Rattle.wc_world.proofs.ReachedLists.{all_at, unique}
 use Rattle.wc_machine.specs.Agreeing.{Agrees}
 use Rattle.wc_machine.specs.Created.{IsGiven, killed, killed_outcome}
 use Rattle.wc_machine.specs.Paths.{cut_after, kills}
-use Rattle.wc_machine.specs.Recorded.{recorded_inputs, recorded_outputs}
+use Rattle.wc_machine.specs.Recorded.{recorded_inputs}
 use Rattle.wc_machine.specs.Resting.{GivesTree, IsOnTrack, is_awaited, levels_of, meant, with_stop}
 use Rattle.wc_machine.specs.Sound.{CallsAreKept, IsMeant, IsSound, fuel_in, is_awaited_in}
 use Rattle.wc_machine.proofs.AcceptedEnds.{live_without_output}

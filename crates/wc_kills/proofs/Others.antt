@@ -1,10 +1,9 @@
 -- Where the record of one process is set anew, what holds of the other processes stays.
-use Rattle.std.proofs.Common.{◌≡◌, ◌≢◌, ℕ, zero, suc, ◌+◌, ◌<◌, ◌≤◌, Bool, true, false, Option, Some, None, List, [], ◌∷◌, ◌⊎◌, inl, inr, length, get_or, refl, sym, ap, subst, ◌∙◌, arith}
-use Rattle.std.specs.Prelude.{All, ◌==◌, ◌&&◌, nat_lt, nat_le, if◌then◌else◌, option_map}
+use Rattle.std.proofs.Common.{◌≡◌, ℕ, suc, ◌<◌, Bool, true, false, Option, Some, None, inl, inr, get_or, refl, sym, ap, subst, ◌∙◌, arith}
+use Rattle.std.specs.Prelude.{◌==◌, ◌&&◌, nat_lt, nat_le, if◌then◌else◌, option_map}
 use Rattle.std.proofs.lemmas.Bool.{cases_eq, eqb-true}
 use Rattle.std.proofs.lemmas.List.Elements.{All-weaker}
 use Rattle.wc_value.specs.declared.process.ProcessState.{ProcessState}
-use Rattle.wc_value.specs.declared.process.ProcessState.TheVariants as state
 use Rattle.wc_syntax.specs.declared.definition.Definition.{Definition}
 use Rattle.wc_calculation.specs.declared.outcomes.Parsed.{Parsed}
 use Rattle.wc_state.specs.declared.context.CtxRef.{CtxRef}
@@ -16,15 +15,14 @@ use Rattle.wc_world.specs.World.{World}
 use Rattle.wc_world.specs.Consistent.{ended_stands, Stands}
 use Rattle.wc_world.specs.Records.{find_record, has_ended, has_called}
 use Rattle.wc_world.proofs.FoundRecords.{found_holds}
-use Rattle.wc_world.proofs.ReachedLists.{found_node, at_one_keeps, all_at_apart}
+use Rattle.wc_world.proofs.ReachedLists.{at_one_keeps, all_at_apart}
 use Rattle.wc_world.proofs.ReachedSources.{SourceIs, source_told}
 use Rattle.wc_machine.specs.Created.{GivenFor, killed, cached, function, job, no_request, IsGiven}
 use Rattle.wc_machine.specs.Resting.{is_awaited}
 use Rattle.wc_machine.specs.Sources.{HaveEqualKeys, IsValidSource, IsSourceFor, IsLowestSource, KeepsRule}
-use Rattle.wc_machine.specs.Sound.{TakesItsInputs, IsFitting, IsCaller, IsPlaced, CallsAreKept, AwaitsLastCalls, IsEndedCall, HoldsEnded, IsKnownNode, NamesKnown, IsSound}
+use Rattle.wc_machine.specs.Sound.{TakesItsInputs, IsCaller, CallsAreKept, AwaitsLastCalls, IsEndedCall, HoldsEnded, IsKnownNode, NamesKnown, IsSound}
 use Rattle.wc_kills.specs.Replacing.{IsSet}
-use Rattle.wc_kills.proofs.Replaced.{one_record, after, now, at_it, setting, found_mapped, found_now, found_other, unsourced}
-use Rattle.wc_kills.proofs.Children.{IsOver}
+use Rattle.wc_kills.proofs.Replaced.{one_record, after, now, at_it, setting, found_mapped, found_other, unsourced}
 use Rattle.wc_kills.proofs.OthersOnTrack.{over_same}
 
 -- what has a batch in which it ended has ended

@@ -1,5 +1,5 @@
 -- Where the record of one process is set anew, each other live process stays on track.
-use Rattle.std.proofs.Common.{◌≡◌, ◌≢◌, ℕ, zero, suc, ◌+◌, ◌<◌, Bool, true, false, Option, Some, None, List, [], ◌∷◌, inl, inr, length, take, get_or, refl, sym, ap, subst, ◌∙◌}
+use Rattle.std.proofs.Common.{◌≡◌, ◌≢◌, ℕ, Bool, true, false, Option, Some, None, List, [], ◌∷◌, inl, inr, take, get_or, refl, sym, ap, subst, ◌∙◌}
 use Rattle.std.specs.Prelude.{All, ◌==◌, ◌&&◌, not, option_map, option_and_then}
 use Rattle.std.specs.List.{list_any}
 use Rattle.std.specs.Str.{bytes_eq}
@@ -8,17 +8,11 @@ use Rattle.std.proofs.lemmas.List.Elements.{All-head, All-tail, All-weaker}
 use Rattle.std.proofs.lemmas.Slice.Eq.{bytes_eq-Decides}
 use Rattle.wc_value.specs.declared.process.ProcessState.{ProcessState}
 use Rattle.wc_value.specs.declared.process.ProcessState.TheVariants as state
-use Rattle.wc_value.specs.declared.process.Tree.{Tree}
 use Rattle.wc_graph.specs.declared.link.Link.{Link}
 use Rattle.wc_run.specs.declared.progress.Answer.{Answer}
-use Rattle.wc_run.specs.declared.progress.Planned.{Planned}
-use Rattle.wc_run.specs.declared.progress.Progress.{Progress}
 use Rattle.wc_run.specs.Tables.{Label, Path, Table, Kills}
 use Rattle.wc_state.specs.declared.context.CtxRef.{CtxRef}
 use Rattle.wc_state.specs.declared.context.CtxRef.TheVariants as held
-use Rattle.wc_state.specs.declared.environment.Child.{Child}
-use Rattle.wc_state.specs.declared.environment.Env.{Env}
-use Rattle.wc_state.specs.declared.environment.Item.{Item}
 use Rattle.wc_state.specs.declared.environment.Item.TheVariants as item
 use Rattle.wc_state.specs.declared.record.Await.{Await}
 use Rattle.wc_state.specs.declared.record.Checkpoint.{Checkpoint}
@@ -29,7 +23,7 @@ use Rattle.wc_state.specs.declared.record.ProcessKind.TheVariants as kind
 use Rattle.wc_state.specs.declared.record.ProcessRecord.{ProcessRecord}
 use Rattle.wc_world.specs.World.{World}
 use Rattle.wc_world.specs.Fits.{part_fits, chain_runs, is_nil}
-use Rattle.wc_world.specs.Records.{find_record, has_ended, is_call_from}
+use Rattle.wc_world.specs.Records.{find_record, is_call_from}
 use Rattle.wc_world.specs.Trees.{branches, recorded_tree, environment_at, outputs_of, inputs_of, child_at, children_at, and_child, item_of, and_item, items_of, context_of}
 use Rattle.wc_world.proofs.FoundRecords.{found_holds, left, right}
 use Rattle.wc_world.proofs.ReachedLists.{found_node, at_one_keeps}
@@ -44,7 +38,7 @@ use Rattle.wc_framing.proofs.CalledLabels.{calls_under_labels}
 use Rattle.wc_framing.proofs.Touched.{called_link}
 use Rattle.wc_kills.specs.Replacing.{IsSet}
 use Rattle.wc_kills.proofs.Replaced.{after, at_it, setting, found_mapped, found_other, stays, narrows, over_differs}
-use Rattle.wc_kills.proofs.Children.{IsOver, is_called, IsCalled, over_if_not_awaited, all_over, bound_over}
+use Rattle.wc_kills.proofs.Children.{IsOver, over_if_not_awaited, all_over, bound_over}
 
 -- a chain that runs awaits nothing
 awaits_none : (k : ProcessKind) (c : Checkpoint) → chain_runs k (part.Chain c) ≡ true → (pid : ℕ) → is_awaited (part.Chain c) pid ≡ false

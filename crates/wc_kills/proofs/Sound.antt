@@ -1,9 +1,8 @@
 -- Where the record of one process is set anew as it should be, a sound world stays sound.
-use Rattle.std.proofs.Common.{◌≡◌, ◌≢◌, ℕ, zero, suc, ◌+◌, ◌<◌, ◌≤◌, Bool, true, false, Option, Some, None, List, [], ◌∷◌, inl, inr, length, get_or, refl, sym, ap, subst, ◌∙◌, arith}
+use Rattle.std.proofs.Common.{◌≡◌, ◌≢◌, ℕ, ◌≤◌, Bool, true, false, Some, get_or, refl, sym, ap, ◌∙◌, arith}
 use Rattle.std.specs.Prelude.{All, ◌==◌, ◌&&◌, nat_lt, nat_le, if◌then◌else◌}
 use Rattle.std.proofs.lemmas.Bool.{and_from, lt-ltb, le-leb, eq-eqb}
 use Rattle.wc_value.specs.declared.process.ProcessState.{ProcessState}
-use Rattle.wc_value.specs.declared.process.ProcessState.TheVariants as state
 use Rattle.wc_state.specs.declared.record.Part.{Part}
 use Rattle.wc_state.specs.declared.record.Part.TheVariants as part
 use Rattle.wc_state.specs.declared.record.ProcessRecord.{ProcessRecord}
@@ -14,7 +13,7 @@ use Rattle.wc_world.specs.Consistent.{Stands, IsConsistent}
 use Rattle.wc_world.specs.Records.{find_record, has_ended, is_calculation}
 use Rattle.wc_world.proofs.FoundRecords.{found_holds}
 use Rattle.wc_world.proofs.ReachedGrown.{Grows, grows, calls_grow, kind_grows, standing_grows}
-use Rattle.wc_world.proofs.ReachedLists.{AreUnique, unique, found_node, all_at_apart, all_found, process_at_one}
+use Rattle.wc_world.proofs.ReachedLists.{AreUnique, unique, all_at_apart, all_found, process_at_one}
 use Rattle.wc_world.proofs.ReachedSources.{KeepsSources, source_kept, source_told, source_from}
 use Rattle.wc_machine.specs.Created.{IsGiven}
 use Rattle.wc_machine.specs.Resting.{IsOnTrack}

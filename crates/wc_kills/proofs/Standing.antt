@@ -1,13 +1,10 @@
 -- Where a waiting chain stands whose awaited children have ended: what it sees, and what it sees once they are bound.
-use Rattle.std.proofs.Common.{◌≡◌, ◌≢◌, ℕ, zero, suc, ◌+◌, ◌-◌, ◌<◌, ◌≤◌, Bool, true, false, List, [], ◌∷◌, ◌++◌, Option, Some, None, ◌⊎◌, inl, inr, length, map, take, drop, get_or, refl, sym, ap, subst, ◌∙◌, arith}
+use Rattle.std.proofs.Common.{◌≡◌, ℕ, suc, ◌-◌, ◌≤◌, Bool, true, false, List, [], ◌∷◌, ◌++◌, Option, Some, None, inl, inr, length, map, take, drop, get_or, refl, sym, ap, subst, ◌∙◌, arith}
 use Rattle.std.specs.Prelude.{All, ◌==◌, ◌&&◌, ◌||◌, not, filter, if◌then◌else◌, option_map, option_and_then}
 use Rattle.std.specs.List.{list_all, list_any}
-use Rattle.std.specs.Str.{bytes_eq}
 use Rattle.std.proofs.lemmas.Bool.{and_parts, cases_Bool, cond-true, eqb-true, not-true, or_cases}
 use Rattle.std.proofs.lemmas.List.{length-take-le}
 use Rattle.std.proofs.lemmas.List.Elements.{All-cons, All-drop, All-filter, All-head, All-nil, All-tail, All-take, filter_passes}
-use Rattle.wc_value.specs.declared.process.ProcessState.{ProcessState}
-use Rattle.wc_value.specs.declared.process.ProcessState.TheVariants as state
 use Rattle.wc_value.specs.declared.process.Tree.{Tree}
 use Rattle.wc_value.specs.declared.value.Value.{Value}
 use Rattle.wc_syntax.specs.Findings.{definition_named}
@@ -32,23 +29,22 @@ use Rattle.wc_state.specs.declared.record.ProcessKind.TheVariants as kind
 use Rattle.wc_state.specs.declared.record.ProcessRecord.{ProcessRecord}
 use Rattle.wc_world.specs.World.{World}
 use Rattle.wc_world.specs.Consistent.{Stands}
-use Rattle.wc_world.specs.Fits.{calls_from, has_output, is_data_node, counted_calls, is_nil, is_settled, part_fits, standing_fits, waits}
+use Rattle.wc_world.specs.Fits.{calls_from, has_output, is_data_node, counted_calls, is_nil, part_fits, standing_fits, waits}
 use Rattle.wc_world.specs.Records.{find_record, has_called, has_ended, is_call_from, library_at}
-use Rattle.wc_world.specs.Trees.{Branch, and_branch, branches, context_of, data_of, environment_at, inputs_of, items_of, recorded_tree, value_of}
-use Rattle.wc_world.proofs.FoundRecords.{found_holds, left, right}
+use Rattle.wc_world.specs.Trees.{Branch, and_branch, branches, context_of, data_of, environment_at, inputs_of, items_of, recorded_tree}
+use Rattle.wc_world.proofs.FoundRecords.{found_holds}
 use Rattle.wc_world.proofs.RecordedEnvironments.{no_context}
 use Rattle.wc_world.proofs.RecordedTrees.{no_tree}
 use Rattle.wc_world.proofs.ReachedGrown.{CheckpointFits, checkpoint_parts}
 use Rattle.wc_machine.specs.Calling.{bound_in}
 use Rattle.wc_machine.specs.Paths.{call_links}
 use Rattle.wc_machine.specs.Readiness.{ended_at, is_over}
-use Rattle.wc_machine.specs.Recorded.{its_definition}
 use Rattle.wc_machine.specs.Resting.{and_value, as_call, bound_calls, bound_trees, env_alone, is_awaited, levels_of, progress_of, progress_with, set_values}
 use Rattle.wc_machine.specs.Sound.{AreAwaited, AwaitsLastCalls, HoldsEnded, IsEndedCall, IsSound, NamesKnown}
 use Rattle.wc_kills.proofs.Children.{IsOver, over_if_not_awaited, bound_over}
 use Rattle.wc_kills.specs.Binding.{Waits}
 use Rattle.wc_kills.proofs.Held.{bound_holds}
-use Rattle.wc_kills.proofs.KnownChildren.{AllReady, IsReady, IsChild, all_ready, is_child}
+use Rattle.wc_kills.proofs.KnownChildren.{AllReady, IsChild, all_ready, is_child}
 
 -- ---- lists of links
 

@@ -9,7 +9,7 @@ use Rattle.wc_calculation.specs.Rules.{Values}
 use Rattle.wc_run.specs.declared.progress.Answer.{Answer}
 use Rattle.wc_run.specs.declared.progress.Answer.TheVariants.{Gave, TooLittle, Without, Astray}
 use Rattle.wc_run.specs.declared.progress.Flow.{Flow}
-use Rattle.wc_run.specs.declared.progress.Flow.TheVariants.{Goes, Ends, NoFuel, Lacks, Off}
+use Rattle.wc_run.specs.declared.progress.Flow.TheVariants.{Goes, Ends, NoFuel}
 use Rattle.wc_run.specs.declared.progress.Planned.{Planned}
 use Rattle.wc_run.specs.declared.progress.Progress.{Progress}
 use Rattle.wc_run.specs.declared.progress.Replayed.{Replayed}

@@ -1,6 +1,6 @@
 -- The law of kills: a kill keeps a sound world sound.
-use Rattle.std.proofs.Common.{◌≡◌, ◌≢◌, ℕ, zero, suc, ◌+◌, ◌<◌, ◌≤◌, Bool, true, false, List, [], ◌∷◌, ◌++◌, Option, Some, None, map, get_or, refl, sym, ap, subst, ◌∙◌, arith}
-use Rattle.std.specs.Prelude.{All, ◌&&◌, not}
+use Rattle.std.proofs.Common.{◌≡◌, ℕ, ◌+◌, ◌<◌, ◌≤◌, true, List, [], ◌∷◌, ◌++◌, Some, map, get_or, refl, sym, ap, subst, ◌∙◌, arith}
+use Rattle.std.specs.Prelude.{not}
 use Rattle.std.proofs.lemmas.Bool.{and_from}
 use Rattle.std.proofs.lemmas.List.{append_assoc}
 use Rattle.wc_value.specs.declared.process.ProcessState.TheVariants as state
@@ -154,4 +154,4 @@ module _ (w : World) (sound : IsSound w) (room : w.batches < 4000000000) where
       d.next
 
 pub kills_keep_sound : KillsKeepSound
-kills_keep_sound w r reached sound l places = subst (KeepsSound w) (sym (changes_are w 16 r)) (kill_keeps w sound places.batches r l)
+kills_keep_sound w r sound l places = subst (KeepsSound w) (sym (changes_are w 16 r)) (kill_keeps w sound places.batches r l)

@@ -1,5 +1,5 @@
 -- Laws of binding.
-use Rattle.std.specs.Prelude.{◌≡◌, ℕ, ◌+◌, ◌<◌, true, List, [], ◌∷◌, length, Some}
+use Rattle.std.specs.Prelude.{◌≡◌, ℕ, ◌+◌, true, List, [], ◌∷◌, length, Some}
 use Rattle.wc_value.specs.declared.process.ProcessState.TheVariants as state
 use Rattle.wc_syntax.specs.declared.definition.Chain.{Chain}
 use Rattle.wc_syntax.specs.declared.definition.Definition.TheVariants as definition
@@ -8,7 +8,7 @@ use Rattle.wc_state.specs.declared.record.Part.TheVariants as part
 use Rattle.wc_state.specs.declared.record.ProcessRecord.{ProcessRecord}
 use Rattle.wc_world.specs.declared.change.Change.{Change}
 use Rattle.wc_world.specs.World.{World}
-use Rattle.wc_world.specs.Accepted.{IsAccepted, IsReached}
+use Rattle.wc_world.specs.Accepted.{IsAccepted}
 use Rattle.wc_world.specs.Applied.{applied}
 use Rattle.wc_world.specs.Records.{find_record}
 use Rattle.wc_machine.specs.Calling.{bound, chain_set, fuel_of}
@@ -31,6 +31,6 @@ binding w r c = chain_set w r state.Running (saturated (r.fuel + fuel_of w.recor
 
 -- A chain that waits and is ready binds its children: where there is room for a batch, that keeps a sound world sound.
 abbrev pub BindingsKeepSound : Type 0
-BindingsKeepSound = (w : World) (now : ℕ) (r : ProcessRecord) (k : Chain) (c : Checkpoint) → IsReached w → IsSound w → find_record r.node w.records ≡ Some r
+BindingsKeepSound = (w : World) (now : ℕ) (r : ProcessRecord) (k : Chain) (c : Checkpoint) → IsSound w → find_record r.node w.records ≡ Some r
     → is_ready w now r ≡ true → its_definition w r ≡ Some (definition.Chain k) → r.state ≡ state.Waiting → r.part ≡ part.Chain c → HasPlaces w (length w.nodes)
     → KeepsSound w (binding w r c)

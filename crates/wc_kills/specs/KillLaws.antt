@@ -1,10 +1,9 @@
 -- Laws of kills.
-use Rattle.std.specs.Prelude.{◌≡◌, ℕ, ◌+◌, ◌<◌, ◌≤◌, true, List, length, Some}
+use Rattle.std.specs.Prelude.{◌≡◌, ℕ, ◌+◌, ◌<◌, ◌≤◌, true, length, Some}
 use Rattle.wc_value.specs.declared.process.ProcessState.TheVariants as state
 use Rattle.wc_state.specs.declared.record.Part.TheVariants as part
 use Rattle.wc_state.specs.declared.record.ProcessRecord.{ProcessRecord}
 use Rattle.wc_world.specs.World.{World}
-use Rattle.wc_world.specs.Accepted.{IsReached}
 use Rattle.wc_world.specs.Records.{find_record, has_ended, has_called}
 use Rattle.wc_machine.specs.Calling.{fuel_of}
 use Rattle.wc_machine.specs.Killing.{awaits_of, kill_changes}
@@ -30,16 +29,11 @@ abbrev pub killed_fuel : World → ProcessRecord → ℕ
 killed_fuel w r = saturated (r.fuel + fuel_of w.records (awaits_of r.part))
 
 -- One live process is killed whose calls have ended, in any batch that may come: a sound world stays sound. A kill is a list of such ones in
--- one batch, so this says nothing of reached worlds.
+-- one batch.
 abbrev pub SingleKillsKeepSound : Type 0
 SingleKillsKeepSound = (w : World) (batch : ℕ) (r : ProcessRecord) → IsSound w → IsLive w r → HasEndedCalls w r → IsBatch w batch
     → IsSound (world_to w batch r state.Killed (killed_fuel w r) part.Over)
 
--- The kill of a live process whose calls have ended keeps a sound world sound.
-abbrev pub LastKillsKeepSound : Type 0
-LastKillsKeepSound = (w : World) (r : ProcessRecord) → IsReached w → IsSound w → IsLive w r → HasEndedCalls w r → HasPlaces w (length w.nodes)
-    → KeepsSound w (kill_changes w r)
-
--- The kill of any live process keeps a reached sound world sound, where there is room for a batch.
+-- The kill of any live process keeps a sound world sound, where there is room for a batch.
 abbrev pub KillsKeepSound : Type 0
-KillsKeepSound = (w : World) (r : ProcessRecord) → IsReached w → IsSound w → IsLive w r → HasPlaces w (length w.nodes) → KeepsSound w (kill_changes w r)
+KillsKeepSound = (w : World) (r : ProcessRecord) → IsSound w → IsLive w r → HasPlaces w (length w.nodes) → KeepsSound w (kill_changes w r)

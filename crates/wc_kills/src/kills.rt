@@ -1,14 +1,9 @@
 //! Laws of kills.
-ghost use Rattle.wc_kills.specs.KillLaws.{SingleKillsKeepSound, LastKillsKeepSound, KillsKeepSound};
+ghost use Rattle.wc_kills.specs.KillLaws.{SingleKillsKeepSound, KillsKeepSound};
 
 /// Where one live process of a sound world is killed whose calls have ended, in any batch that may come, the world stays sound.
 pub fn single_kills_keep_sound()
     ensures { SingleKillsKeepSound }
-{}
-
-/// The kill of a live process whose calls have ended: a sound world accepts it, the world after it continues the one before and is sound.
-pub fn last_kills_keep_sound()
-    ensures { LastKillsKeepSound }
 {}
 
 /// The kill of a live process, with all that it called: a sound world accepts it, the world after it continues the one before and is sound.

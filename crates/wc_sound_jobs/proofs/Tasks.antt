@@ -1,4 +1,4 @@
--- A job that begins to wait, and one that moves to another task, keep a world sound.
+-- A job that moves to another task keeps a world sound.
 use Rattle.std.proofs.Common.{◌≡◌, ℕ, suc, ◌+◌, ◌*◌, ◌^◌, ◌<◌, Bool, true, false, Option, Some, inl, inr, refl, sym, ap, subst, ◌∙◌, arith}
 use Rattle.std.specs.Prelude.{◌==◌, ◌&&◌, ◌||◌, not, if◌then◌else◌, nat_lt}
 use Rattle.std.proofs.lemmas.Bool.{cases_lt, eq-eqb, lt-ltb, ltb-true}
@@ -12,7 +12,6 @@ use Rattle.wc_expression.specs.declared.outcome.Outcome.{Outcome}
 use Rattle.wc_expression.specs.declared.outcome.Outcome.TheVariants.{Gives}
 use Rattle.wc_calculation.specs.Requests.{request}
 use Rattle.wc_state.specs.declared.record.JobPart.{JobPart}
-use Rattle.wc_state.specs.declared.record.Part.{Part}
 use Rattle.wc_state.specs.declared.record.Part.TheVariants as part
 use Rattle.wc_state.specs.declared.record.ProcessKind.{ProcessKind}
 use Rattle.wc_state.specs.declared.record.ProcessKind.TheVariants as kind
@@ -21,16 +20,15 @@ use Rattle.wc_state.specs.declared.record.Task.{Task}
 use Rattle.wc_state.specs.declared.record.Task.TheVariants as task
 use Rattle.wc_world.specs.World.{World}
 use Rattle.wc_world.specs.Consistent.{Stands}
-use Rattle.wc_world.specs.Fits.{counted_calls, fails_fit, is_fresh, is_of_kind, part_fits, waits}
-use Rattle.wc_world.specs.Records.{has_ended, same_kind}
+use Rattle.wc_world.specs.Fits.{counted_calls, fails_fit, part_fits, waits}
+use Rattle.wc_world.specs.Records.{has_ended}
 use Rattle.wc_world.proofs.FoundRecords.{found_holds}
 use Rattle.wc_machine.specs.declared.answer.TaskAnswer.{TaskAnswer}
 use Rattle.wc_machine.specs.declared.answer.TaskAnswer.TheVariants as answer
 use Rattle.wc_machine.specs.Readiness.{may_go}
 use Rattle.wc_machine.specs.Recorded.{its_definition, recorded_inputs, recorded_request, request_by}
 use Rattle.wc_machine.specs.Tasks.{Moved, after, failed, saturated}
-use Rattle.wc_machine.specs.Turning.{first_task}
-use Rattle.wc_sound_jobs.specs.Laws.{FirstTasksAreSafe, TasksAreSafe}
+use Rattle.wc_sound_jobs.specs.Laws.{TasksAreSafe}
 use Rattle.wc_sound_jobs.specs.Sets.{is_bare}
 use Rattle.wc_sound_jobs.proofs.SoundMoves.{moves_safe}
 
@@ -96,17 +94,6 @@ job_waits k (state.Finished n) j i h = absurd (cc)
 job_waits k (state.Excepted reason) j i h = absurd (cc)
 job_waits k state.Killed j i h = absurd (cc)
 
-kind_waits : (k : ProcessKind) (j : JobPart) → same_kind kind.Job k ≡ true → waits k (part.Job j) ≡ true
-kind_waits kind.Function j h = absurd (cc)
-kind_waits kind.Job j h = refl
-kind_waits kind.Chain j h = absurd (cc)
-
-fresh_bare : (p : Part) → is_fresh p ≡ true → (is_bare p ≡ true) × (counted_calls p ≡ 0)
-fresh_bare part.Fresh h = (refl, refl)
-fresh_bare (part.Chain c) h = absurd (cc)
-fresh_bare (part.Job j) h = absurd (cc)
-fresh_bare part.Over h = absurd (cc)
-
 created_waits : state.Waiting ≡ state.Created → ⊥
 created_waits h = cc
 
@@ -127,23 +114,6 @@ pub request_is : (w : World) (r : ProcessRecord) (j : Job) (q : Request) → its
     → recorded_request w r ≡ Some (Gives q)
 request_is w r j q d e =
     ap (λ (x : Option Definition). request_by x (recorded_inputs w r.node)) d ∙ ap (λ (x : Outcome Request). Some x) e
-
-pub first_tasks_safe : FirstTasksAreSafe
-first_tasks_safe w r j q s found d created source asked =
-    let stands : Stands w r = found_holds (Stands w) r.node w.records r s.consistent.records found in
-    let fresh = fresh_bare r.part (ap (λ (x : ProcessState). part_fits r.kind x r.part) (sym created) ∙ stands.part) in
-    let is_job : same_kind kind.Job r.kind ≡ true = ap (is_of_kind r.kind) (sym d) ∙ stands.defined in
-    let live : has_ended r.state ≡ false = ap has_ended created in
-    let fitting : waits r.kind (part.Job first_task) ≡ true = kind_waits r.kind first_task is_job in
-    moves_safe w r state.Waiting false (part.Job first_task) s found
-    (record { fits = λ i. not (live i) && (fitting i && true); goes_on = refl; counted = sym fresh.1 })
-    (record {
-      alike = inr (fresh.0, refl);
-      running = λ e. absurd (waiting_runs e);
-      created = λ e. absurd (created_waits e);
-      asked = λ e. (q, request_is w r j q d asked);
-      starts = λ was ne calculates on. source.on on;
-    })
 
 pub tasks_safe : TasksAreSafe
 tasks_safe poll now w r j p q a m s found ready d is asked moved =

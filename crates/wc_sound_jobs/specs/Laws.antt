@@ -23,7 +23,7 @@ use Rattle.wc_machine.specs.Readiness.{is_ready}
 use Rattle.wc_machine.specs.Recorded.{its_definition, recorded_inputs}
 use Rattle.wc_machine.specs.Sound.{IsSound}
 use Rattle.wc_machine.specs.Tasks.{Moved, after}
-use Rattle.wc_machine.specs.Turning.{first_task, job_set}
+use Rattle.wc_machine.specs.Turning.{job_set}
 use Rattle.wc_value.specs.declared.process.Reason.{Reason}
 use Rattle.wc_calculation.specs.Outcomes.{excepted, parsed}
 use Rattle.wc_calculation.specs.Rules.{Values, kind_of_port}
@@ -63,12 +63,6 @@ abbrev pub MarksAreKept : Type 0
 MarksAreKept = (r : ProcessRecord) → ((pause_changes r ≡ []) ↔ (r.paused ≡ true)) × ((play_changes r ≡ []) ↔ (r.paused ≡ false))
 
 -- ---- jobs
-
--- A created job with a request that takes no source waits for its first task.
-abbrev pub FirstTasksAreSafe : Type 0
-FirstTasksAreSafe = (w : World) (r : ProcessRecord) (j : Job) (q : Request) → IsSound w → find_record r.node w.records ≡ Some r
-    → its_definition w r ≡ Some (definition.Job j) → r.state ≡ state.Created → TakesSource w r None → request j (recorded_inputs w r.node) ≡ Gives q
-    → AreSafe w (job_set r first_task false ∷ [])
 
 -- A ready job moves by an answer.
 abbrev pub TasksAreSafe : Type 0

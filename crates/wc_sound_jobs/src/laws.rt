@@ -1,5 +1,5 @@
 //! Laws of events that set one process.
-ghost use Rattle.wc_sound_jobs.specs.Laws.{MovesAreAccepted, MovesTouch, MovesAreSafe, MarksAreSafe, MarksAreKept, FirstTasksAreSafe, TasksAreSafe, LiveEndsAreAccepted, LiveEndsTouch, EndsAreSafe, FaultingJobsAreSafe, WaitingJobsAsk, RetrievedStays, RetrievedIsFree, ParsesAreSafe};
+ghost use Rattle.wc_sound_jobs.specs.Laws.{MovesAreAccepted, MovesTouch, MovesAreSafe, MarksAreSafe, MarksAreKept, TasksAreSafe, LiveEndsAreAccepted, LiveEndsTouch, EndsAreSafe, FaultingJobsAreSafe, WaitingJobsAsk, RetrievedStays, RetrievedIsFree, ParsesAreSafe};
 
 /// A Set that fits is accepted.
 pub fn moves_are_accepted()
@@ -24,11 +24,6 @@ pub fn marks_are_safe()
 /// They change nothing exactly where the mark is there, or isn't.
 pub fn marks_are_kept()
     ensures { MarksAreKept }
-{}
-
-/// A job that begins to wait keeps a world sound.
-pub fn first_tasks_are_safe()
-    ensures { FirstTasksAreSafe }
 {}
 
 /// A job that moves to another task keeps a world sound.

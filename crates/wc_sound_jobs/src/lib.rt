@@ -4,8 +4,7 @@
 mod laws;
 
 pub use laws::{
-    ends_are_safe, faulting_jobs_are_safe, first_tasks_are_safe, live_ends_are_accepted,
-    live_ends_touch, marks_are_kept, marks_are_safe, moves_are_accepted, moves_are_safe,
-    moves_touch, parses_are_safe, retrieved_is_free, retrieved_stays, tasks_are_safe,
-    waiting_jobs_ask,
+    ends_are_safe, faulting_jobs_are_safe, live_ends_are_accepted, live_ends_touch, marks_are_kept,
+    marks_are_safe, moves_are_accepted, moves_are_safe, moves_touch, parses_are_safe,
+    retrieved_is_free, retrieved_stays, tasks_are_safe, waiting_jobs_ask,
 };

@@ -26,6 +26,7 @@ pub mod Submissions
 pub mod Acceptance
 pub mod SubmitFuel
 pub mod SubmitTurns
+pub mod Called
 pub mod NewCalls
 pub mod PlannedCalls
 pub mod Calling

@@ -1,5 +1,15 @@
 //! Laws of the turns at which a work chain submits calls.
-ghost use Rattle.wc_sound_chains.specs.SubmitLaws.{ChainCallsAreAccepted, ChainCallsTouch, CalledAreSound, SubmittingChainsKeepSound};
+ghost use Rattle.wc_sound_chains.specs.SubmitLaws.{CallsMakeTheseWorlds, CalledHaveTheirInputs, ChainCallsAreAccepted, ChainCallsTouch, CalledAreSound, SubmittingChainsKeepSound};
+
+/// The calls of a chain make a world that is written out: data of plain arguments, a process each, their links, and the chain that waits.
+pub fn calls_make_these_worlds()
+    ensures { CallsMakeTheseWorlds }
+{}
+
+/// Each called process is there, under the chain, with the values of its arguments as inputs.
+pub fn called_have_their_inputs()
+    ensures { CalledHaveTheirInputs }
+{}
 
 /// The world accepts the calls that a chain of a sound world submits.
 pub fn chain_calls_are_accepted()

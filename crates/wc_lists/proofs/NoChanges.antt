@@ -20,7 +20,7 @@ use Rattle.wc_kills.proofs.Replaced.{one_record}
 use Rattle.wc_sound_jobs.proofs.Marks.{marks_kept}
 use Rattle.wc_lists.specs.Laws.{OnlyMarksChangeNothing}
 
-abbrev AreSome : List Change → Type 0
+abbrev pub AreSome : List Change → Type 0
 AreSome cs = cs ≡ [] → ⊥
 
 one_some : (c : Change) (cs : List Change) → AreSome (c ∷ cs)
@@ -41,7 +41,7 @@ advanced_some w r ports (loops c) = one_some _ []
 advanced_some w r ports (submits c calls) = last_some _ _
 advanced_some w r ports (ends s outputs) = last_some _ _
 
-turn_some : (poll now : ℕ) (w : World) (r : ProcessRecord) (a : TaskAnswer) (cs : List Change) → TurnGives poll now w r a cs → AreSome cs
+pub turn_some : (poll now : ℕ) (w : World) (r : ProcessRecord) (a : TaskAnswer) (cs : List Change) → TurnGives poll now w r a cs → AreSome cs
 turn_some poll now w r a cs (calculates f d created source) = end_some w r (calculated f (recorded_inputs w r.node)) None None
 turn_some poll now w r a cs (clones q one created source found) = end_some w r (ending.come_to w q) (Some q.node) None
 turn_some poll now w r a cs (begins j q d created source asked) = one_some _ []
@@ -54,7 +54,7 @@ turn_some poll now w r a cs (binds k c d waiting is) = one_some _ []
 
 -- ---- kills
 
-kill_some : (w : World) (r : ProcessRecord) → has_ended r.state ≡ false → AreSome (kill_changes w r)
+pub kill_some : (w : World) (r : ProcessRecord) → has_ended r.state ≡ false → AreSome (kill_changes w r)
 kill_some w r live = at (has_ended r.state) live
   where
     at : (b : Bool) → b ≡ false → AreSome (flat_map (λ l. if is_call_from r.node l then kill_below 15 w (find_record l.target w.records) else []) w.links ++ (if b then [] else killed r (fuel_after 16 w (Some r)) ∷ []))

@@ -1,11 +1,14 @@
 -- The processes at and below one, and the list of those that a kill ends.
-use Rattle.std.specs.Prelude.{◌≡◌, ℕ, ◌<◌, true, List, map, Some, slice_get}
+use Rattle.std.specs.Prelude.{◌≡◌, ℕ, ◌+◌, ◌<◌, true, List, map, Some, slice_get}
+use Rattle.wc_value.specs.declared.process.ProcessState.TheVariants as state
 use Rattle.wc_state.specs.declared.record.ProcessRecord.{ProcessRecord}
 use Rattle.wc_world.specs.declared.change.Change.{Change}
 use Rattle.wc_world.specs.World.{World}
 use Rattle.wc_world.specs.Records.{find_record, has_called}
-use Rattle.wc_machine.specs.Killing.{fuel_after, kill_changes, killed}
+use Rattle.wc_machine.specs.Calling.{fuel_of}
+use Rattle.wc_machine.specs.Killing.{awaits_of, fuel_after, kill_changes, killed}
 use Rattle.wc_machine.specs.Machine.{IsLive}
+use Rattle.wc_machine.specs.Tasks.{saturated}
 
 -- a process, and what it called, directly or through calls
 pub data IsAtOrBelow (w : World) (r : ProcessRecord) : ProcessRecord → Type 0 where
@@ -15,6 +18,14 @@ pub data IsAtOrBelow (w : World) (r : ProcessRecord) : ProcessRecord → Type 0 
 -- the Set with which a process is killed
 abbrev pub its_kill : World → ProcessRecord → Change
 its_kill w x = killed x (fuel_after 16 w (Some x))
+
+-- A world records that a process, whose record was this one, is killed, with this fuel: its own, and that which the world records of each
+-- process that it awaited, each with 1 added.
+pub record IsKilledWith (v : World) (x : ProcessRecord) : Type 0 where
+  pub process : ProcessRecord
+  pub found : find_record x.node v.records ≡ Some process
+  pub killed : process.state ≡ state.Killed
+  pub fuel : process.fuel ≡ saturated (x.fuel + fuel_of v.records (awaits_of x.part))
 
 -- A kill is one Set for each of these processes and nothing else: they are the live ones at and below this one, none stands twice, and what
 -- one of them called stands before it.

@@ -1,2 +1,3 @@
 pub mod Killed
+pub mod Happening
 pub mod Laws

@@ -4,5 +4,6 @@
 mod laws;
 
 pub use laws::{
-    kills_set_each_once, only_marks_change_nothing, sources_are_there, turns_have_changes,
+    events_have_changes, killed_fuel_is_kept, kills_set_each_once, only_marks_change_nothing,
+    sources_are_there, turns_have_changes,
 };

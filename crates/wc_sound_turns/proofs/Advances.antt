@@ -1,16 +1,14 @@
 -- The turn of a work chain that evaluates one instruction keeps a world sound, whatever it comes to.
-use Rattle.std.proofs.Common.{◌≡◌, ◌+◌, List, [], ◌∷◌, ◌++◌, length, refl}
+use Rattle.std.proofs.Common.{◌≡◌, List, length, refl}
 use Rattle.wc_syntax.specs.declared.definition.Chain.{Chain}
 use Rattle.wc_syntax.specs.declared.definition.Definition.{Definition}
-use Rattle.wc_syntax.specs.declared.definition.Port.{Port}
 use Rattle.wc_state.specs.declared.environment.Env.{Env}
 use Rattle.wc_state.specs.declared.record.Checkpoint.{Checkpoint}
 use Rattle.wc_state.specs.declared.record.ProcessRecord.{ProcessRecord}
 use Rattle.wc_world.specs.World.{World}
-use Rattle.wc_world.specs.Accepted.{IsReached}
 use Rattle.wc_world.specs.Applied.{applied}
 use Rattle.wc_machine.specs.Advancing.{Advanced, goes, loops, submits, ends, advance}
-use Rattle.wc_machine.specs.Calling.{advanced, calls_changes, kept_outputs}
+use Rattle.wc_machine.specs.Calling.{advanced}
 use Rattle.wc_machine.specs.Laws.{HasPlaces}
 use Rattle.wc_kills.specs.BindingLaws.{KeepsSound}
 use Rattle.wc_sound_chains.specs.TrackLaws.{IsAtTurn}
@@ -19,7 +17,7 @@ use Rattle.wc_sound_chains.proofs.CallingTurns.{calls_of_chains_keep_sound}
 use Rattle.wc_sound_chains.proofs.SoundEnds.{ends_of_chains_keep_sound}
 use Rattle.wc_sound_turns.proofs.Room.{room_before}
 
-module _ (w : World) (r : ProcessRecord) (k : Chain) (library : List Definition) (c : Checkpoint) (env : Env) (reached : IsReached w) (at : IsAtTurn w r k library c env) where
+module _ (w : World) (r : ProcessRecord) (k : Chain) (library : List Definition) (c : Checkpoint) (env : Env) (at : IsAtTurn w r k library c env) where
   by_outcome : (x : Advanced) → advance library k r.depth env c ≡ x → HasPlaces w (length (applied w (advanced w r k.head.outputs x)).nodes)
       → KeepsSound w (advanced w r k.head.outputs x)
   by_outcome (goes d) is places = (turns_keep_sound w r k library c d env at (room_before w (advanced w r k.head.outputs (goes d)) places)).0 is
@@ -30,15 +28,3 @@ module _ (w : World) (r : ProcessRecord) (k : Chain) (library : List Definition)
   pub advances_keep : HasPlaces w (length (applied w (advanced w r k.head.outputs (advance library k r.depth env c))).nodes)
       → KeepsSound w (advanced w r k.head.outputs (advance library k r.depth env c))
   advances_keep = by_outcome (advance library k r.depth env c) refl
-
--- ---- there are changes
-
-pub behind_some : {T : Type 0} (xs : List T) (y : T) → xs ++ y ∷ [] ≡ [] → ⊥
-behind_some [] y e = cc e
-behind_some (x ∷ xs) y e = cc e
-
-pub advanced_some : (w : World) (r : ProcessRecord) (ports : List Port) (x : Advanced) → advanced w r ports x ≡ [] → ⊥
-advanced_some w r ports (goes d) e = cc e
-advanced_some w r ports (loops d) e = cc e
-advanced_some w r ports (submits d calls) e = behind_some (calls_changes w r (length w.nodes + 1) calls) _ e
-advanced_some w r ports (ends s outputs) e = behind_some (kept_outputs w r s outputs) _ e

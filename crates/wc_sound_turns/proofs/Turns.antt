@@ -1,11 +1,9 @@
 -- A turn of a ready process keeps a world sound.
-use Rattle.std.proofs.Common.{◌≡◌, ℕ, ℤ, suc, ◌+◌, true, false, List, [], ◌∷◌, length, Option, Some, None, refl, sym, ap, subst, ◌∙◌}
-use Rattle.std.proofs.lemmas.List.{length-append}
+use Rattle.std.proofs.Common.{◌≡◌, ℕ, ◌+◌, true, List, [], ◌∷◌, length, Some, None, refl, sym, ap, ◌∙◌}
 use Rattle.wc_value.specs.declared.process.ProcessState.TheVariants as state
 use Rattle.wc_syntax.specs.declared.definition.Function.{Function}
 use Rattle.wc_syntax.specs.declared.definition.Job.{Job}
-use Rattle.wc_calculation.specs.Outcomes.{calculated, excepted, parsed}
-use Rattle.wc_calculation.specs.Rules.{Values}
+use Rattle.wc_calculation.specs.Outcomes.{parsed}
 use Rattle.wc_calculation.specs.declared.outcomes.Parsed.{Parsed}
 use Rattle.wc_syntax.specs.declared.definition.Definition.{Definition}
 use Rattle.wc_syntax.specs.declared.definition.Definition.TheVariants as definition
@@ -14,50 +12,27 @@ use Rattle.wc_state.specs.declared.record.ProcessKind.TheVariants as kind
 use Rattle.wc_state.specs.declared.record.ProcessRecord.{ProcessRecord}
 use Rattle.wc_world.specs.declared.change.Change.{Change}
 use Rattle.wc_world.specs.World.{World}
-use Rattle.wc_world.specs.Accepted.{IsReached}
 use Rattle.wc_world.specs.Applied.{applied}
 use Rattle.wc_world.specs.Consistent.{Stands}
 use Rattle.wc_world.specs.Fits.{is_of_kind}
 use Rattle.wc_world.specs.Records.{find_record, is_calculation}
 use Rattle.wc_world.proofs.FoundRecords.{found_holds}
 use Rattle.wc_machine.specs.declared.answer.TaskAnswer.{TaskAnswer}
-use Rattle.wc_machine.specs.Advancing.{Advanced, advance}
-use Rattle.wc_machine.specs.Ending.{creations, end_of, ends, come_to}
-use Rattle.wc_machine.specs.Laws.{HasPlaces, IsCreatedCalculation}
+use Rattle.wc_machine.specs.Laws.{HasPlaces}
 use Rattle.wc_machine.specs.Readiness.{is_ready}
 use Rattle.wc_machine.specs.Recorded.{its_definition, recorded_inputs}
 use Rattle.wc_machine.specs.Sound.{IsSound}
-use Rattle.wc_machine.proofs.Endings.{data_nodes, applied_ends}
-use Rattle.wc_machine.specs.Turning.{TurnGives, first_task, job_set, calculates, clones, begins, excepts, gives_up, moves, parses, advances, binds}
+use Rattle.wc_machine.specs.Turning.{TurnGives, job_set, calculates, clones, begins, excepts, gives_up, moves, parses, advances, binds}
 use Rattle.wc_sound_jobs.specs.Sets.{AreSafe, AreSafeWithin}
 use Rattle.wc_sound_jobs.proofs.FaultingJobs.{waiting_jobs_ask}
 use Rattle.wc_sound_jobs.proofs.Parses.{parses_safe}
 use Rattle.wc_sound_jobs.proofs.Tasks.{tasks_safe}
-use Rattle.wc_caching.specs.Laws.{GoesWell}
-use Rattle.wc_caching.proofs.CreatedTurns.{created_turns}
+use Rattle.wc_caching.specs.Laws.{GoesWell, MayStart}
+use Rattle.wc_caching.proofs.CreatedTurns.{created_turns, places_of_end}
 use Rattle.wc_kills.specs.BindingLaws.{KeepsSound}
 use Rattle.wc_kills.proofs.BindingLaw.{bindings_keep_sound}
-use Rattle.wc_sound_turns.proofs.Advances.{advances_keep, advanced_some, behind_some}
+use Rattle.wc_sound_turns.proofs.Advances.{advances_keep}
 use Rattle.wc_sound_turns.proofs.Room.{room_before}
-
--- ---- lists of changes
-
-one_change : {T : Type 0} (y : T) → y ∷ [] ≡ [] → ⊥
-one_change y e = cc e
-
--- ---- room
-
-data_count : (os : Values) → length (data_nodes os) ≡ length os
-data_count [] = refl
-data_count (o ∷ os) = ap (λ (n : ℕ). suc n) (data_count os)
-
--- room for the nodes of the world after an end is room for its outputs
-places_of_end : (w : World) (r : ProcessRecord) (p : Parsed) (source : Option ℕ) (code : Option ℤ) → HasPlaces w (length (applied w (ends w r p source code)).nodes)
-    → HasPlaces w (length w.nodes + length p.outputs)
-places_of_end w r p source code =
-    subst (HasPlaces w)
-    (ap (λ (v : World). length v.nodes) (applied_ends w r p source code) ∙ length-append w.nodes (data_nodes p.outputs)
-    ∙ ap (λ (n : ℕ). length w.nodes + n) (data_count p.outputs))
 
 -- ---- forms of the laws below
 
@@ -71,7 +46,7 @@ of_created w cs g places =
     record { accepted = accepted; continues = g.continued; sound = g.sound accepted }
 
 of_set : (w : World) (c : Change) → AreSafe w (c ∷ []) → Keeps w (c ∷ [])
-of_set w c s places = record { accepted = s.accepted (one_change c) places.batches; continues = s.continues; sound = s.sound places.batches }
+of_set w c s places = record { accepted = s.accepted (λ e. cc e) places.batches; continues = s.continues; sound = s.sound places.batches }
 
 of_end : (w : World) (last : ℕ) (cs : List Change) → AreSafeWithin last w cs → HasPlaces w last → KeepsSound w cs
 of_end w last cs s places = record { accepted = s.accepted places; continues = s.continues; sound = s.sound places }
@@ -90,44 +65,30 @@ job_calculates j kind.Chain h = absurd (cc)
 
 -- ---- turns
 
-module _ (poll now : ℕ) (w : World) (r : ProcessRecord) (reached : IsReached w) (sound : IsSound w) (found : find_record r.node w.records ≡ Some r) where
+module _ (poll now : ℕ) (w : World) (r : ProcessRecord) (sound : IsSound w) (found : find_record r.node w.records ≡ Some r) where
   of_kind : (d : Definition) → its_definition w r ≡ Some d → is_of_kind r.kind (Some d) ≡ true
   of_kind d e =
       let stands : Stands w r = found_holds (Stands w) r.node w.records r sound.consistent.records found in
       sym (ap (is_of_kind r.kind) e) ∙ stands.defined
 
-  starts : is_calculation r.kind ≡ true → r.state ≡ state.Created → IsCreatedCalculation w r
-  starts one new = record { reached = reached; found = found; calculates = one; created = new }
+  starts : is_calculation r.kind ≡ true → r.state ≡ state.Created → MayStart w r
+  starts one new = record { found = found; calculates = one; created = new }
 
   -- The turn of a ready process keeps a sound world sound.
-  pub turn_keeps : (a : TaskAnswer) (cs : List Change) → is_ready w now r ≡ true → TurnGives poll now w r a cs → (cs ≡ [] → ⊥) × Keeps w cs
+  pub turn_keeps : (a : TaskAnswer) (cs : List Change) → is_ready w now r ≡ true → TurnGives poll now w r a cs → Keeps w cs
   turn_keeps a cs ready (calculates f d is takes) =
-      let p : Parsed = calculated f (recorded_inputs w r.node) in (
-        behind_some (creations (length w.nodes + 1) r.node p.outputs) (end_of r p None None),
-        of_created w cs (created_turns poll now w r a cs (starts (function_calculates f r.kind (of_kind _ d)) is) sound (calculates f d is takes)),
-      )
-  turn_keeps a cs ready (clones q one is takes there) =
-      let p : Parsed = come_to w q in (
-        behind_some (creations (length w.nodes + 1) r.node p.outputs) (end_of r p (Some q.node) None),
-        of_created w cs (created_turns poll now w r a cs (starts one is) sound (clones q one is takes there)),
-      )
+      of_created w cs (created_turns poll now w r a cs (starts (function_calculates f r.kind (of_kind _ d)) is) sound (calculates f d is takes))
+  turn_keeps a cs ready (clones q one is takes there) = of_created w cs (created_turns poll now w r a cs (starts one is) sound (clones q one is takes there))
   turn_keeps a cs ready (begins j q d is takes asked) =
-      (one_change (job_set r first_task false), of_created w cs (created_turns poll now w r a cs (starts (job_calculates j r.kind (of_kind _ d)) is) sound (begins j q d is takes asked)))
+      of_created w cs (created_turns poll now w r a cs (starts (job_calculates j r.kind (of_kind _ d)) is) sound (begins j q d is takes asked))
   turn_keeps a cs ready (excepts j reason d is takes asked) =
-      let p : Parsed = excepted reason [] in (
-        behind_some (creations (length w.nodes + 1) r.node p.outputs) (end_of r p None None),
-        of_created w cs (created_turns poll now w r a cs (starts (job_calculates j r.kind (of_kind _ d)) is) sound (excepts j reason d is takes asked)),
-      )
+      of_created w cs (created_turns poll now w r a cs (starts (job_calculates j r.kind (of_kind _ d)) is) sound (excepts j reason d is takes asked))
   turn_keeps a cs ready (gives_up j p reason d at asked) = absurd (waiting_jobs_ask w r j p reason sound found d at asked)
   turn_keeps a cs ready (moves j p q answer m d at asked goes) =
-      (one_change (job_set r m.part m.paused), of_set w (job_set r m.part m.paused) (tasks_safe poll now w r j p q a m sound found ready d at asked goes))
+      of_set w (job_set r m.part m.paused) (tasks_safe poll now w r j p q a m sound found ready d at asked goes)
   turn_keeps a cs ready (parses j p q result d at asked is) =
-      let x : Parsed = parsed j (recorded_inputs w r.node) result in (
-        behind_some (creations (length w.nodes + 1) r.node x.outputs) (end_of r x None (Some result.code)),
-        λ places. of_end w (length w.nodes + length x.outputs) cs (parses_safe w r j p q result sound found d at asked) (places_of_end w r x None (Some result.code) places),
-      )
+      let x : Parsed = parsed j (recorded_inputs w r.node) result in
+      λ places. of_end w (length w.nodes + length x.outputs) cs (parses_safe w r j p q result sound found d at asked) (places_of_end w r x None (Some result.code) places)
   turn_keeps a cs ready (advances k library c env d l at e) =
-      let x : Advanced = advance library k r.depth env c in
-      (advanced_some w r k.head.outputs x, advances_keep w r k library c env reached (record { sound = sound; found = found; definition = d; library_there = l; stands = at; environment = e }))
-  turn_keeps a cs ready (binds k c d is at) =
-      (one_change _, λ places. bindings_keep_sound w now r k c reached sound found ready d is at (room_before w cs places))
+      advances_keep w r k library c env (record { sound = sound; found = found; definition = d; library_there = l; stands = at; environment = e })
+  turn_keeps a cs ready (binds k c d is at) = λ places. bindings_keep_sound w now r k c sound found ready d is at (room_before w cs places)

@@ -3,4 +3,7 @@
 
 mod laws;
 
-pub use laws::{all_events_keep_sound, events_keep_sound, whatever_happens_is_sound};
+pub use laws::{
+    all_events_keep_sound, events_keep_sound, what_may_happen_keeps_sound,
+    whatever_happens_is_sound,
+};

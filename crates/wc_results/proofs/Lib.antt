@@ -2,3 +2,4 @@ pub mod WellKept
 pub mod FoundResults
 pub mod PlainTables
 pub mod OneMeaning
+pub mod LaterTables

@@ -9,6 +9,7 @@ use Rattle.wc_world.specs.World.{World}
 use Rattle.wc_world.specs.Records.{find_record, has_ended, library_at}
 use Rattle.wc_world.specs.Trees.{recorded_tree}
 use Rattle.wc_machine.specs.Agreeing.{Agrees, AgreesWithWorld}
+use Rattle.wc_machine.specs.Continues.{Continues}
 use Rattle.wc_machine.specs.Paths.{kills}
 use Rattle.wc_machine.specs.Recorded.{recorded_inputs, HasResult}
 use Rattle.wc_machine.specs.Resting.{GivesTree, meant}
@@ -36,6 +37,10 @@ ItsTableAgrees = (w : World) → IsSound w → (pid : ℕ) → Agrees (table_of 
 -- A table agrees with the world exactly where equal requests have equal recorded results.
 abbrev pub PlainTablesExactly : Type 0
 PlainTablesExactly = (w : World) → IsSound w → ((table : Table) × AgreesWithWorld table w) ↔ HasResultsByRequest w
+
+-- A table that agrees with a process of a later world agrees with it in each sound world that this one continues: what was recorded stays.
+abbrev pub LaterTablesAgree : Type 0
+LaterTablesAgree = (v w : World) (table : Table) (pid : ℕ) → IsSound v → Continues v w → Agrees table w pid → Agrees table v pid
 
 -- ---- one meaning
 

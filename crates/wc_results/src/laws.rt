@@ -1,5 +1,5 @@
 //! Laws of recorded results and of agreeing tables.
-ghost use Rattle.wc_results.specs.Laws.{ResultsAreFound, OneResult, KilledHaveNoResult, ItsTableAgrees, PlainTablesExactly, RecordedIsMeant, OneMeaning};
+ghost use Rattle.wc_results.specs.Laws.{ResultsAreFound, OneResult, KilledHaveNoResult, ItsTableAgrees, LaterTablesAgree, PlainTablesExactly, RecordedIsMeant, OneMeaning};
 
 /// A process of a sound world has at most one recorded result, which a function finds; a killed one has none.
 pub fn one_result()
@@ -11,6 +11,11 @@ pub fn one_result()
 /// Each process of a sound world has a table that agrees with it.
 pub fn each_process_has_a_table()
     ensures { ItsTableAgrees }
+{}
+
+/// What a table agrees with in a later world it agrees with in each sound one before.
+pub fn later_tables_agree()
+    ensures { LaterTablesAgree }
 {}
 
 /// A plain table agrees with a sound world exactly where equal requests have equal results.

@@ -3,4 +3,6 @@
 
 mod laws;
 
-pub use laws::{each_process_has_a_table, one_meaning, one_result, plain_tables_exactly};
+pub use laws::{
+    each_process_has_a_table, later_tables_agree, one_meaning, one_result, plain_tables_exactly,
+};

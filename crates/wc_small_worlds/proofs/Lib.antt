@@ -1,0 +1,11 @@
+pub mod Values
+pub mod Expressions
+pub mod Outline
+pub mod FanTurns
+pub mod Seen
+pub mod Caching
+pub mod Failures
+pub mod Wrong
+pub mod Meant
+pub mod Numbers
+pub mod WrongChains

@@ -22,6 +22,7 @@ use Rattle.wc_machine.specs.Submitting.{Submits, submitted_number}
 use Rattle.wc_machine.proofs.SubmittedAccepted.{submissions_are_accepted}
 use Rattle.wc_machine.proofs.SubmittedContinues.{submissions_continue}
 use Rattle.wc_machine.proofs.FunctionEnds.{functions_accepted, functions_continue}
+use Rattle.wc_caching.specs.Laws.{MayStart}
 use Rattle.wc_caching.proofs.Submissions.{any_submission}
 use Rattle.wc_caching.proofs.Turns.{functions_keep_sound}
 use Rattle.wc_core.specs.Ended.{EndsFunction}
@@ -50,7 +51,7 @@ module _ (w : World) (library : List Definition) (caching : List (List ℕ)) (na
   submission_continues = submissions_continue w library caching name inputs cs reached s
 
   pub submission_sound : IsAccepted w cs → IsSound w → IsSound (applied w cs)
-  submission_sound accepted sound = any_submission w library caching name inputs cs reached sound s accepted
+  submission_sound accepted sound = any_submission w library caching name inputs cs sound s accepted
 
 module _ (w : World) (pid now : ℕ) (cs : List Change) (s : EndsFunction w pid now cs) (reached : IsReached w) (consistent : IsConsistent w) (plains : (q : ProcessRecord) → find_record pid w.records ≡ Some q → IsPlain q) where
   plain : IsPlain s.process
@@ -89,7 +90,10 @@ module _ (w : World) (pid now : ℕ) (cs : List Change) (s : EndsFunction w pid 
   own_outcome : TakesSource w s.process None
   own_outcome = record { on = λ on. let both : true ≡ false = sym on ∙ plain.1 in absurd (cc); off = λ off. refl }
 
+  may_start : MayStart w s.process
+  may_start = record { found = created_there.found; calculates = created_there.calculates; created = created_there.created }
+
   pub turn_sound : IsAccepted w cs → IsSound w → IsSound (applied w cs)
   turn_sound accepted sound =
       subst (λ (xs : List Change). IsSound (applied w xs)) (sym s.changes)
-      (functions_keep_sound w s.process s.function created_there sound own_outcome s.runs (subst (IsAccepted w) s.changes accepted))
+      (functions_keep_sound w s.process s.function may_start sound own_outcome s.runs (subst (IsAccepted w) s.changes accepted))

@@ -9,6 +9,7 @@ use Rattle.wc_machine.specs.Laws.{OnlyFunctions, calculated_for}
 use Rattle.wc_machine.specs.Ending.{ends, TakesSource}
 use Rattle.wc_machine.specs.Sound.{IsSound, IsFitting}
 use Rattle.wc_machine.proofs.FunctionEnds.{functions_continue}
+use Rattle.wc_caching.specs.Laws.{MayStart}
 use Rattle.wc_caching.proofs.Turns.{functions_keep_sound}
 use Rattle.wc_runner.specs.Laws.{StaysSound, TurnsKeepSound, TurnsAreBatches}
 use Rattle.wc_runner.specs.Trips.{OneTurn, Turns, none, one_more}
@@ -51,8 +52,9 @@ sound_on w v sound only e =
     let uncached : r.caching ≡ false = (found_holds (λ x. (x.kind ≡ kind.Function) × (x.caching ≡ false)) r.node w.records r only e.created.found).1 in
     let own : TakesSource w r None = record { on = λ on. let both : true ≡ false = sym on ∙ uncached in absurd (cc); off = λ off. refl } in
     let fits : IsFitting w r = found_holds (IsFitting w) r.node w.records r sound.records e.created.found in
+    let may : MayStart w r = record { found = e.created.found; calculates = e.created.calculates; created = e.created.created } in
     record {
-      sound = subst IsSound (sym e.after) (functions_keep_sound w r e.function e.created sound own e.runs e.accepted);
+      sound = subst IsSound (sym e.after) (functions_keep_sound w r e.function may sound own e.runs e.accepted);
       continues = subst (Continues w) (sym e.after) (functions_continue w r e.function e.created sound.calls (fits.started e.created.created) e.runs);
       reached = reached_after w v e;
     }

@@ -1,0 +1,10 @@
+pub mod Gathered
+pub mod Opened
+pub mod Popped
+pub mod Called
+pub mod Stepped
+pub mod Onward
+pub mod Placed
+pub mod Picked
+pub mod BareBlocks
+pub mod Bare

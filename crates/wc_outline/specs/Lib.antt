@@ -1,0 +1,5 @@
+pub mod Shown
+pub mod Arguments
+pub mod Statements
+pub mod Places
+pub mod Onward

@@ -1,0 +1,25 @@
+-- What the machine's advance gives, as it is answered: of a node that is passed to a call its number alone.
+use Rattle.std.specs.Prelude.{ℕ, List, map}
+use Rattle.wc_machine.specs.Advancing as machine
+use Rattle.wc_machine.specs.Stepping as stepping
+use Rattle.wc_outline.specs.declared.calls.Advanced.{Advanced}
+use Rattle.wc_outline.specs.declared.calls.Advanced.TheVariants as advanced
+use Rattle.wc_outline.specs.declared.calls.Argument.{Argument}
+use Rattle.wc_outline.specs.declared.calls.Argument.TheVariants as argument
+use Rattle.wc_outline.specs.declared.calls.Call.{Call}
+
+abbrev pub shown_argument : stepping.Argument → Argument
+shown_argument (stepping.node n) = argument.Node n.node
+shown_argument (stepping.plain v) = argument.Plain v
+
+abbrev pub shown_arguments : List (List ℕ × stepping.Argument) → List (List ℕ × Argument)
+shown_arguments args = map (λ a. (a.0, shown_argument a.1)) args
+
+abbrev pub shown_call : stepping.Call → Call
+shown_call c = record { definition = c.definition; label = c.label; key = c.key; append = c.append; args = shown_arguments c.args }
+
+abbrev pub shown : machine.Advanced → Advanced
+shown (machine.goes c) = advanced.Goes c
+shown (machine.loops c) = advanced.Loops c
+shown (machine.submits c calls) = advanced.Submits c (map shown_call calls)
+shown (machine.ends s outputs) = advanced.Ends s outputs

@@ -1,0 +1,80 @@
+//! One advance of a work chain.
+
+ghost use Rattle.std.specs.Prelude.{◌≡◌, IfOk, IsSome, Some, is_some, option_map};
+ghost use Rattle.std.specs.Option.{option_copied};
+ghost use Rattle.wc_syntax.specs.Findings.{definition_named};
+ghost use Rattle.wc_syntax.specs.declared.definition.Chain.{Chain};
+ghost use Rattle.wc_machine.specs.Advancing.{advance};
+ghost use Rattle.wc_outline.specs.Onward.{EndsAlike};
+ghost use Rattle.wc_outline.specs.Places.{chain_of};
+ghost use Rattle.wc_outline.specs.Shown.{shown};
+
+use crate::blocks::put_block;
+use crate::calls::Advanced;
+use crate::frames::place_of;
+use crate::instructions::advance_at;
+use crate::statements::Scene;
+use std::alloc::{AllocError, Global};
+use wc_meaning::find_definition;
+use wc_state::{Checkpoint, Env};
+use wc_syntax::{Checked, Definition};
+use wc_value::{Duplicate, ProcessState, Text};
+
+/// Whether a definition is a work chain.
+fn is_work_chain(definition: Option<&Definition>) -> bool
+    ensures { result ≡ is_some (chain_of (option_copied definition.entry)) }
+{
+    match definition {
+        Some(Definition::Chain(_)) => true,
+        _ => false,
+    }
+}
+
+/// Whether a library has a work chain with this name.
+pub fn is_chain(library: &Checked, name: &Text) -> bool
+    ensures { result ≡ is_some (chain_of (definition_named name.now library.now)) }
+{
+    is_work_chain(find_definition(library.library(), name))
+}
+
+/// One advance of a work chain that is there.
+fn advance_chain(alloc: Global, scene: Scene<'_>, env: Env) -> Result<Advanced, AllocError>
+    ensures { IfOk result (λ a. a ≡ shown (advance scene.entry.library.now scene.entry.chain.now scene.entry.depth env scene.entry.checkpoint.now)) }
+{
+    let mut blocks = Vec::new(alloc);
+    put_block(&mut blocks, &scene.chain.outline)?;
+    match place_of(blocks.as_slice(), scene.checkpoint.frames.as_slice()) {
+        Some(place) => advance_at(alloc, scene, place, env),
+        None => Ok(Advanced::Ends(ProcessState::Finished(0), scene.checkpoint.outputs.copy()?)),
+    }
+}
+
+/// One advance of a work chain from a checkpoint, in an environment: frames at their block's end are left, and the one
+/// instruction that comes next is evaluated.
+pub fn advance(
+    alloc: Global,
+    library: &Checked,
+    name: &Text,
+    depth: u32,
+    checkpoint: &Checkpoint,
+    env: Env,
+) -> Result<Advanced, AllocError>
+    // The name is a work chain.
+    requires { IsSome (chain_of (definition_named name.now library.now)) }
+    ensures exact { IfOk result (λ a. option_map (λ k. shown (advance library.now k depth env checkpoint.now)) (chain_of (definition_named name.now library.now)) ≡ Some a) }
+    ensures onward { IfOk result (λ a. (k : Chain) → chain_of (definition_named name.now library.now) ≡ Some k → EndsAlike library.now k depth env checkpoint.now a) }
+{
+    let library = library.library();
+    match find_definition(library, name) {
+        Some(Definition::Chain(chain)) => {
+            let scene = Scene {
+                library,
+                chain,
+                depth,
+                checkpoint,
+            };
+            advance_chain(alloc, scene, env)
+        }
+        _ => Err(AllocError),
+    }
+}

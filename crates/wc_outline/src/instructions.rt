@@ -1,0 +1,248 @@
+//! What the instruction does that comes next.
+
+ghost use Rattle.std.specs.Prelude.{◌≡◌, ◌+◌, ◌<◌, ◌∷◌, length, reverse, suc, IfOk};
+ghost use Rattle.wc_syntax.specs.declared.outline.Instr.{out-Instr};
+ghost use Rattle.wc_expression.specs.Val.{holds};
+ghost use Rattle.wc_run.specs.Run.{returned};
+ghost use Rattle.wc_machine.specs.Advancing.{past, at_head, chosen, turned, done};
+ghost use Rattle.wc_machine.specs.Outlines.{Blocks};
+ghost use Rattle.wc_outline.specs.Places.{first_number, front_of, picked_from};
+ghost use Rattle.wc_outline.specs.Shown.{shown};
+ghost use Rattle.wc_outline.specs.Statements.{stepped, statements_in, came_to, unnoted};
+
+use crate::blocks::{number_behind, put_block, put_blocks};
+use crate::calls::{Advanced, Calls};
+use crate::frames::Place;
+use crate::statements::{Noted, Scene, run_statements};
+use std::alloc::{AllocError, Global};
+use wc_expression::{Outcome, eval_condition};
+use wc_state::{Checkpoint, Env, Frame, Frames};
+use wc_syntax::{Arms, Block, Expr, Instr, Instrs, Number, Step};
+use wc_value::{Duplicate, ProcessState, Reason};
+
+/// The frame with the next instruction.
+fn past(frame: Frame) -> Frame
+    requires { frame.next < 0xffffffff }
+    ensures { result ≡ past frame }
+{
+    Frame {
+        block: frame.block,
+        next: frame.next + 1,
+    }
+}
+
+/// These frames, the outermost first, with one inside them.
+fn frames_on(alloc: Global, outer: &[Frame], frame: Frame) -> Result<Frames, AllocError>
+    ensures { IfOk result (λ frames. frames ≡ reverse (frame ∷ reverse outer.now)) }
+{
+    let mut frames = Frames::new(alloc);
+    frames.extend(outer)?;
+    frames.push(frame)?;
+    Ok(frames)
+}
+
+/// The frames at the head of a block that is entered from a frame.
+fn frames_in(alloc: Global, outer: &[Frame], frame: Frame, block: u32) -> Result<Frames, AllocError>
+    ensures { IfOk result (λ frames. frames ≡ reverse (at_head block ∷ (frame ∷ reverse outer.now))) }
+{
+    let mut frames = frames_on(alloc, outer, frame)?;
+    frames.push(Frame { block, next: 0 })?;
+    Ok(frames)
+}
+
+/// A checkpoint at other frames.
+fn at_frames(checkpoint: &Checkpoint, frames: Frames) -> Result<Checkpoint, AllocError>
+    ensures { IfOk result (λ c. c ≡ record { frames = frames; ctx = checkpoint.now.ctx; awaiting = checkpoint.now.awaiting; calls = checkpoint.now.calls; outputs = checkpoint.now.outputs }) }
+{
+    Ok(Checkpoint {
+        frames,
+        ctx: checkpoint.ctx.copy()?,
+        awaiting: checkpoint.awaiting.copy()?,
+        calls: checkpoint.calls,
+        outputs: checkpoint.outputs.copy()?,
+    })
+}
+
+/// The end of a chain that has the outputs of its checkpoint.
+fn end(checkpoint: &Checkpoint, state: ProcessState) -> Result<Advanced, AllocError>
+    ensures { IfOk result (λ a. a ≡ Advanced.Ends state checkpoint.now.outputs) }
+{
+    Ok(Advanced::Ends(state, checkpoint.outputs.copy()?))
+}
+
+/// The number of a block that is entered behind these.
+fn entered(frame: Frame, passed: &[&Instrs]) -> Result<Outcome<Option<u32>>, AllocError>
+    ensures { IfOk result (λ o. o ≡ Outcome.Gives (Some (suc frame.block + length passed.now))) }
+{
+    Ok(Outcome::Gives(Some(number_behind(frame, passed)?)))
+}
+
+/// The number of the block behind the first true condition, or that of the `else`, if there is one.
+fn pick(
+    alloc: Global,
+    place: Place<'_>,
+    arms: &Arms,
+    other: &Option<Block>,
+    env: &Env,
+) -> Result<Outcome<Option<u32>>, AllocError>
+    ensures { IfOk result (λ o. o ≡ picked_from (first_number place.entry.frame place.entry.front.now) arms.now other.now env.now) }
+{
+    let mut passed = Vec::new(alloc);
+    put_blocks(&mut passed, place.front)?;
+    for arm in arms.as_slice() {
+        match eval_condition(alloc, &arm.condition, env)? {
+            Outcome::Gives(true) => return entered(place.frame, passed.as_slice()),
+            Outcome::Gives(false) => put_block(&mut passed, &arm.block)?,
+            Outcome::Faults(reason) => return Ok(Outcome::Faults(reason)),
+        }
+    }
+    match other {
+        Some(_) => entered(place.frame, passed.as_slice()),
+        None => Ok(Outcome::Gives(None)),
+    }
+}
+
+/// An `if` moves past itself, and enters the block of the first true condition, or that of the `else`, or none.
+fn advance_if(
+    alloc: Global,
+    scene: Scene<'_>,
+    place: Place<'_>,
+    arms: &Arms,
+    other: &Option<Block>,
+    env: &Env,
+) -> Result<Advanced, AllocError>
+    requires { place.frame.next < 0xffffffff }
+    ensures { IfOk result (λ a. a ≡ shown (chosen scene.entry.library.now scene.entry.chain.now scene.entry.depth env.now scene.entry.checkpoint.now (picked_from (first_number place.entry.frame place.entry.front.now) arms.now other.now env.now) (past place.entry.frame ∷ reverse place.entry.outer.now))) }
+{
+    match pick(alloc, place, arms, other, env)? {
+        Outcome::Gives(Some(block)) => {
+            let frames = frames_in(alloc, place.outer, past(place.frame), block)?;
+            Ok(Advanced::Goes(at_frames(scene.checkpoint, frames)?))
+        }
+        Outcome::Gives(None) => {
+            let frames = frames_on(alloc, place.outer, past(place.frame))?;
+            Ok(Advanced::Goes(at_frames(scene.checkpoint, frames)?))
+        }
+        Outcome::Faults(reason) => end(scene.checkpoint, ProcessState::Excepted(reason)),
+    }
+}
+
+/// The number of the first block inside the instruction that comes next.
+fn inner_number(alloc: Global, place: Place<'_>) -> Result<u32, AllocError>
+    ensures { IfOk result (λ n. n ≡ first_number place.entry.frame place.entry.front.now) }
+{
+    let mut passed = Vec::new(alloc);
+    put_blocks(&mut passed, place.front)?;
+    number_behind(place.frame, passed.as_slice())
+}
+
+/// A `while` whose condition holds enters its body and stays where it is, and else moves past itself.
+fn advance_while(
+    alloc: Global,
+    scene: Scene<'_>,
+    place: Place<'_>,
+    condition: &Expr,
+    env: &Env,
+) -> Result<Advanced, AllocError>
+    requires { place.frame.next < 0xffffffff }
+    ensures { IfOk result (λ a. a ≡ shown (turned scene.entry.library.now scene.entry.chain.now scene.entry.depth env.now scene.entry.checkpoint.now (holds condition.now env.now) (at_head (first_number place.entry.frame place.entry.front.now) ∷ (place.entry.frame ∷ reverse place.entry.outer.now)) (past place.entry.frame ∷ reverse place.entry.outer.now))) }
+{
+    match eval_condition(alloc, condition, env)? {
+        Outcome::Gives(true) => {
+            let block = inner_number(alloc, place)?;
+            let frames = frames_in(alloc, place.outer, place.frame, block)?;
+            Ok(Advanced::Loops(at_frames(scene.checkpoint, frames)?))
+        }
+        Outcome::Gives(false) => {
+            let frames = frames_on(alloc, place.outer, past(place.frame))?;
+            Ok(Advanced::Goes(at_frames(scene.checkpoint, frames)?))
+        }
+        Outcome::Faults(reason) => end(scene.checkpoint, ProcessState::Excepted(reason)),
+    }
+}
+
+/// What a step whose calls are made comes to: without calls the chain goes on, and with calls it waits for them.
+fn go_on(checkpoint: &Checkpoint, frames: Frames, noted: Noted) -> Result<Advanced, AllocError>
+    ensures { IfOk result (λ a. a ≡ came_to checkpoint.now frames (stepped None noted)) }
+{
+    let Noted {
+        env: _,
+        ctx,
+        outputs,
+        calls,
+    } = noted;
+    let next = Checkpoint {
+        frames,
+        ctx,
+        awaiting: checkpoint.awaiting.copy()?,
+        calls: checkpoint.calls,
+        outputs,
+    };
+    if calls.is_empty() {
+        Ok(Advanced::Goes(next))
+    } else {
+        Ok(Advanced::Submits(next, calls))
+    }
+}
+
+/// A step runs its statements in order and moves past itself.
+fn advance_step(
+    alloc: Global,
+    scene: Scene<'_>,
+    place: Place<'_>,
+    step: &Step,
+    env: Env,
+) -> Result<Advanced, AllocError>
+    requires { place.frame.next < 0xffffffff }
+    ensures { IfOk result (λ a. a ≡ came_to scene.entry.checkpoint.now (reverse (past place.entry.frame ∷ reverse place.entry.outer.now)) (statements_in scene.entry step.now.stmts (unnoted env scene.entry.checkpoint.now))) }
+{
+    let mut noted = Noted {
+        env,
+        ctx: scene.checkpoint.ctx.copy()?,
+        outputs: scene.checkpoint.outputs.copy()?,
+        calls: Calls::new(alloc),
+    };
+    match run_statements(alloc, scene, &step.stmts, &mut noted)? {
+        Some(state) => Ok(Advanced::Ends(state, noted.outputs)),
+        None => {
+            let frames = frames_on(alloc, place.outer, past(place.frame))?;
+            go_on(scene.checkpoint, frames, noted)
+        }
+    }
+}
+
+/// The status of a `return`.
+fn returned(code: &Option<Number>) -> u32
+    ensures { result ≡ returned code.now }
+{
+    match code {
+        None => 0,
+        Some(number) => {
+            if number.value < 0 {
+                0
+            } else if number.value > 0xffff_ffff {
+                u32::MAX
+            } else {
+                number.value as u32
+            }
+        }
+    }
+}
+
+/// Evaluates the instruction that comes next.
+pub fn advance_at(
+    alloc: Global,
+    scene: Scene<'_>,
+    place: Place<'_>,
+    env: Env,
+) -> Result<Advanced, AllocError>
+    requires { place.frame.next < 0xffffffff }
+    ensures { IfOk result (λ a. (bs : Blocks) → place.entry.front.now ≡ front_of bs place.entry.frame → a ≡ shown (done scene.entry.library.now scene.entry.chain.now scene.entry.depth env scene.entry.checkpoint.now bs (out-Instr place.entry.instr.now) place.entry.frame (reverse place.entry.outer.now))) }
+{
+    match place.instr {
+        Instr::Step(step) => advance_step(alloc, scene, place, step, env),
+        Instr::If(_, arms, other) => advance_if(alloc, scene, place, arms, other, &env),
+        Instr::While(_, condition, _) => advance_while(alloc, scene, place, condition, &env),
+        Instr::Return(_, code) => end(scene.checkpoint, ProcessState::Finished(returned(code))),
+    }
+}

@@ -1,0 +1,16 @@
+//! One advance of a work chain, and the binding of the children that it awaited.
+#![tactic(auto)]
+
+mod advancing;
+mod arguments;
+mod binding;
+mod blocks;
+mod calls;
+mod frames;
+mod instructions;
+mod nodes;
+mod statements;
+
+pub use advancing::{advance, is_chain};
+pub use binding::bind;
+pub use calls::{Advanced, Args, Argument, Call, Calls};

@@ -5,6 +5,8 @@ use crate::shown::{answer_text, same};
 use std::alloc::Global;
 use std::test::Fail;
 use wc_outline::{advance, is_chain};
+use wc_state::Checkpoint;
+use wc_syntax::Checked;
 use wc_value::Text;
 
 /// A row: the outline, the frames, and the answer up to what the checkpoint keeps.
@@ -127,7 +129,35 @@ const ROWS: [Row; 32] = [
     ),
 ];
 
+/// One advance from a checkpoint.
+fn answered(
+    alloc: Global,
+    library: &Checked,
+    name: &Text,
+    depth: u32,
+    checkpoint: &Checkpoint,
+) -> Result<String, Fail> {
+    if !is_chain(library, name) {
+        return Err(Fail::new(format_args!("no work chain")));
+    }
+    let answer = advance(alloc, library, name, depth, checkpoint, env(alloc)?)?;
+    Ok(answer_text(alloc, &answer)?)
+}
+
 /// One advance from these frames, with so many calls made, at a depth.
+fn advanced_in(
+    alloc: Global,
+    library: &Checked,
+    places: &[(u32, u32)],
+    calls: u32,
+    depth: u32,
+) -> Result<String, Fail> {
+    let name = Text::of_str(alloc, "w")?;
+    let checkpoint = checkpoint(alloc, places, calls)?;
+    answered(alloc, library, &name, depth, &checkpoint)
+}
+
+/// The same of a chain with this outline.
 pub fn advanced(
     alloc: Global,
     outline: &str,
@@ -136,13 +166,7 @@ pub fn advanced(
     depth: u32,
 ) -> Result<String, Fail> {
     let library = library(alloc, outline)?;
-    let name = Text::of_str(alloc, "w")?;
-    if !is_chain(&library, &name) {
-        return Err(Fail::new(format_args!("no work chain")));
-    }
-    let checkpoint = checkpoint(alloc, places, calls)?;
-    let answer = advance(alloc, &library, &name, depth, &checkpoint, env(alloc)?)?;
-    Ok(answer_text(alloc, &answer)?)
+    advanced_in(alloc, &library, places, calls, depth)
 }
 
 fn all_advance(alloc: Global, rows: &[Row<'_>]) -> Result<(), Fail> {

@@ -18,6 +18,7 @@ use Rattle.wc_world.specs.World.{World}
 use Rattle.wc_world.specs.Trees.{child_at, children_at, and_child, item_of, and_item, items_of}
 use Rattle.wc_machine.specs.Calling as calling
 use Rattle.wc_machine.specs.Resting.{child_alone, item_alone}
+use Rattle.wc_kills.specs.BoundAlike.{alone, IsBoundAlike}
 
 abbrev Items : Type 0
 Items = List (List ℕ × Item)
@@ -129,9 +130,6 @@ module _ (w : World) where
 
 -- ---- without the numbers of nodes
 
-abbrev pub alone : List (List ℕ × Item) → List (List ℕ × Item)
-alone items = map (λ e. (e.0, item_alone e.1)) items
-
 lookup_alone : (key : List ℕ) (items : Items) → lookup key (alone items) ≡ option_map item_alone (lookup key items)
 lookup_alone key [] = refl
 lookup_alone key (e ∷ es) = at (bytes_eq e.0 key) (lookup_alone key es)
@@ -160,12 +158,6 @@ joined_alone : (append : Bool) (m : Option Item) (ch : Child) → run.joined app
 joined_alone true m ch =
     ap item.Many (ap (λ (l : List Child). l ++ child_alone ch ∷ []) (children_alone m) ∙ sym (map-append child_alone (run.children_at m) (ch ∷ [])))
 joined_alone false m ch = refl
-
--- A child that is bound in a checkpoint's context is bound alike in what is seen of it.
-pub record IsBoundAlike (w : World) (ctx : Pairs) (items : List (List ℕ × Item)) (key : List ℕ) (append : Bool) (pid : ℕ) (ch : Child) : Type 0 where
-  pub new : List (List ℕ × Item)
-  pub seen : items_of w (with_set ctx key (calling.joined append (found_at ctx key) pid)) ≡ Some new
-  pub same : keyed key (run.joined append (lookup key (alone items)) (child_alone ch)) (alone items) ≡ alone new
 
 pub bound_alike : (w : World) (ctx : Pairs) (items : List (List ℕ × Item)) (key : List ℕ) (append : Bool) (pid : ℕ) (ch : Child) → items_of w ctx ≡ Some items
     → child_at w pid ≡ Some ch → IsBoundAlike w ctx items key append pid ch

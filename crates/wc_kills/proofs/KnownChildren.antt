@@ -45,7 +45,8 @@ use Rattle.wc_machine.specs.Sound.{AreAwaited, IsMeant, IsPlaced, IsSound}
 use Rattle.wc_framing.specs.Laws.{IsUnderItsLabel}
 use Rattle.wc_framing.proofs.CalledLabels.{calls_under_labels}
 use Rattle.wc_kills.proofs.OthersOnTrack.{any_gives}
-use Rattle.wc_kills.proofs.Contexts.{alone, IsBoundAlike, bound_alike}
+use Rattle.wc_kills.specs.BoundAlike.{alone, IsBoundAlike}
+use Rattle.wc_kills.proofs.Contexts.{bound_alike}
 use Rattle.wc_kills.proofs.Taken.{Taken, plans, bound_now, cost, Known}
 
 -- ---- what a process has called

@@ -5,6 +5,6 @@ mod bindings;
 mod kills;
 mod sets;
 
-pub use bindings::bindings_keep_sound;
+pub use bindings::{binding_is_the_runs, bindings_keep_sound};
 pub use kills::{kills_keep_sound, single_kills_keep_sound};
 pub use sets::sets_keep_sound;

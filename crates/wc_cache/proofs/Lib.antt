@@ -1,0 +1,6 @@
+mod Keyed
+mod Valued
+mod Parts
+mod Valid
+mod Lowest
+mod Named

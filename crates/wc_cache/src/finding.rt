@@ -1,0 +1,93 @@
+//! The lowest valid source with a key.
+
+ghost use Rattle.std.specs.Prelude.{◌≡◌, ◌+◌, ◌↔◌, IsTrue, IsSome, IfOk, IfSome};
+ghost use Rattle.wc_state.specs.declared.record.ProcessRecord.{ProcessRecord};
+ghost use Rattle.wc_world.specs.Records.{find_record};
+ghost use Rattle.wc_machine.specs.Ending.{TakesSource};
+ghost use Rattle.wc_machine.specs.Recorded.{its_definition};
+ghost use Rattle.wc_machine.specs.Sources.{IsLowestSource};
+ghost use Rattle.wc_cache.specs.Finding.{IsLowestWith, IsSourceWith};
+ghost use Rattle.wc_cache.specs.Keys.{IsKeyOf};
+
+use crate::keys::{definition_of, key_of_process};
+use crate::names::has_name;
+use crate::sources::is_valid;
+use std::alloc::{AllocError, Global};
+use wc_state::ProcessRecord;
+use wc_world::{World, reached_worlds_are_consistent};
+
+/// Whether a process whose definition is there has this key.
+fn has_key(
+    alloc: Global,
+    world: &World,
+    process: &ProcessRecord,
+    key: &[u8],
+) -> Result<bool, AllocError>
+    requires { IsSome (its_definition world.now.world process.now) }
+    ensures { IfOk result (λ has. IsTrue has ↔ IsKeyOf world.now.world process.now key.now) }
+{
+    let own = key_of_process(alloc, world, process)?;
+    Ok(own.bytes() == key)
+}
+
+/// Whether a process may have this key, by the name of its definition alone.
+fn may_have(world: &World, process: &ProcessRecord, key: &[u8]) -> bool
+    ensures { IsKeyOf world.now.world process.now key.now → IsTrue result }
+{
+    match definition_of(world, process) {
+        Some(definition) => has_name(definition, key),
+        None => false,
+    }
+}
+
+/// Whether a process is a valid source with this key for a start in the next batch.
+fn is_source(
+    alloc: Global,
+    world: &World,
+    process: &ProcessRecord,
+    key: &[u8],
+) -> Result<bool, AllocError>
+    ensures { IfOk result (λ is. IsTrue is ↔ IsSourceWith world.now.world (world.now.world.batches + 1) key.now process.now) }
+{
+    if !is_valid(world, process) || !may_have(world, process, key) {
+        return Ok(false);
+    }
+    has_key(alloc, world, process, key)
+}
+
+/// The lowest valid source with this key for a start in the next batch, if there is one. So it is the source of each
+/// process that has the key.
+pub fn find(alloc: Global, world: &World, key: &[u8]) -> Result<Option<u32>, AllocError>
+    ensures lowest { IfOk result (IsLowestWith world.now.world (world.now.world.batches + 1) key.now) }
+    ensures source { IfOk result (λ source. (r : ProcessRecord) → IsKeyOf world.now.world r key.now
+        → IsLowestSource world.now.world (world.now.world.batches + 1) r source) }
+{
+    // A reached world is consistent, so that its records ascend by their numbers.
+    let _ = world.graph();
+    reached_worlds_are_consistent();
+    for process in world.records().as_slice() {
+        let is = is_source(alloc, world, process, key)?;
+        if is {
+            return Ok(Some(process.node));
+        }
+    }
+    Ok(None)
+}
+
+/// The source that a process takes where it starts in the next batch: with caching on the lowest that there is, else
+/// none.
+pub fn source_of(alloc: Global, world: &World, pid: u32) -> Result<Option<u32>, AllocError>
+    // There is a process with this number.
+    requires { IsSome (find_record pid world.now.world.records) }
+    ensures { IfOk result (λ source. IfSome (find_record pid world.now.world.records) (λ r. TakesSource world.now.world r source)) }
+{
+    // A reached world is consistent, so that each of its processes has a definition.
+    let _ = world.graph();
+    reached_worlds_are_consistent();
+    let process = world.record_of(pid).unwrap();
+    if !process.caching {
+        return Ok(None);
+    }
+    let key = key_of_process(alloc, world, process)?;
+    find(alloc, world, key.bytes())
+}

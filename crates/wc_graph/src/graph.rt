@@ -2,6 +2,7 @@ ghost use Rattle.std.specs.Prelude.{◌≡◌, ℕ, [], ◌∷◌, ◌++◌, ◌
 ghost use Rattle.wc_graph.specs.Rules.{IsLinkCorrect};
 ghost use Rattle.wc_graph.specs.Refusals.{IsAllowed, Refuses, RefusesExactly};
 
+use crate::copies::{copy_links, copy_nodes};
 use crate::error::GraphError;
 use crate::link::Link;
 use crate::node::NodeKind;
@@ -53,6 +54,16 @@ impl Graph {
             nodes: Nodes::new(alloc),
             links: Links::new(alloc),
         }
+    }
+
+    /// An equal graph with memory of its own.
+    pub fn copy(&self, alloc: Global) -> Result<Graph, AllocError>
+        ensures nodes { IfOk result (λ copy. copy.nodes ≡ self.now.nodes) }
+        ensures links { IfOk result (λ copy. copy.links ≡ self.now.links) }
+    {
+        let nodes = copy_nodes(alloc, &self.nodes)?;
+        let links = copy_links(alloc, &self.links)?;
+        Ok(Graph { nodes, links })
     }
 
     /// The nodes.
@@ -119,6 +130,7 @@ impl Graph {
         ensures added { OnOk result (self.new.links ≡ self.old.links ++ link ∷ []) }
         ensures others { (self.new.nodes ≡ self.old.nodes) × (self.new.node_room ≡ self.old.node_room) }
         ensures correct { IsLinkCorrect self.new.nodes self.new.links }
+        ensures allowed { OnOk result (IsAllowed self.old.nodes self.old.links link) }
 
         // Each refusal comes exactly where its rule is the first that is broken.
         ensures refusals { RefusesExactly result (Refuses self.old.nodes self.old.links link) }

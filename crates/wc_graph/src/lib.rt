@@ -4,6 +4,7 @@
 //! meets the rules of links: what each type joins, and what no two links may share.
 #![tactic(auto)]
 
+mod copies;
 mod error;
 mod graph;
 mod link;

@@ -9,7 +9,7 @@ use Rattle.wc_store.specs.declared.loading.Unplayed.TheVariants.{Unread, Unfit, 
 use Rattle.wc_store.specs.declared.loading.Stop.{Stop}
 use Rattle.wc_store.specs.Choosing.{found_at}
 use Rattle.wc_store.specs.Held.{Standing, damage, place_of, Plays}
-use Rattle.wc_store.specs.Played.{RefusesPayload, stop_of, RefusesBatches}
+use Rattle.wc_store.specs.Played.{IsPlayed, RefusesPayload, stop_of, RefusesBatches}
 use Rattle.wc_store.proofs.Stops.{stops_within}
 
 -- what the batches from a place on make of a world is what all of them make of the empty one
@@ -44,3 +44,18 @@ refuses_as generation bs place w lt b is on snapshot made payload bytes u h stop
     let here : RefusesPayload (is_snapshot_place generation place) b.1 w u
     = subst (λ (p : List ℕ). RefusesPayload (is_snapshot_place generation place) p w u) bytes (subst (λ (c : Bool). RefusesPayload c payload w u) made h) in
     subst (RefusesBatches generation bs) (sym same) (refuses generation bs place w lt b is on u here)
+
+-- a batch that is played leaves the rest to be played
+pub goes_on_as : (generation : ℕ) (bs : Placed) (place : ℕ) (w : World) → place < length bs → (b : ℕ × List ℕ) → b ≡ get_or bs place b → GoesOn generation bs place w
+    → (snapshot : Bool) → snapshot ≡ is_snapshot_place generation place → (payload : List ℕ) → payload ≡ b.1 → (after : World) → IsPlayed snapshot payload w after
+    → GoesOn generation bs (place + 1) after
+goes_on_as generation bs place w lt b is on snapshot made payload bytes after h =
+    λ disk image s plays.
+    let played : IsPlayed (is_snapshot_place generation place) b.1 w after
+    = subst (λ (p : List ℕ). IsPlayed (is_snapshot_place generation place) p w after) bytes (subst (λ (c : Bool). IsPlayed c payload w after) made h) in
+    here generation bs place w lt b is on disk image s
+    (inr (
+      played.changes,
+      played.reads,
+      inr (played.suit, played.accepted, subst (λ (v : World). Plays disk image generation (place + 1) v (drop (place + 1) bs) s) played.after plays),
+    ))

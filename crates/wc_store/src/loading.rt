@@ -1,5 +1,5 @@
 //! The world that the batches of a journal make.
-ghost use Rattle.std.specs.Prelude.{◌≡◌, IsTrue, IfOk, IfErr, OnOk, OnErr};
+ghost use Rattle.std.specs.Prelude.{◌≡◌, IsTrue, IfOk, IfErr, OnOk};
 ghost use Rattle.wc_disk.specs.Images.{LeavesOnly};
 ghost use Rattle.wc_journal.specs.Reading.{is_snapshot_place};
 ghost use Rattle.wc_record.specs.Reading.{whole};
@@ -105,35 +105,23 @@ fn changes_of(alloc: Global, payload: &[u8]) -> Result<Changes, Unplayed>
     }
 }
 
-/// Applies changes that the world accepts.
-fn take(alloc: Global, world: &mut World, changes: Changes) -> Result<(), Unplayed>
-    ensures accepted { OnOk result (IsAccepted world.old.world changes) }
-    ensures after { OnOk result (world.new.world ≡ applied world.old.world changes) }
-    ensures same { OnErr result (world.new.world ≡ world.old.world) }
-    ensures refused { IfErr result (RefusesChanges world.old.world changes) }
+/// The world after changes that it accepts.
+fn take(alloc: Global, world: World, changes: Changes) -> Result<World, Unplayed>
+    ensures accepted { OnOk result (IsAccepted world.world changes) }
+    ensures after { IfOk result (λ after. after.world ≡ applied world.world changes) }
+    ensures refused { IfErr result (RefusesChanges world.world changes) }
 {
-    match world.accepts(alloc, &changes) {
-        Err(WorldError::OutOfMemory) => return Err(Unplayed::OutOfMemory),
-        Err(_) => return Err(Unplayed::Unfit),
-        Ok(()) => {}
+    match World::play(alloc, world, changes) {
+        Ok(after) => Ok(after),
+        Err(WorldError::OutOfMemory) => Err(Unplayed::OutOfMemory),
+        Err(_) => Err(Unplayed::Unfit),
     }
-    if world.reserve(alloc, &changes).is_err() {
-        return Err(Unplayed::OutOfMemory);
-    }
-    world.apply(changes);
-    Ok(())
 }
 
-/// Plays one payload.
-fn play_one(
-    alloc: Global,
-    world: &mut World,
-    snapshot: bool,
-    payload: &[u8],
-) -> Result<(), Unplayed>
-    ensures ok { OnOk result (IsPlayed snapshot payload.now world.old.world world.new.world) }
-    ensures same { OnErr result (world.new.world ≡ world.old.world) }
-    ensures refused { IfErr result (RefusesPayload snapshot payload.now world.old.world) }
+/// The world after one payload.
+fn play_one(alloc: Global, world: World, snapshot: bool, payload: &[u8]) -> Result<World, Unplayed>
+    ensures ok { IfOk result (λ after. IsPlayed snapshot payload.now world.world after.world) }
+    ensures refused { IfErr result (RefusesPayload snapshot payload.now world.world) }
 {
     let changes = changes_of(alloc, payload)?;
     if !suits(snapshot, changes.as_slice()) {
@@ -168,8 +156,9 @@ fn play_all(alloc: Global, generation: u64, batches: &Batches) -> Result<World, 
     let mut world = World::new(alloc);
     for (number, batch) in batches.as_slice().iter().enumerate() {
         let snapshot = is_snapshot(generation, number);
-        if let Err(unplayed) = play_one(alloc, &mut world, snapshot, batch.1.bytes()) {
-            return Err(stop_of(batch.0, unplayed));
+        match play_one(alloc, world, snapshot, batch.1.bytes()) {
+            Ok(after) => world = after,
+            Err(unplayed) => return Err(stop_of(batch.0, unplayed)),
         }
     }
     Ok(world)

@@ -5,7 +5,8 @@ use Rattle.wc_world.specs.World.{World}
 use Rattle.wc_world.specs.Applied.{after_change, changed, begun, applied}
 use Rattle.wc_world.specs.Accepted.{Setting, setting, Fits, Apply, IsAccepted, IsReached}
 use Rattle.wc_world.specs.Room.{Room, HasRoom}
-use Rattle.wc_world.proofs.Ascents.{Ascends, change_ascends, reached_ascends}
+use Rattle.wc_world.specs.Drafts.{Ascends}
+use Rattle.wc_world.proofs.Ascents.{change_ascends, reached_ascends}
 
 -- the changes left make of the world so far what all of them make of the old one, and each of them applies and has room
 pub record Remain (s : Setting) (final w : World) (room : Room) (rest : List Change) : Type 0 where

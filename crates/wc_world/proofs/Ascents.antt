@@ -1,40 +1,27 @@
 -- The numbers of a world's records ascend, so the first record with a number is the only one.
-use Rattle.std.proofs.Common.{◌≡◌, ℕ, ◌+◌, ◌<◌, ◌≤◌, true, false, List, [], ◌∷◌, ◌++◌, length, map, ◌==◌, inl, inr, refl, sym, ap, arith, length-append}
-use Rattle.std.specs.Prelude.{if◌then◌else◌}
-use Rattle.std.proofs.lemmas.Bool.{cases_eq, eq-eqb, ne_eqb}
+use Rattle.std.proofs.Common.{◌≡◌, ℕ, ◌+◌, ◌<◌, ◌≤◌, true, false, List, [], ◌∷◌, ◌++◌, length, map, ◌==◌, refl, arith, length-append}
+use Rattle.std.specs.Prelude.{if◌then◌else◌, All}
+use Rattle.std.proofs.lemmas.List.Elements.{All-nil, All-cons}
 use Rattle.wc_state.specs.declared.record.ProcessRecord.{ProcessRecord}
 use Rattle.wc_world.specs.declared.change.Change.{Change}
 use Rattle.wc_world.specs.declared.change.Change.TheVariants as change
 use Rattle.wc_graph.specs.declared.node.NodeKind.TheVariants as node
 use Rattle.wc_world.specs.World.{World}
-use Rattle.wc_world.specs.Records.{at_process, process_node}
+use Rattle.wc_world.specs.Records.{process_node}
 use Rattle.wc_world.specs.Applied.{next_number, made, set, keep, after_change, changed, begun}
 use Rattle.wc_world.specs.Accepted.{IsReached, nothing, then_changes}
-use Rattle.wc_world.specs.Applying.{Ascend, at_first}
+use Rattle.wc_world.specs.Applying.{Ascend}
+use Rattle.wc_world.specs.Drafts.{Ascends}
 
 abbrev choose : ℕ → (ProcessRecord → ProcessRecord) → ProcessRecord → ProcessRecord
 choose pid f r = if r.node == pid then f r else r
 
--- ---- the first one is the only one
+-- ---- one record more
 
--- numbers at most the lower bound are of no record
-absent : (pid : ℕ) (f : ProcessRecord → ProcessRecord) (low high : ℕ) (rs : List ProcessRecord) → pid ≤ low → Ascend low rs high → at_process pid f rs ≡ rs
-absent pid f low high [] below up = refl
-absent pid f low high (r ∷ rs) below up =
-    let other : (r.node == pid) ≡ false = ne_eqb r.node pid (λ e. omega arith) in
-    rw other (ap (λ qs. r ∷ qs) (absent pid f r.node high rs (omega arith) up.2))
-
-pub first_alone : (pid : ℕ) (f : ProcessRecord → ProcessRecord) (low high : ℕ) (rs : List ProcessRecord) → Ascend low rs high → at_first pid f rs ≡ at_process pid f rs
-first_alone pid f low high [] up = refl
-first_alone pid f low high (r ∷ rs) up =
-    elim (cases_eq r.node pid) [
-      | inl same ↦
-          let is : (r.node == pid) ≡ true = eq-eqb r.node pid same in
-          rw is (ap (λ qs. f r ∷ qs) (sym (absent pid f r.node high rs (omega arith) up.2)))
-      | inr other ↦
-          let is : (r.node == pid) ≡ false = ne_eqb r.node pid other in
-          rw is (ap (λ qs. r ∷ qs) (first_alone pid f r.node high rs up.2))
-    ]
+-- numbers up to a bound are below what is above it
+pub ascend_below : (low high n : ℕ) (rs : List ProcessRecord) → high < n → Ascend low rs high → All (λ r. r.node < n) rs
+ascend_below low high n [] lt up = All-nil (λ r. r.node < n)
+ascend_below low high n (r ∷ rs) lt up = All-cons (λ q. q.node < n) r rs (omega (arith, up.1)) (ascend_below r.node high n rs lt up.2)
 
 -- ---- changes keep the numbers ascending
 
@@ -54,9 +41,6 @@ ascend_push low high more (q ∷ qs) r le lt within up = (up.0, omega arith, asc
 
 choose_keeps_node : (pid : ℕ) (f : ProcessRecord → ProcessRecord) → ((r : ProcessRecord) → (f r).node ≡ r.node) → (r : ProcessRecord) → (choose pid f r).node ≡ r.node
 choose_keeps_node pid f same r = elim (r.node == pid) as (λ b. (if b then f r else r).node ≡ r.node) [ true ↦ same r | false ↦ refl ]
-
-abbrev pub Ascends : World → Type 0
-Ascends w = Ascend 0 w.records (length w.nodes)
 
 pub change_ascends : (batch : ℕ) (w : World) (c : Change) → Ascends w → Ascends (after_change batch w c)
 change_ascends batch w (change.Library l names) up = up

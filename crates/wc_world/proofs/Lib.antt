@@ -14,22 +14,24 @@ pub mod FoundRecords
 pub mod LabelledValues
 pub mod RecordedEnvironments
 pub mod RecordedTrees
-mod Firsts
+pub mod Halving
+pub mod Slotted
 mod Ascents
 mod Allowed
 mod Needs
 mod Applies
 mod LinkCorrect
 pub mod After
-pub mod Links
 pub mod Lengths
 pub mod Definitions
-pub mod Sights
 pub mod Places
-pub mod Settled
+pub mod Leading
+pub mod Outcomes
+pub mod Telling
+pub mod Played
+pub mod Unsettled
 pub mod OneRule
 pub mod OneAnswer
-pub mod InTurn
 mod LinkedValues
 mod LinkLabels
 mod TreeLaws

@@ -2,7 +2,7 @@
 use Rattle.std.proofs.Common.{◌≡◌, ℕ, zero, suc, ◌+◌, Bool, true, false, List, [], ◌∷◌, drop, refl, sym, ap, ◌∙◌, add-one}
 use Rattle.std.specs.Prelude.{◌&&◌, slice_get}
 use Rattle.std.specs.List.{list_all}
-use Rattle.wc_world.specs.After.{on_place}
+use Rattle.wc_world.specs.Drafts.{on_place}
 
 all_from : {X : Type 0} (p : X → Bool) (xs : List X) (i : ℕ) → list_all p (drop i xs) ≡ on_place p (slice_get xs i) && list_all p (drop (suc i) xs)
 all_from p [] zero = refl

@@ -13,7 +13,7 @@ pub mod Applying
 pub mod After
 pub mod Levels
 pub mod Order
-pub mod Sights
-pub mod Evolved
-pub mod Accepting
 pub mod TreeLaws
+pub mod Slots
+pub mod Drafts
+pub mod Playing

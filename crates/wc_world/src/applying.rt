@@ -10,12 +10,11 @@ ghost use Rattle.wc_world.specs.Room.{HasRoom, needed};
 ghost use Rattle.wc_world.specs.Applying.{world_of, room_of, CanApply, Ascend, IsAtLeast};
 
 use crate::change::{Change, Changes, NewProcess};
+use crate::processes::{make, node_of_kind};
 use crate::records::Records;
 use crate::world::{Known, Libraries, World};
 use std::alloc::{AllocError, Global};
 use wc_graph::{Graph, Link, NodeKind};
-use wc_state::{Part, ProcessKind, ProcessRecord};
-use wc_value::ProcessState;
 
 /// How many items changes add.
 #[derive(Drop)]
@@ -72,40 +71,6 @@ fn count(changes: &[Change]) -> Need
     need
 }
 
-/// The node of a process of this kind.
-fn node_of_kind(kind: ProcessKind) -> NodeKind
-    ensures { result ≡ process_node kind }
-{
-    match kind {
-        ProcessKind::Function => NodeKind::Calculation,
-        ProcessKind::Job => NodeKind::Calculation,
-        ProcessKind::Chain => NodeKind::Workflow,
-    }
-}
-
-/// The record of a new process with this number.
-fn make(number: u32, process: NewProcess) -> ProcessRecord
-    ensures { result ≡ made number process }
-{
-    ProcessRecord {
-        node: number,
-        kind: process.kind,
-        definition: process.definition,
-        library: process.library,
-        depth: process.depth,
-        label: process.label,
-        caching: process.caching,
-        state: ProcessState::Created,
-        paused: false,
-        cached_from: None,
-        fuel: 0,
-        code: None,
-        started: 0,
-        ended: 0,
-        part: Part::Fresh,
-    }
-}
-
 /// Puts a library at the end, where there is room for it.
 fn put_library(libraries: &mut Libraries, library: Known)
     requires { 0 < libraries.old.1 }
@@ -142,6 +107,7 @@ fn put_process(graph: &mut Graph, records: &mut Records, process: NewProcess)
     requires number { length graph.old.nodes < 8000000 }
     requires node_room { 0 < graph.old.node_room }
     requires room { 0 < records.old.1 }
+    requires ascending { Ascend 0 records.old.0 (length graph.old.nodes) }
     ensures nodes { graph.new.nodes ≡ graph.old.nodes ++ process_node process.kind ∷ [] }
     ensures links { (graph.new.links ≡ graph.old.links) × (graph.new.link_room ≡ graph.old.link_room) }
     ensures node_room { graph.old.node_room ≤ graph.new.node_room + 1 }

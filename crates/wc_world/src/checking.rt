@@ -1,120 +1,124 @@
-//! Whether a change applies to the world as the changes before left it, or else why not.
+//! Whether a change applies to the world of a draft, or else why not.
 
-ghost use Rattle.std.specs.Prelude.{◌≡◌, ◌⊎◌, ◌&&◌, true, false, OnOk, IfOk, IfErr, option_map};
+ghost use Rattle.std.specs.Prelude.{◌≡◌, ◌⊎◌, ◌&&◌, true, false, IsTrue, ◌↔◌, OnOk, IfOk, IfErr};
+ghost use Rattle.std.specs.Option.{option_copied};
 ghost use Rattle.wc_world.specs.declared.change.Change.TheVariants as change;
 ghost use Rattle.wc_world.specs.declared.error.WorldError.TheVariants as error;
 ghost use Rattle.wc_world.specs.Records.{find_record};
-ghost use Rattle.wc_world.specs.Fits.{call_fits, names_ascend};
-ghost use Rattle.wc_world.specs.Accepted.{Fits, Refuses};
-ghost use Rattle.wc_world.specs.After.{told, world_at, setting_at, records_at};
-ghost use Rattle.wc_world.specs.Sights.{set_fits_seen, source_fits_seen, is_source_seen, kept_fits_seen};
+ghost use Rattle.wc_world.specs.Fits.{names_ascend, set_fits};
+ghost use Rattle.wc_world.specs.Accepted.{Setting, HasNumber, Fits, Refuses, ended_fits};
+ghost use Rattle.wc_world.specs.Drafts.{drafted, FitsBy, RefusesBy, is_source_by, source_fits_by, kept_fits_by};
 
-use crate::change::{Change, Kept, NewProcess, SetProcess};
+use crate::change::{Kept, NewProcess, SetProcess};
 use crate::checkpoints::set_fits;
+use crate::draft::Draft;
 use crate::error::WorldError;
-use crate::fitting::{ended_before, ended_fits, is_calculation, names_ascend, started_after};
-use crate::point::Point;
-use crate::records_after::{Sight, record_after};
-use crate::snapshots::count_in;
-use crate::standing::{allow, call_fits, has_number, new_fits, next_number};
+use crate::fitting::{
+    ended_before, ended_fits, is_calculation, names_ascend, new_fits, started_after,
+};
+use crate::terms::Terms;
 use std::alloc::{AllocError, Global};
-use wc_graph::{GraphError, Link, is_call};
+use wc_graph::GraphError;
+use wc_state::ProcessRecord;
 use wc_value::{Value, Words, is_within_depth};
 
-fn check_data(point: &Point<'_>, value: &Value) -> Result<(), WorldError>
-    ensures ok { OnOk result (Fits (setting_at point.now) (world_at point.now) (change.Data value.now)) }
-    ensures refused { IfErr result (λ e. Refuses (setting_at point.now) (world_at point.now) (change.Data value.now) e) }
+/// The most nodes that a graph takes.
+const MOST_NODES: usize = 8_000_000;
+
+/// Whether there is a number for one more node.
+fn has_number(draft: &Draft) -> bool
+    ensures { IsTrue result ↔ HasNumber (drafted draft.now) }
 {
-    if !has_number(point) {
+    draft.graph.nodes().len() < MOST_NODES
+}
+
+/// Whether a data node may be made.
+pub(crate) fn check_data(draft: &Draft, value: &Value) -> Result<(), WorldError>
+    ensures ok { OnOk result ((s : Setting) → Fits s (drafted draft.now) (change.Data value.now)) }
+    ensures refused { IfErr result (λ e. (s : Setting) → Refuses s (drafted draft.now) (change.Data value.now) e) }
+{
+    if !has_number(draft) {
         return Err(WorldError::Graph(GraphError::Full));
     }
     if is_within_depth(value, 32) {
         Ok(())
     } else {
-        Err(WorldError::BadRecord(next_number(point)))
+        Err(WorldError::BadRecord(draft.graph.nodes().len() as u32 + 1))
     }
 }
 
-fn check_process(point: &Point<'_>, process: &NewProcess) -> Result<(), WorldError>
-    ensures ok { OnOk result (Fits (setting_at point.now) (world_at point.now) (change.Process process.now)) }
-    ensures refused { IfErr result (λ e. Refuses (setting_at point.now) (world_at point.now) (change.Process process.now) e) }
+/// Whether a process may be made.
+pub(crate) fn check_process(draft: &Draft, process: &NewProcess) -> Result<(), WorldError>
+    ensures ok { OnOk result ((s : Setting) → Fits s (drafted draft.now) (change.Process process.now)) }
+    ensures refused { IfErr result (λ e. (s : Setting) → Refuses s (drafted draft.now) (change.Process process.now) e) }
 {
-    if !has_number(point) {
+    if !has_number(draft) {
         return Err(WorldError::Graph(GraphError::Full));
     }
-    if new_fits(point, process) {
+    if new_fits(draft.libraries.as_slice(), process) {
         Ok(())
     } else {
-        Err(WorldError::BadRecord(next_number(point)))
-    }
-}
-
-fn check_link(point: &Point<'_>, link: &Link) -> Result<(), WorldError>
-    ensures ok { OnOk result (Fits (setting_at point.now) (world_at point.now) (change.Link link.now)) }
-    ensures refused { IfErr result (λ e. Refuses (setting_at point.now) (world_at point.now) (change.Link link.now) e) }
-{
-    match allow(point, link) {
-        Err(refusal) => Err(WorldError::Graph(refusal)),
-        Ok(()) => {
-            if is_call(link.link) && !call_fits(point, link) {
-                Err(WorldError::BadRecord(link.target))
-            } else {
-                Ok(())
-            }
-        }
+        Err(WorldError::BadRecord(draft.graph.nodes().len() as u32 + 1))
     }
 }
 
 /// Whether a source is a calculation that ended in a batch before the one in which the process started.
 fn is_source(
-    point: &Point<'_>,
+    terms: &Terms,
     set: &SetProcess,
-    sight: &Sight<'_>,
-    source: &Option<Sight<'_>>,
+    record: &ProcessRecord,
+    source: Option<&ProcessRecord>,
 ) -> bool
-    ensures { result ≡ is_source_seen (setting_at point.now) set.now (told sight.now) (option_map told source.now) }
+    ensures { result ≡ is_source_by terms.now set.now «record».now (option_copied source.entry) }
 {
     match source {
         None => false,
         Some(source) => {
             is_calculation(source.kind)
-                && ended_before(point, source) > 0
-                && ended_before(point, source) < started_after(point, set, sight)
+                && ended_before(terms, source) > 0
+                && ended_before(terms, source) < started_after(terms, set, record)
         }
     }
 }
 
-fn source_fits(point: &Point<'_>, set: &SetProcess, sight: &Sight<'_>) -> bool
-    ensures { result ≡ source_fits_seen point.now set.now (told sight.now) }
+fn source_fits(draft: &Draft, terms: &Terms, set: &SetProcess, record: &ProcessRecord) -> bool
+    ensures { result ≡ source_fits_by terms.now (drafted draft.now) set.now «record».now }
 {
     if set.cached_from == 0 {
         return true;
     }
-    let source = record_after(point, set.cached_from);
-    is_source(point, set, sight, &source)
+    let source = draft.records.find(set.cached_from);
+    is_source(terms, set, record, source)
 }
 
 /// Whether a process is set to what fits it, with a source that fits.
 fn process_fits(
     alloc: Global,
-    point: &Point<'_>,
+    draft: &Draft,
+    terms: &Terms,
     set: &SetProcess,
-    sight: &Sight<'_>,
+    record: &ProcessRecord,
 ) -> Result<bool, AllocError>
-    ensures { IfOk result (λ fits. fits ≡ (set_fits_seen point.now set.now (told sight.now) && source_fits_seen point.now set.now (told sight.now))) }
+    ensures { IfOk result (λ fits. fits ≡ (set_fits (drafted draft.now) set.now «record».now && source_fits_by terms.now (drafted draft.now) set.now «record».now)) }
 {
-    let fits = set_fits(alloc, point, set, sight)?;
-    Ok(fits && source_fits(point, set, sight))
+    let fits = set_fits(alloc, draft, set, record)?;
+    Ok(fits && source_fits(draft, terms, set, record))
 }
 
-fn check_set(alloc: Global, point: &Point<'_>, set: &SetProcess) -> Result<(), WorldError>
-    ensures ok { OnOk result (Fits (setting_at point.now) (world_at point.now) (change.Set set.now)) }
-    ensures refused { IfErr result (λ e. (e ≡ error.OutOfMemory) ⊎ Refuses (setting_at point.now) (world_at point.now) (change.Set set.now) e) }
+/// Whether a process may be set so.
+pub(crate) fn check_set(
+    alloc: Global,
+    draft: &Draft,
+    terms: &Terms,
+    set: &SetProcess,
+) -> Result<(), WorldError>
+    ensures ok { OnOk result (FitsBy terms.now (drafted draft.now) (change.Set set.now)) }
+    ensures refused { IfErr result (λ e. (e ≡ error.OutOfMemory) ⊎ RefusesBy terms.now (drafted draft.now) (change.Set set.now) e) }
 {
-    match record_after(point, set.pid) {
+    match draft.records.find(set.pid) {
         None => Err(WorldError::NoProcess(set.pid)),
-        Some(sight) => {
-            if process_fits(alloc, point, set, &sight)? {
+        Some(record) => {
+            if process_fits(alloc, draft, terms, set, record)? {
                 Ok(())
             } else {
                 Err(WorldError::BadRecord(set.pid))
@@ -123,44 +127,46 @@ fn check_set(alloc: Global, point: &Point<'_>, set: &SetProcess) -> Result<(), W
     }
 }
 
-fn check_count(point: &Point<'_>, count: u32) -> Result<(), WorldError>
-    ensures ok { OnOk result (Fits (setting_at point.now) (world_at point.now) (change.Count count)) }
-    ensures refused { IfErr result (λ e. Refuses (setting_at point.now) (world_at point.now) (change.Count count) e) }
+/// Whether a number of batches may be told.
+pub(crate) fn check_count(draft: &Draft, terms: &Terms, count: u32) -> Result<(), WorldError>
+    ensures ok { OnOk result (FitsBy terms.now (drafted draft.now) (change.Count count)) }
+    ensures refused { IfErr result (RefusesBy terms.now (drafted draft.now) (change.Count count)) }
 {
-    if point.snapshot && count <= 4_000_000_000 {
+    if terms.snapshot && count <= 4_000_000_000 {
         Ok(())
     } else {
         Err(WorldError::BadRecord(0))
     }
 }
 
-fn kept_fits(point: &Point<'_>, kept: &Kept, sight: &Option<Sight<'_>>) -> bool
-    ensures { result ≡ kept_fits_seen (setting_at point.now) kept.now (option_map told sight.now) }
+fn kept_fits(terms: &Terms, kept: &Kept, record: Option<&ProcessRecord>) -> bool
+    ensures { result ≡ kept_fits_by terms.now kept.now (option_copied «record».entry) }
 {
-    match sight {
+    match record {
         None => false,
-        Some(sight) => {
-            point.snapshot
-                && kept.started <= count_in(point.all)
-                && kept.ended <= count_in(point.all)
-                && ended_fits(kept, sight)
+        Some(record) => {
+            terms.snapshot
+                && kept.started <= terms.count
+                && kept.ended <= terms.count
+                && ended_fits(kept, record)
         }
     }
 }
 
-fn check_kept(point: &Point<'_>, kept: &Kept) -> Result<(), WorldError>
-    ensures ok { OnOk result (Fits (setting_at point.now) (world_at point.now) (change.Kept kept.now)) }
-    ensures refused { IfErr result (λ e. Refuses (setting_at point.now) (world_at point.now) (change.Kept kept.now) e) }
+/// Whether a process may have started and ended so.
+pub(crate) fn check_kept(draft: &Draft, terms: &Terms, kept: &Kept) -> Result<(), WorldError>
+    ensures ok { OnOk result (FitsBy terms.now (drafted draft.now) (change.Kept kept.now)) }
+    ensures refused { IfErr result (RefusesBy terms.now (drafted draft.now) (change.Kept kept.now)) }
 {
-    let sight = record_after(point, kept.pid);
-    if kept_fits(point, kept, &sight) {
+    if kept_fits(terms, kept, draft.records.find(kept.pid)) {
         Ok(())
     } else {
         Err(WorldError::BadRecord(kept.pid))
     }
 }
 
-fn check_library(names: &Words) -> Result<(), WorldError>
+/// Whether a library may come with these names.
+pub(crate) fn check_library(names: &Words) -> Result<(), WorldError>
     ensures ok { OnOk result (names_ascend names.now ≡ true) }
     ensures refused { IfErr result (λ e. (e ≡ error.BadRecord 0) × (names_ascend names.now ≡ false)) }
 {
@@ -168,25 +174,5 @@ fn check_library(names: &Words) -> Result<(), WorldError>
         Ok(())
     } else {
         Err(WorldError::BadRecord(0))
-    }
-}
-
-/// Whether a change applies to the world as those before it left it, or else why not.
-pub(crate) fn check_change(
-    alloc: Global,
-    point: &Point<'_>,
-    change: &Change,
-) -> Result<(), WorldError>
-    ensures ok { OnOk result (Fits (setting_at point.now) (world_at point.now) change.now) }
-    ensures refused { IfErr result (λ e. (e ≡ error.OutOfMemory) ⊎ Refuses (setting_at point.now) (world_at point.now) change.now e) }
-{
-    match change {
-        Change::Library(_, names) => check_library(names),
-        Change::Data(value) => check_data(point, value),
-        Change::Process(process) => check_process(point, process),
-        Change::Link(link) => check_link(point, link),
-        Change::Set(set) => check_set(alloc, point, set),
-        Change::Count(count) => check_count(point, *count),
-        Change::Kept(kept) => check_kept(point, kept),
     }
 }

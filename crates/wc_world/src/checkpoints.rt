@@ -1,25 +1,26 @@
-//! Whether a checkpoint fits the world as the changes before left it.
+//! Whether a checkpoint fits the world of a draft.
 
-ghost use Rattle.std.specs.Prelude.{◌≡◌, ◌++◌, ◌&&◌, not, IfOk, slice_get, option_map, List};
+ghost use Rattle.std.specs.Prelude.{◌≡◌, ◌&&◌, not, IfOk, slice_get, option_map, List};
 ghost use Rattle.std.specs.Option.{option_copied};
 ghost use Rattle.std.specs.List.{list_all};
 ghost use Rattle.wc_syntax.specs.Bare.{bare_definition};
 ghost use Rattle.wc_graph.specs.Rules.{node_of};
-ghost use Rattle.wc_world.specs.Records.{has_called, definition_in};
-ghost use Rattle.wc_world.specs.Fits.{frame_fits, is_within, outline_lengths, is_process, held_fits, is_data_node};
-ghost use Rattle.wc_world.specs.After.{told, on_place, nodes_at, links_at, libraries_at, records_at};
-ghost use Rattle.wc_world.specs.Sights.{checkpoint_fits_seen, standing_fits_seen, set_fits_seen};
+ghost use Rattle.wc_world.specs.Records.{has_called};
+ghost use Rattle.wc_world.specs.Fits.{frame_fits, is_within, outline_lengths, is_process, held_fits, is_data_node, checkpoint_fits, standing_fits, set_fits};
+ghost use Rattle.wc_world.specs.Drafts.{drafted, on_place};
 
 use crate::blocks::lengths_of;
 use crate::change::SetProcess;
-use crate::definitions_after::definition_after;
+use crate::draft::Draft;
 use crate::fitting::{fails_fit, part_fits};
-use crate::links_after::has_called;
-use crate::nodes_after::{Sort, sort_after};
-use crate::point::Point;
-use crate::records_after::{Sight, has_ended, record_after};
+use crate::libraries::definition_in;
+use crate::processes::{has_called, has_ended};
+use crate::records::Records;
 use std::alloc::{AllocError, Global};
-use wc_state::{Awaits, Checkpoint, Context, CtxRef, Frame, Frames, Ids, Outs, Part};
+use wc_graph::{Link, NodeKind};
+use wc_state::{
+    Awaits, Checkpoint, Context, CtxRef, Frame, Frames, Ids, Outs, Part, ProcessRecord,
+};
 use wc_syntax::Definition;
 use wc_value::is_within_depth;
 
@@ -55,11 +56,11 @@ fn outline_lengths(alloc: Global, definition: Option<&Definition>) -> Result<Vec
 }
 
 /// Whether each awaited process was called.
-fn awaits_fit(point: &Point<'_>, node: u32, awaiting: &Awaits) -> bool
-    ensures { result ≡ list_all (λ a. has_called (links_at point.now) node a.pid) awaiting.now }
+fn awaits_fit(links: &[Link], node: u32, awaiting: &Awaits) -> bool
+    ensures { result ≡ list_all (λ a. has_called links.now node a.pid) awaiting.now }
 {
     for awaited in awaiting.as_slice() {
-        if !has_called(point.links, point.done, node, awaited.pid) {
+        if !has_called(links, node, awaited.pid) {
             return false;
         }
     }
@@ -67,17 +68,17 @@ fn awaits_fit(point: &Point<'_>, node: u32, awaiting: &Awaits) -> bool
 }
 
 /// Whether there is a process with this number.
-fn is_process(point: &Point<'_>, pid: u32) -> bool
-    ensures { result ≡ is_process (records_at point.now) pid }
+fn is_process(records: &Records, pid: u32) -> bool
+    ensures { result ≡ is_process records.now.0 pid }
 {
-    record_after(point, pid).is_some()
+    records.find(pid).is_some()
 }
 
-fn are_processes(point: &Point<'_>, pids: &Ids) -> bool
-    ensures { result ≡ list_all (is_process (records_at point.now)) pids.now }
+fn are_processes(records: &Records, pids: &Ids) -> bool
+    ensures { result ≡ list_all (is_process records.now.0) pids.now }
 {
     for pid in pids.as_slice() {
-        if !is_process(point, *pid) {
+        if !is_process(records, *pid) {
             return false;
         }
     }
@@ -85,31 +86,31 @@ fn are_processes(point: &Point<'_>, pids: &Ids) -> bool
 }
 
 /// Whether a value is at most 32 deep, and the processes are there.
-fn held_fits(point: &Point<'_>, held: &CtxRef) -> bool
-    ensures { result ≡ held_fits (records_at point.now) held.now }
+fn held_fits(records: &Records, held: &CtxRef) -> bool
+    ensures { result ≡ held_fits records.now.0 held.now }
 {
     match held {
         CtxRef::Plain(value) => is_within_depth(value, 32),
-        CtxRef::One(pid) => is_process(point, *pid),
-        CtxRef::Many(pids) => are_processes(point, pids),
+        CtxRef::One(pid) => is_process(records, *pid),
+        CtxRef::Many(pids) => are_processes(records, pids),
     }
 }
 
 /// Whether what a key at a place holds fits; there is nothing wrong where there is no key.
-fn place_fits(point: &Point<'_>, ctx: &Context, at: usize) -> bool
-    ensures { result ≡ on_place (λ e. held_fits (records_at point.now) e.1) (slice_get ctx.now at) }
+fn place_fits(records: &Records, ctx: &Context, at: usize) -> bool
+    ensures { result ≡ on_place (λ e. held_fits records.now.0 e.1) (slice_get ctx.now at) }
 {
     match ctx.get(at) {
         None => true,
-        Some((_, held)) => held_fits(point, held),
+        Some((_, held)) => held_fits(records, held),
     }
 }
 
-fn context_fits(point: &Point<'_>, ctx: &Context) -> bool
-    ensures { result ≡ list_all (λ e. held_fits (records_at point.now) e.1) ctx.now }
+fn context_fits(records: &Records, ctx: &Context) -> bool
+    ensures { result ≡ list_all (λ e. held_fits records.now.0 e.1) ctx.now }
 {
     for at in 0..ctx.len() {
-        if !place_fits(point, ctx, at) {
+        if !place_fits(records, ctx, at) {
             return false;
         }
     }
@@ -117,20 +118,20 @@ fn context_fits(point: &Point<'_>, ctx: &Context) -> bool
 }
 
 /// Whether there is a data node with this number.
-fn is_data(point: &Point<'_>, id: u32) -> bool
-    ensures { result ≡ is_data_node (node_of (nodes_at point.now) id) }
+fn is_data(nodes: &[NodeKind], id: u32) -> bool
+    ensures { result ≡ is_data_node (node_of nodes.now id) }
 {
-    match sort_after(point.nodes, point.done, id) {
-        Some(Sort::Data) => true,
-        _ => false,
+    if id == 0 {
+        return false;
     }
+    matches!(nodes.get(id as usize - 1), Some(NodeKind::Data(_)))
 }
 
-fn outputs_fit(point: &Point<'_>, outputs: &Outs) -> bool
-    ensures { result ≡ list_all (λ o. is_data_node (node_of (nodes_at point.now) o.1)) outputs.now }
+fn outputs_fit(nodes: &[NodeKind], outputs: &Outs) -> bool
+    ensures { result ≡ list_all (λ o. is_data_node (node_of nodes.now o.1)) outputs.now }
 {
     for (_, id) in outputs.as_slice() {
-        if !is_data(point, *id) {
+        if !is_data(nodes, *id) {
             return false;
         }
     }
@@ -140,34 +141,39 @@ fn outputs_fit(point: &Point<'_>, outputs: &Outs) -> bool
 /// Whether a checkpoint fits its process.
 fn checkpoint_fits(
     alloc: Global,
-    point: &Point<'_>,
-    sight: &Sight<'_>,
+    draft: &Draft,
+    record: &ProcessRecord,
     checkpoint: &Checkpoint,
 ) -> Result<bool, AllocError>
-    ensures { IfOk result (λ fits. fits ≡ checkpoint_fits_seen point.now (told sight.now) checkpoint.now) }
+    ensures { IfOk result (λ fits. fits ≡ checkpoint_fits (drafted draft.now) «record».now checkpoint.now) }
 {
-    let definition = definition_after(point.libraries, point.done, sight.library, sight.definition);
+    let libraries = draft.libraries.as_slice();
+    let definition = definition_in(libraries, record.library, &record.definition);
     let lengths = outline_lengths(alloc, definition)?;
     Ok(
         !checkpoint.frames.is_empty()
             && frames_fit(lengths.as_slice(), &checkpoint.frames)
-            && awaits_fit(point, sight.node, &checkpoint.awaiting)
-            && context_fits(point, &checkpoint.ctx)
-            && outputs_fit(point, &checkpoint.outputs),
+            && awaits_fit(
+                draft.graph.links().as_slice(),
+                record.node,
+                &checkpoint.awaiting,
+            )
+            && context_fits(&draft.records, &checkpoint.ctx)
+            && outputs_fit(draft.graph.nodes().as_slice(), &checkpoint.outputs),
     )
 }
 
 /// Whether a part fits its process, where it is a checkpoint.
 fn standing_fits(
     alloc: Global,
-    point: &Point<'_>,
-    sight: &Sight<'_>,
+    draft: &Draft,
+    record: &ProcessRecord,
     part: &Part,
 ) -> Result<bool, AllocError>
-    ensures { IfOk result (λ fits. fits ≡ standing_fits_seen point.now (told sight.now) part.now) }
+    ensures { IfOk result (λ fits. fits ≡ standing_fits (drafted draft.now) «record».now part.now) }
 {
     match part {
-        Part::Chain(checkpoint) => checkpoint_fits(alloc, point, sight, checkpoint),
+        Part::Chain(checkpoint) => checkpoint_fits(alloc, draft, record, checkpoint),
         _ => Ok(true),
     }
 }
@@ -175,17 +181,17 @@ fn standing_fits(
 /// Whether a process hasn't ended and is set to what fits its kind.
 pub(crate) fn set_fits(
     alloc: Global,
-    point: &Point<'_>,
+    draft: &Draft,
     set: &SetProcess,
-    sight: &Sight<'_>,
+    record: &ProcessRecord,
 ) -> Result<bool, AllocError>
-    ensures { IfOk result (λ fits. fits ≡ set_fits_seen point.now set.now (told sight.now)) }
+    ensures { IfOk result (λ fits. fits ≡ set_fits (drafted draft.now) set.now «record».now) }
 {
-    if has_ended(sight.state)
-        || !part_fits(sight.kind, set.state, &set.part)
+    if has_ended(record.state)
+        || !part_fits(record.kind, set.state, &set.part)
         || !fails_fit(&set.part, set.paused)
     {
         return Ok(false);
     }
-    standing_fits(alloc, point, sight, &set.part)
+    standing_fits(alloc, draft, record, &set.part)
 }

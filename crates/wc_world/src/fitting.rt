@@ -5,16 +5,19 @@ ghost use Rattle.std.specs.Option.{option_copied};
 ghost use Rattle.wc_syntax.specs.Bare.{bare_definition};
 ghost use Rattle.wc_value.specs.Ascending.{before};
 ghost use Rattle.wc_world.specs.Records.{definition_in, is_calculation};
-ghost use Rattle.wc_world.specs.Fits.{comes_after, names_ascend, new_fits, is_of_kind, part_fits, fails_fit, chain_runs, waits, is_fresh, is_over};
-ghost use Rattle.wc_world.specs.After.{told, libraries_at, setting_at};
-ghost use Rattle.wc_world.specs.Sights.{is_called_by_seen, is_call_between_seen, ended_fits_seen, started_after_seen, ended_before_seen};
+ghost use Rattle.wc_world.specs.Fits.{comes_after, names_ascend, new_fits, is_of_kind, is_called_by, call_fits, part_fits, fails_fit, chain_runs, waits, is_fresh, is_over};
+ghost use Rattle.wc_world.specs.Accepted.{ended_fits};
+ghost use Rattle.wc_world.specs.Drafts.{started_by, ended_by};
 
 use crate::change::{Kept, NewProcess, SetProcess};
-use crate::definitions_after::{definition_after, kind_of_definition, same_kind};
-use crate::point::Point;
-use crate::records_after::{Sight, has_ended, started_in};
-use crate::snapshots::kept_of;
-use wc_state::{Part, ProcessKind};
+use crate::libraries::{definition_in, kind_of_definition, same_kind};
+use crate::processes::{has_ended, started_in};
+use crate::records::Records;
+use crate::slots::kept_at;
+use crate::terms::Terms;
+use crate::world::Known;
+use wc_graph::Link;
+use wc_state::{Part, ProcessKind, ProcessRecord};
 use wc_syntax::Definition;
 use wc_value::{ProcessState, Text, Words};
 
@@ -52,20 +55,15 @@ fn is_of_kind(kind: ProcessKind, definition: Option<&Definition>) -> bool
 }
 
 /// Whether a new process has its definition and a depth from 1 to 16.
-pub(crate) fn new_fits(point: &Point<'_>, process: &NewProcess) -> bool
-    ensures { result ≡ new_fits (libraries_at point.now) process.now }
+pub(crate) fn new_fits(libraries: &[Known], process: &NewProcess) -> bool
+    ensures { result ≡ new_fits libraries.now process.now }
 {
-    let found = definition_after(
-        point.libraries,
-        point.done,
-        process.library,
-        &process.definition,
-    );
+    let found = definition_in(libraries, process.library, &process.definition);
     1 <= process.depth && process.depth <= 16 && is_of_kind(process.kind, found)
 }
 
-fn is_called_by(label: &Text, caller: &Sight<'_>, target: &Option<Sight<'_>>) -> bool
-    ensures { result ≡ is_called_by_seen label.now (told caller.now) (option_map told target.now) }
+fn is_called_by(label: &Text, caller: &ProcessRecord, target: Option<&ProcessRecord>) -> bool
+    ensures { result ≡ is_called_by label.now caller.now (option_copied target.entry) }
 {
     match target {
         None => false,
@@ -78,16 +76,12 @@ fn is_called_by(label: &Text, caller: &Sight<'_>, target: &Option<Sight<'_>>) ->
 }
 
 /// Whether the target of a call has its source's depth plus 1, and the link's label.
-pub(crate) fn is_call_between(
-    label: &Text,
-    caller: &Option<Sight<'_>>,
-    target: &Option<Sight<'_>>,
-) -> bool
-    ensures { result ≡ is_call_between_seen label.now (option_map told caller.now) (option_map told target.now) }
+pub(crate) fn call_fits(records: &Records, link: &Link) -> bool
+    ensures { result ≡ call_fits records.now.0 link.now }
 {
-    match caller {
+    match records.find(link.source) {
         None => false,
-        Some(caller) => is_called_by(label, caller, target),
+        Some(caller) => is_called_by(&link.label, caller, records.find(link.target)),
     }
 }
 
@@ -135,30 +129,30 @@ pub(crate) fn fails_fit(part: &Part, paused: bool) -> bool
 }
 
 /// The batch in which a process has started after it is set.
-pub(crate) fn started_after(point: &Point<'_>, set: &SetProcess, sight: &Sight<'_>) -> u32
-    ensures { result ≡ started_after_seen (setting_at point.now) set.now (told sight.now) }
+pub(crate) fn started_after(terms: &Terms, set: &SetProcess, record: &ProcessRecord) -> u32
+    ensures { result ≡ started_by terms.now set.now «record».now }
 {
-    if point.snapshot {
-        match kept_of(point.all, sight.node) {
+    if terms.snapshot {
+        match kept_at(terms.slots.as_slice(), record.node) {
             None => 0,
             Some(kept) => kept.started,
         }
     } else {
-        started_in(point.batch, sight.state, sight.started, set.state)
+        started_in(terms.batch, record, set.state)
     }
 }
 
 /// The batch in which a process ended, 0 for not yet.
-pub(crate) fn ended_before(point: &Point<'_>, sight: &Sight<'_>) -> u32
-    ensures { result ≡ ended_before_seen (setting_at point.now) (told sight.now) }
+pub(crate) fn ended_before(terms: &Terms, record: &ProcessRecord) -> u32
+    ensures { result ≡ ended_by terms.now «record».now }
 {
-    if point.snapshot {
-        match kept_of(point.all, sight.node) {
+    if terms.snapshot {
+        match kept_at(terms.slots.as_slice(), record.node) {
             None => 0,
             Some(kept) => kept.ended,
         }
     } else {
-        sight.ended
+        record.ended
     }
 }
 
@@ -170,10 +164,10 @@ pub(crate) fn is_calculation(kind: ProcessKind) -> bool
 }
 
 /// Whether the end of a process in a snapshot fits its state and its start.
-pub(crate) fn ended_fits(kept: &Kept, sight: &Sight<'_>) -> bool
-    ensures { result ≡ ended_fits_seen kept.now (told sight.now) }
+pub(crate) fn ended_fits(kept: &Kept, record: &ProcessRecord) -> bool
+    ensures { result ≡ ended_fits kept.now «record».now }
 {
-    if has_ended(sight.state) {
+    if has_ended(record.state) {
         kept.ended > 0 && kept.started <= kept.ended
     } else {
         kept.ended == 0

@@ -4,7 +4,7 @@ ghost use Rattle.std.specs.Prelude.{◌≡◌};
 ghost use Rattle.wc_world.specs.Applied.{source_of, set, keep};
 
 use crate::change::{Kept, SetProcess};
-use crate::records_after::{has_ended, started_in};
+use crate::processes::{has_ended, started_in};
 use wc_state::ProcessRecord;
 
 /// The source with this number, where 0 stands for none.
@@ -21,7 +21,7 @@ fn source_of(number: u32) -> Option<u32>
 pub(crate) fn set(item: &mut ProcessRecord, batch: u32, change: SetProcess)
     ensures { item.new ≡ set batch change item.old }
 {
-    item.started = started_in(batch, item.state, item.started, change.state);
+    item.started = started_in(batch, item, change.state);
     if has_ended(change.state) {
         item.ended = batch;
     }

@@ -4,27 +4,27 @@
 //! its batches, and the numbers of further items that take no memory.
 #![tactic(auto)]
 
-mod accepting;
 mod applying;
 mod blocks;
 mod change;
 mod checking;
 mod checkpoints;
-mod definitions_after;
+mod copies;
+mod draft;
 mod environments;
 mod error;
 mod fitting;
 mod in_place;
 mod laws;
-mod links_after;
-mod nodes_after;
+mod libraries;
 mod outputs;
-mod point;
+mod playing;
+mod processes;
 mod records;
-mod records_after;
 mod settling;
+mod slots;
 mod snapshots;
-mod standing;
+mod terms;
 mod trees;
 mod world;
 

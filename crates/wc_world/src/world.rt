@@ -19,18 +19,6 @@ pub type Known = (Checked, Words);
 /// The libraries, of which the first has the number 1.
 pub type Libraries = Roomy<Known>;
 
-/// The record of the process with this number, if there is one.
-pub(crate) fn find_record(records: &[ProcessRecord], pid: u32) -> Option<&ProcessRecord>
-    ensures { option_copied result ≡ find_record pid records.now }
-{
-    for record in records {
-        if record.node == pid {
-            return Some(record);
-        }
-    }
-    None
-}
-
 /// Everything that a store holds. It changes by whole lists of changes alone, each of which it accepts.
 #[derive(Drop)]
 pub struct World {
@@ -107,6 +95,6 @@ impl World {
     pub fn record_of(&self, pid: u32) -> Option<&ProcessRecord>
         ensures { option_copied result ≡ find_record pid self.now.world.records }
     {
-        find_record(self.records.as_slice(), pid)
+        self.records.find(pid)
     }
 }

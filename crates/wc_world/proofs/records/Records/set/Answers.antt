@@ -1,19 +1,41 @@
-use Rattle.std.proofs.Common.{◌≡◌, ◌-◌, length, position, Some, None, vec_capacity}
+use Rattle.std.proofs.Common.{◌≡◌, ◌<◌, ◌-◌, ◌∙◌, true, false, length, vec_capacity, List, ap, refl, sym, subst}
+use Rattle.std.specs.Prelude.{slice_get}
 use Rattle.std.proofs.lemmas.List.{length-set}
+use Rattle.wc_state.specs.declared.record.ProcessRecord.{ProcessRecord}
 use Rattle.wc_world.specs.Applied.{set}
-use Rattle.wc_world.proofs.Firsts.{has_number, first_changed, none_changed}
+use Rattle.wc_world.specs.Applying.{AreAscending, IsCut, is_numbered}
+use Rattle.wc_world.proofs.Halving.{changed_there, changed_nowhere, ascending_at}
 use Rattle.wc_world.proofs.records.Records.set.Goals as goal
 
-pub returns-in-Some : goal.returns-in-Some
-returns-in-Some c =
+pub returns-then-is_numbered : goal.returns-then-is_numbered
+returns-then-is_numbered c =
     let rs = c.self.inside.items.items in
-    let found : position (has_number c.args.change.pid) rs ≡ Some c.in-Some.at = cc in
-    let e = first_changed c.args.change.pid (set c.args.batch c.args.change) rs c.in-Some.at c.index_mut.result.now c.set.new.item found c.index_mut.ensures.value c.set.ensures in
-    rw (← c.self.view_is) (λ i. (e i, vec_capacity c.self.inside.items - length-set rs c.in-Some.at c.set.new.item i))
+    let s = c.args.change in
+    let at = c.place_of-at.result in
+    let is : is_numbered s.pid (slice_get rs at) ≡ true
+    = ap (λ (qs : List ProcessRecord). is_numbered s.pid (slice_get qs at)) (sym c.as_slice-2.ensures.value) ∙ sym c.is_numbered.ensures.value ∙ c.if-is_numbered.true in
+    let lt : at < length rs = subst (λ (qs : List ProcessRecord). at < length qs) c.as_slice-2.ensures.value (c.is_numbered.ensures.within c.if-is_numbered.true) in
+    let e = changed_there s.pid (set c.args.batch s) rs at c.index_mut.result.now c.set.new.item c.self.invariant is lt c.index_mut.ensures.value c.set.ensures in
+    rw (← c.self.view_is) (λ i. (e i, vec_capacity c.self.inside.items - length-set rs at c.set.new.item i))
 
-pub returns-in_default : goal.returns-in_default
-returns-in_default c =
+pub returns-else-is_numbered : goal.returns-else-is_numbered
+returns-else-is_numbered c =
     let rs = c.self.inside.items.items in
-    let found : position (has_number c.args.change.pid) rs ≡ None = cc in
-    let e = none_changed c.args.change.pid (set c.args.batch c.args.change) rs found in
+    let s = c.args.change in
+    let at = c.place_of-at.result in
+    let is : is_numbered s.pid (slice_get rs at) ≡ false
+    = ap (λ (qs : List ProcessRecord). is_numbered s.pid (slice_get qs at)) (sym c.as_slice-2.ensures.value) ∙ sym c.is_numbered.ensures.value ∙ c.if-is_numbered.false in
+    let cut = subst (λ (qs : List ProcessRecord). IsCut s.pid qs at) c.as_slice.ensures.value c.place_of-at.ensures in
+    let e = changed_nowhere s.pid (set c.args.batch s) rs at c.self.invariant cut is in
     rw (← c.self.view_is) (λ i. (e i, vec_capacity c.self.inside.items - length rs))
+
+pub invariant_of-self : goal.invariant_of-self
+invariant_of-self c =
+    let rs = c.self.inside.items.items in
+    let s = c.args.change in
+    let at = c.place_of-at.result in
+    let is : is_numbered s.pid (slice_get rs at) ≡ true
+    = ap (λ (qs : List ProcessRecord). is_numbered s.pid (slice_get qs at)) (sym c.as_slice-2.ensures.value) ∙ sym c.is_numbered.ensures.value ∙ c.if-is_numbered.true in
+    let lt : at < length rs = subst (λ (qs : List ProcessRecord). at < length qs) c.as_slice-2.ensures.value (c.is_numbered.ensures.within c.if-is_numbered.true) in
+    let e = changed_there s.pid (set c.args.batch s) rs at c.index_mut.result.now c.set.new.item c.self.invariant is lt c.index_mut.ensures.value c.set.ensures in
+    subst (λ (qs : List ProcessRecord). AreAscending 0 qs) (sym e) (ascending_at s.pid 0 (set c.args.batch s) rs (λ r. refl) c.self.invariant)

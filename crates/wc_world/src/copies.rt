@@ -1,0 +1,93 @@
+//! Copies of a world and of changes.
+
+ghost use Rattle.std.specs.Prelude.{◌≡◌, IfOk};
+
+use crate::change::{Change, Changes, NewProcess, SetProcess};
+use crate::world::{Libraries, World};
+use std::alloc::{AllocError, Global};
+use wc_copies::copy_checked;
+use wc_value::Duplicate;
+
+impl Duplicate for NewProcess {
+    fn copy(&self) -> Result<NewProcess, AllocError> {
+        Ok(NewProcess {
+            kind: self.kind,
+            definition: self.definition.copy()?,
+            library: self.library,
+            depth: self.depth,
+            label: self.label.copy()?,
+            caching: self.caching,
+        })
+    }
+}
+
+impl Duplicate for SetProcess {
+    fn copy(&self) -> Result<SetProcess, AllocError> {
+        Ok(SetProcess {
+            pid: self.pid,
+            state: self.state,
+            paused: self.paused,
+            cached_from: self.cached_from,
+            fuel: self.fuel,
+            code: self.code,
+            part: self.part.copy()?,
+        })
+    }
+}
+
+/// A copy of a change.
+fn copy_change(alloc: Global, change: &Change) -> Result<Change, AllocError>
+    ensures { IfOk result (λ copy. copy ≡ change.now) }
+{
+    match change {
+        Change::Library(library, names) => {
+            let library = copy_checked(alloc, library)?;
+            Ok(Change::Library(library, names.copy()?))
+        }
+        Change::Data(value) => Ok(Change::Data(value.copy()?)),
+        Change::Process(process) => Ok(Change::Process(process.copy()?)),
+        Change::Link(link) => Ok(Change::Link(link.copy()?)),
+        Change::Set(set) => Ok(Change::Set(set.copy()?)),
+        Change::Count(count) => Ok(Change::Count(*count)),
+        Change::Kept(kept) => Ok(Change::Kept(*kept)),
+    }
+}
+
+/// A copy of changes.
+pub(crate) fn copy_changes(alloc: Global, changes: &Changes) -> Result<Changes, AllocError>
+    ensures { IfOk result (λ copy. copy ≡ changes.now) }
+{
+    let mut copies = Changes::new(alloc);
+    for change in changes.as_slice() {
+        copies.push(copy_change(alloc, change)?)?;
+    }
+    Ok(copies)
+}
+
+fn copy_libraries(alloc: Global, libraries: &Libraries) -> Result<Libraries, AllocError>
+    ensures { IfOk result (λ copy. copy.0 ≡ libraries.now.0) }
+{
+    let mut copies = Libraries::new(alloc);
+    for known in libraries.as_slice() {
+        let library = copy_checked(alloc, &known.0)?;
+        copies.push((library, known.1.copy()?))?;
+    }
+    Ok(copies)
+}
+
+impl World {
+    /// An equal world with memory of its own.
+    pub(crate) fn copy(&self, alloc: Global) -> Result<World, AllocError>
+        ensures { IfOk result (λ copy. copy.world ≡ self.now.world) }
+    {
+        let graph = self.graph.copy(alloc)?;
+        let records = self.records.copy(alloc)?;
+        let libraries = copy_libraries(alloc, &self.libraries)?;
+        Ok(World {
+            graph,
+            records,
+            libraries,
+            batches: self.batches,
+        })
+    }
+}

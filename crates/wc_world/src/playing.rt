@@ -1,0 +1,110 @@
+//! Changes that a world takes.
+
+ghost use Rattle.std.specs.Prelude.{◌≡◌, ℕ, ◌<◌, ◌⊎◌, Some, None, OnOk, IfOk, IfErr};
+ghost use Rattle.wc_world.specs.declared.error.WorldError.{WorldError};
+ghost use Rattle.wc_world.specs.declared.error.WorldError.TheVariants as error;
+ghost use Rattle.wc_world.specs.Applied.{changed, applied, begun};
+ghost use Rattle.wc_world.specs.Fits.{unsettled};
+ghost use Rattle.wc_world.specs.Accepted.{IsAccepted, IsRefused, IsReached};
+ghost use Rattle.wc_world.specs.Drafts.{drafted, Ascends, AreSettledBut};
+ghost use Rattle.wc_world.specs.Playing.{ApplyBy, FirstRefusedBy};
+
+use crate::change::Changes;
+use crate::copies::copy_changes;
+use crate::draft::Draft;
+use crate::error::WorldError;
+use crate::terms::Terms;
+use crate::world::World;
+use std::alloc::Global;
+
+/// The most batches that a world takes.
+const MOST_BATCHES: u32 = 4_000_000_000;
+
+impl World {
+    /// The draft with which a batch begins.
+    fn begin(self, alloc: Global) -> Draft
+        requires { self.world.batches < 4000000000 }
+        ensures world { drafted result ≡ begun self.world }
+        ensures ascending { Ascends (drafted result) }
+        ensures settled { AreSettledBut result.touched.items result.graph.links result.records.0 }
+        ensures reached { IsReached self.world }
+    {
+        Draft {
+            graph: self.graph,
+            records: self.records,
+            libraries: self.libraries,
+            batches: self.batches + 1,
+            touched: Vec::new(alloc),
+        }
+    }
+}
+
+impl Draft {
+    /// Takes changes one after another.
+    fn take_all(&mut self, alloc: Global, terms: &Terms, changes: Changes) -> Result<(), WorldError>
+        requires ascending { Ascends (drafted self.old) }
+        requires settled { AreSettledBut self.old.touched.items self.old.graph.links self.old.records.0 }
+        ensures each { OnOk result (ApplyBy terms.now (drafted self.old) changes) }
+        ensures world { OnOk result (drafted self.new ≡ changed terms.now.batch (drafted self.old) changes) }
+        ensures ascending { OnOk result (Ascends (drafted self.new)) }
+        ensures settled { OnOk result (AreSettledBut self.new.touched.items self.new.graph.links self.new.records.0) }
+        ensures refused { IfErr result (λ e. (e ≡ error.OutOfMemory) ⊎ FirstRefusedBy terms.now (drafted self.old) changes e) }
+    {
+        for change in changes.into_vec() {
+            self.take(alloc, terms, change)?;
+        }
+        Ok(())
+    }
+
+    /// The world, if each process is settled, or else the least one that isn't.
+    fn settle(self) -> Result<World, WorldError>
+        requires ascending { Ascends (drafted self) }
+        requires others { AreSettledBut self.touched.items self.graph.links self.records.0 }
+        requires reached { unsettled self.graph.links self.records.0 ≡ None → IsReached (drafted self) }
+        ensures world { IfOk result (λ w. w.world ≡ drafted self) }
+        ensures settled { OnOk result (unsettled self.graph.links self.records.0 ≡ None) }
+        ensures refused { IfErr result (λ e. (pid : ℕ) × (unsettled self.graph.links self.records.0 ≡ Some pid) × (e ≡ error.BadRecord pid)) }
+    {
+        match self.find_unsettled() {
+            Some(pid) => Err(WorldError::BadRecord(pid)),
+            None => Ok(World {
+                graph: self.graph,
+                records: self.records,
+                libraries: self.libraries,
+                batches: self.batches,
+            }),
+        }
+    }
+}
+
+impl World {
+    /// The world after changes that it takes, or else the first reason why it doesn't take them: one batch too many, the
+    /// first change that doesn't apply to the world as those before it left it, or the first process that isn't settled
+    /// after the last one. Each change is tested once, against what stands.
+    pub fn play(alloc: Global, mut world: World, changes: Changes) -> Result<World, WorldError>
+        ensures accepted { OnOk result (IsAccepted world.world changes) }
+        ensures after { IfOk result (λ after. after.world ≡ applied world.world changes) }
+        ensures refused { IfErr result (λ e. (e ≡ error.OutOfMemory) ⊎ IsRefused world.world changes e) }
+    {
+        if world.batches() >= MOST_BATCHES {
+            return Err(WorldError::BadRecord(0));
+        }
+        let terms = world.terms(alloc, changes.as_slice())?;
+        world.reserve(alloc, &changes)?;
+        let mut draft = world.begin(alloc);
+        draft.take_all(alloc, &terms, changes)?;
+        draft.settle()
+    }
+
+    /// Whether the world takes the changes, or else the first reason why not: one batch too many, the first change that
+    /// doesn't apply to the world as those before it left it, or the first process that isn't settled after the last one.
+    /// The changes are played on a copy of the world.
+    pub fn accepts(&self, alloc: Global, changes: &Changes) -> Result<(), WorldError>
+        ensures ok { OnOk result (IsAccepted self.now.world changes.now) }
+        ensures refused { IfErr result (λ e. (e ≡ error.OutOfMemory) ⊎ IsRefused self.now.world changes.now e) }
+    {
+        let copied = self.copy(alloc)?;
+        World::play(alloc, copied, copy_changes(alloc, changes)?)?;
+        Ok(())
+    }
+}

@@ -105,7 +105,7 @@ module _ {D : Type 0} (g : disk.Ghosts D) (at_now : (d : D) (image : List ℕ) �
         with_one TakesSome (λ a b. (v : World) × P v × IsHeld a b (a_world v)) one_new two_new
         (then_worlds g at_now one two one two (none_asked one) (none_asked two) stands.durable_one stands.durable_two store.place P one_new two_new leaves.untouched leaves.each)
         (λ a b held.
-        (held.0, held.2, inr (only, held.1), λ sound. turns_law usual_limits.poll_ms held.1.0.count store.world.world held.0 reached sound only held.1.0.turns))
+        (held.0, held.2, inr (only, held.1), λ sound. turns_law usual_limits.poll_ms held.1.0.count store.world.world held.0 reached sound held.1.0.turns))
         (own_writes store.place one two one_new two_new leaves.untouched)
 
     -- turns within the usual limits

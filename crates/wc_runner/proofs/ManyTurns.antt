@@ -1,71 +1,80 @@
--- Turns one after another in a world of functions.
-use Rattle.std.proofs.Common.{◌≡◌, ℕ, ◌+◌, true, false, None, refl, sym, subst, ◌∙◌, arith}
-use Rattle.wc_state.specs.declared.record.ProcessKind.TheVariants as kind
+-- Turns one after another.
+use Rattle.std.proofs.Common.{◌≡◌, ◌≢◌, ℕ, ◌+◌, List, [], ◌∷◌, length, refl, sym, ap, subst, ◌∙◌, arith}
+use Rattle.std.specs.Prelude.{All}
+use Rattle.std.proofs.lemmas.List.Elements.{All-head, All-tail}
+use Rattle.wc_world.specs.declared.change.Change.{Change}
+use Rattle.wc_world.specs.declared.change.Change.TheVariants as change
 use Rattle.wc_world.specs.World.{World}
-use Rattle.wc_world.specs.Accepted.{IsReached}
-use Rattle.wc_world.proofs.FoundRecords.{found_holds}
+use Rattle.wc_world.specs.Accepted.{IsReached, then_changes}
+use Rattle.wc_world.specs.Applied.{after_change, applied, begun, changed}
+use Rattle.wc_world.proofs.ReachedWorlds.{reached_is_consistent}
+use Rattle.wc_machine.specs.declared.answer.TaskAnswer.TheVariants.{Nothing}
 use Rattle.wc_machine.specs.Continues.{Continues}
-use Rattle.wc_machine.specs.Laws.{OnlyFunctions, calculated_for}
-use Rattle.wc_machine.specs.Ending.{ends, TakesSource}
-use Rattle.wc_machine.specs.Sound.{IsSound, IsFitting}
-use Rattle.wc_machine.proofs.FunctionEnds.{functions_continue}
-use Rattle.wc_caching.specs.Laws.{MayStart}
-use Rattle.wc_caching.proofs.Turns.{functions_keep_sound}
+use Rattle.wc_machine.specs.Laws.{HasPlaces}
+use Rattle.wc_machine.specs.Machine.{after_changes, turn}
+use Rattle.wc_machine.specs.Sound.{IsSound}
+use Rattle.wc_lists.proofs.NoChanges.{only_marks_change_nothing}
+use Rattle.wc_accepted.specs.Laws.{IsPlain}
+use Rattle.wc_accepted.proofs.Parts.{events_are_plain}
+use Rattle.wc_sound_turns.specs.Laws.{LeavesSound}
+use Rattle.wc_sound_turns.proofs.Events.{events_keep_sound}
 use Rattle.wc_runner.specs.Laws.{StaysSound, TurnsKeepSound, TurnsAreBatches}
-use Rattle.wc_runner.specs.Trips.{OneTurn, Turns, none, one_more}
+use Rattle.wc_runner.specs.Trips.{TurnOf, none, one_more}
 use Rattle.wc_runner.proofs.Continuing.{continues_itself, continues_on}
-use Rattle.wc_runner.proofs.FunctionTurns.{EndsOne, ends_one, reached_after, batches_after, functions_after}
 
--- worlds of functions that accepted changes make
-pub record AreFunctions (w : World) : Type 0 where
-  pub reached : IsReached w
-  pub only : OnlyFunctions w
+-- ---- batches
 
-pub functions_on : (poll : ℕ) (w v : World) → AreFunctions w → OneTurn poll w v → AreFunctions v
-functions_on poll w v a t =
-    let e = ends_one poll w v a.reached a.only t in
-    record { reached = reached_after w v e; only = functions_after w v a.only e }
+-- changes of which none is a Count count one batch
+pub plain_batches : (b : ℕ) (w : World) (cs : List Change) → All IsPlain cs → (changed b w cs).batches ≡ w.batches
+plain_batches b w [] h = refl
+plain_batches b w (c ∷ cs) h = plain_batches b (after_change b w c) cs (All-tail IsPlain c cs h) ∙ kept c (All-head IsPlain c cs h)
+  where
+    kept : (d : Change) → IsPlain d → (after_change b w d).batches ≡ w.batches
+    kept (change.Library l names) p = refl
+    kept (change.Data v) p = refl
+    kept (change.Process n) p = refl
+    kept (change.Link l) p = refl
+    kept (change.Set s) p = refl
+    kept (change.Count n) p = absurd p
+    kept (change.Kept k) p = refl
 
-pub functions_last : (poll n : ℕ) (w v : World) → AreFunctions w → Turns poll n w v → AreFunctions v
-functions_last poll n w v a (none x) = a
-functions_last poll n w v a (one_more m x y z ts t) = functions_on poll y z (functions_last poll m x y a ts) t
-
-pub batch_on : (poll : ℕ) (w v : World) → AreFunctions w → OneTurn poll w v → v.batches ≡ w.batches + 1
-batch_on poll w v a t = batches_after w v (ends_one poll w v a.reached a.only t)
-
-counted : (poll n : ℕ) (w v : World) → AreFunctions w → Turns poll n w v → v.batches ≡ w.batches + n
-counted poll n w v a (none x) = omega arith
-counted poll n w v a (one_more m x y z ts t) =
-    let before : y.batches ≡ x.batches + m = counted poll m x y a ts in
-    let more : z.batches ≡ y.batches + 1 = batch_on poll y z (functions_last poll m x y a ts) t in
-    omega arith
+pub one_batch : (poll pid : ℕ) (w v : World) → TurnOf poll pid w v → v.batches ≡ w.batches + 1
+one_batch poll pid w v t =
+    ap (λ (x : World). x.batches) t.after
+    ∙ plain_batches (w.batches + 1) (begun w) t.changes (events_are_plain poll w (turn pid Nothing 0) t.changes t.leads)
 
 pub turns_counted : TurnsAreBatches
-turns_counted poll n w v reached only ts = counted poll n w v (record { reached = reached; only = only }) ts
+turns_counted poll n w v (none x) = omega arith
+turns_counted poll n w v (one_more m x y z ts t) =
+    let before : y.batches ≡ x.batches + m = turns_counted poll m x y ts in
+    let more : z.batches ≡ y.batches + 1 = one_batch poll t.0 y z t.1 in
+    omega arith
 
 -- ---- soundness
 
-sound_on : (w v : World) → IsSound w → OnlyFunctions w → EndsOne w v → StaysSound w v
-sound_on w v sound only e =
-    let r = e.process in
-    let cs = ends w r (calculated_for w r e.function) None None in
-    let uncached : r.caching ≡ false = (found_holds (λ x. (x.kind ≡ kind.Function) × (x.caching ≡ false)) r.node w.records r only e.created.found).1 in
-    let own : TakesSource w r None = record { on = λ on. let both : true ≡ false = sym on ∙ uncached in absurd (cc); off = λ off. refl } in
-    let fits : IsFitting w r = found_holds (IsFitting w) r.node w.records r sound.records e.created.found in
-    let may : MayStart w r = record { found = e.created.found; calculates = e.created.calculates; created = e.created.created } in
+some_applied : (w : World) (cs : List Change) → cs ≢ [] → after_changes w cs ≡ applied w cs
+some_applied w [] some = absurd (some refl)
+some_applied w (c ∷ cs) some = refl
+
+pub turn_sound : (poll pid : ℕ) (w v : World) → IsReached w → IsSound w → TurnOf poll pid w v → StaysSound w v
+turn_sound poll pid w v reached sound t =
+    let cs : List Change = t.changes in
+    let then : IsReached (applied w cs) = then_changes w cs reached t.accepted in
+    let places : HasPlaces w (length (applied w cs).nodes) = record { nodes = (reached_is_consistent (applied w cs) then).few; batches = t.accepted.batch } in
+    let same : cs ≢ [] → after_changes w cs ≡ applied w cs = some_applied w cs in
+    let leaves : LeavesSound w cs
+    = events_keep_sound poll w (turn pid Nothing 0) cs sound t.leads (λ some. subst (λ (x : World). HasPlaces w (length x.nodes)) (sym (same some)) places) in
+    let some : cs ≢ [] = (only_marks_change_nothing poll w (turn pid Nothing 0) cs t.leads).0 in
+    let is : after_changes w cs ≡ v = same some ∙ sym t.after in
     record {
-      sound = subst IsSound (sym e.after) (functions_keep_sound w r e.function may sound own e.runs e.accepted);
-      continues = subst (Continues w) (sym e.after) (functions_continue w r e.function e.created sound.calls (fits.started e.created.created) e.runs);
-      reached = reached_after w v e;
+      sound = subst IsSound is leaves.sound;
+      continues = subst (Continues w) is leaves.continues;
+      reached = subst IsReached (sym t.after) then;
     }
 
-sound_last : (poll n : ℕ) (w v : World) → AreFunctions w → IsSound w → Turns poll n w v → StaysSound w v
-sound_last poll n w v a sound (none x) = record { sound = sound; continues = continues_itself x a.reached; reached = a.reached }
-sound_last poll n w v a sound (one_more m x y z ts t) =
-    let before = sound_last poll m x y a sound ts in
-    let there = functions_last poll m x y a ts in
-    let last = sound_on y z before.sound there.only (ends_one poll y z before.reached there.only t) in
-    record { sound = last.sound; continues = continues_on x y z before.continues last.continues; reached = last.reached }
-
 pub turns_sound : TurnsKeepSound
-turns_sound poll n w v reached sound only ts = sound_last poll n w v (record { reached = reached; only = only }) sound ts
+turns_sound poll n w v reached sound (none x) = record { sound = sound; continues = continues_itself x reached; reached = reached }
+turns_sound poll n w v reached sound (one_more m x y z ts t) =
+    let before : StaysSound x y = turns_sound poll m x y reached sound ts in
+    let last : StaysSound y z = turn_sound poll t.0 y z before.reached before.sound t.1 in
+    record { sound = last.sound; continues = continues_on x y z before.continues last.continues; reached = last.reached }

@@ -1,9 +1,8 @@
--- Laws of turns one after another, in worlds of functions that take no other's outcome.
+-- Laws of turns one after another.
 use Rattle.std.specs.Prelude.{◌≡◌, ℕ, ◌+◌}
 use Rattle.wc_world.specs.World.{World}
 use Rattle.wc_world.specs.Accepted.{IsReached}
 use Rattle.wc_machine.specs.Continues.{Continues}
-use Rattle.wc_machine.specs.Laws.{OnlyFunctions}
 use Rattle.wc_machine.specs.Sound.{IsSound}
 use Rattle.wc_runner.specs.Trips.{Turns}
 
@@ -14,11 +13,11 @@ pub record StaysSound (w v : World) : Type 0 where
   pub reached : IsReached v
 
 abbrev pub TurnsKeepSound : Type 0
-TurnsKeepSound = (poll n : ℕ) (w v : World) → IsReached w → IsSound w → OnlyFunctions w → Turns poll n w v → StaysSound w v
+TurnsKeepSound = (poll n : ℕ) (w v : World) → IsReached w → IsSound w → Turns poll n w v → StaysSound w v
 
 -- each turn is one batch
 abbrev pub TurnsAreBatches : Type 0
-TurnsAreBatches = (poll n : ℕ) (w v : World) → IsReached w → OnlyFunctions w → Turns poll n w v → v.batches ≡ w.batches + n
+TurnsAreBatches = (poll n : ℕ) (w v : World) → Turns poll n w v → v.batches ≡ w.batches + n
 
 abbrev pub WorldsContinueThemselves : Type 0
 WorldsContinueThemselves = (w : World) → IsReached w → Continues w w

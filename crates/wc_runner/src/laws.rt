@@ -2,12 +2,12 @@
 
 ghost use Rattle.wc_runner.specs.Laws.{ContinuingGoesOn, TurnsAreBatches, TurnsKeepSound, WorldsContinueThemselves};
 
-/// Turns keep a world of functions sound, and lose nothing that it held.
+/// Turns keep a sound world sound, and lose nothing that it held.
 pub fn turns_keep_sound()
     ensures { TurnsKeepSound }
 {}
 
-/// In a world of functions each turn is one batch.
+/// Each turn is one batch.
 pub fn turns_are_batches()
     ensures { TurnsAreBatches }
 {}

@@ -1,0 +1,4 @@
+mod Held
+mod Free
+mod Ready
+mod Due

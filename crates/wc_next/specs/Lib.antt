@@ -1,0 +1,3 @@
+pub mod Standing
+pub mod Order
+pub mod Next

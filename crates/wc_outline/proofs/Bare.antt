@@ -195,10 +195,17 @@ module _ (library : List Definition) (k : Chain) (depth : ℕ) (env : Env) (c : 
       ∙ innermost_bare (blocks k.outline) (popped (blocks k.outline) (reverse c.frames))
 
 -- of a chain that is found by its name
-pub advance_named : (name : List ℕ) (ds : List Definition) (k : Chain) (depth : ℕ) (env : Env) (c : Checkpoint) → definition_named name ds ≡ Some (definition.Chain k)
+chain_named : (o : Option Definition) (k : Chain) → chain_of o ≡ Some k → o ≡ Some (definition.Chain k)
+chain_named None k h = absurd (cc)
+chain_named (Some (definition.Function f)) k h = absurd (cc)
+chain_named (Some (definition.Job j)) k h = absurd (cc)
+chain_named (Some (definition.Chain j)) k h = ap (λ (o : Option Chain). option_map definition.Chain o) h
+
+pub advance_named : (name : List ℕ) (ds : List Definition) (k : Chain) (depth : ℕ) (env : Env) (c : Checkpoint) → chain_of (definition_named name ds) ≡ Some k
     → option_map (λ j. shown (advance (bare_library ds) j depth env c)) (chain_of (definition_named name (bare_library ds))) ≡ Some (shown (advance ds k depth env c))
 advance_named name ds k depth env c h =
-    ap (λ (o : Option Definition). option_map (λ j. shown (advance (bare_library ds) j depth env c)) (chain_of o)) (named_bare name ds ∙ ap (option_map bare_definition) h)
+    ap (λ (o : Option Definition). option_map (λ j. shown (advance (bare_library ds) j depth env c)) (chain_of o))
+    (named_bare name ds ∙ ap (option_map bare_definition) (chain_named (definition_named name ds) k h))
     ∙ ap (λ x. Some (shown x)) (advance_bare ds k depth env c)
 
 is_some_bare : (o : Option Definition) → is_some (chain_of (option_map bare_definition o)) ≡ is_some (chain_of o)

@@ -6,5 +6,7 @@ pub mod Stepped
 pub mod Onward
 pub mod Placed
 pub mod Picked
+pub mod Numbers
+pub mod Joined
 pub mod BareBlocks
 pub mod Bare

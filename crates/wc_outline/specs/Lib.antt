@@ -3,3 +3,4 @@ pub mod Arguments
 pub mod Statements
 pub mod Places
 pub mod Onward
+pub mod Binding

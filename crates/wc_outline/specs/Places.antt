@@ -1,5 +1,5 @@
 -- Where a work chain stands in its outline.
-use Rattle.std.specs.Prelude.{ℕ, suc, ◌+◌, List, [], ◌∷◌, flat_map, map, take, reverse, Option, Some, None, option_map, slice_get}
+use Rattle.std.specs.Prelude.{ℕ, suc, ◌+◌, ◌^◌, ◌<◌, ◌≤◌, List, [], ◌∷◌, ◌++◌, flat_map, map, take, reverse, Option, Some, None, option_map, slice_get}
 use Rattle.std.specs.Borrow.{Bor}
 use Rattle.wc_syntax.specs.declared.definition.Chain.{Chain}
 use Rattle.wc_syntax.specs.declared.definition.Definition.{Definition}
@@ -22,6 +22,18 @@ behind = map (λ r. r.now)
 -- the blocks in the blocks of arms
 abbrev pub arm_blocks : List Arm → Blocks
 arm_blocks = flat_map (λ a. blocks (out-Arm a).block)
+
+abbrev pub other_blocks : Option Block → Blocks
+other_blocks None = []
+other_blocks (Some b) = blocks b
+
+-- the blocks in an `if`
+abbrev pub if_blocks : List Arm → Option Block → Blocks
+if_blocks arms other = arm_blocks arms ++ other_blocks other
+
+-- so many numbers from this one on have 32 bits
+abbrev pub Fit : (first count : ℕ) → Type 0
+Fit first count = 0 < count → first + count ≤ 2 ^ 32
 
 -- the instruction that comes next, those before it in its block, its frame, and the frames around that one, the outermost first
 pub record Standing : Type 0 where

@@ -17,8 +17,8 @@ use crate::statements::Scene;
 use std::alloc::{AllocError, Global};
 use wc_meaning::find_definition;
 use wc_state::{Checkpoint, Env};
-use wc_syntax::{Checked, Definition};
-use wc_value::{Duplicate, ProcessState, Text};
+use wc_syntax::{Chain, Checked, Definition};
+use wc_value::{Duplicate, List, ProcessState, Text};
 
 /// Whether a definition is a work chain.
 fn is_work_chain(definition: Option<&Definition>) -> bool
@@ -37,13 +37,24 @@ pub fn is_chain(library: &Checked, name: &Text) -> bool
     is_work_chain(find_definition(library.library(), name))
 }
 
+/// The work chain that a definition is.
+fn the_chain<'a>(definition: Option<&'a Definition>) -> &'a Chain
+    requires { IsSome (chain_of (option_copied definition)) }
+    ensures { chain_of (option_copied definition.entry) ≡ Some result.now }
+{
+    match definition {
+        Some(Definition::Chain(chain)) => chain,
+        _ => unreachable!(),
+    }
+}
+
 /// One advance of a work chain that is there.
 fn advance_chain(alloc: Global, scene: Scene<'_>, env: Env) -> Result<Advanced, AllocError>
     ensures { IfOk result (λ a. a ≡ shown (advance scene.entry.library.now scene.entry.chain.now scene.entry.depth env scene.entry.checkpoint.now)) }
 {
-    let mut blocks = Vec::new(alloc);
+    let mut blocks = List::new(alloc);
     put_block(&mut blocks, &scene.chain.outline)?;
-    match place_of(blocks.as_slice(), scene.checkpoint.frames.as_slice()) {
+    match place_of(&blocks, scene.checkpoint.frames.as_slice()) {
         Some(place) => advance_at(alloc, scene, place, env),
         None => Ok(Advanced::Ends(ProcessState::Finished(0), scene.checkpoint.outputs.copy()?)),
     }
@@ -65,16 +76,11 @@ pub fn advance(
     ensures onward { IfOk result (λ a. (k : Chain) → chain_of (definition_named name.now library.now) ≡ Some k → EndsAlike library.now k depth env checkpoint.now a) }
 {
     let library = library.library();
-    match find_definition(library, name) {
-        Some(Definition::Chain(chain)) => {
-            let scene = Scene {
-                library,
-                chain,
-                depth,
-                checkpoint,
-            };
-            advance_chain(alloc, scene, env)
-        }
-        _ => Err(AllocError),
-    }
+    let scene = Scene {
+        library,
+        chain: the_chain(find_definition(library, name)),
+        depth,
+        checkpoint,
+    };
+    advance_chain(alloc, scene, env)
 }

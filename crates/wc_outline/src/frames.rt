@@ -1,11 +1,12 @@
 //! The frames of a checkpoint.
 
-ghost use Rattle.std.specs.Prelude.{◌≡◌, ◌<◌, ◌≤◌, ◌∷◌, length, take, reverse, option_map, IfSome};
+ghost use Rattle.std.specs.Prelude.{◌≡◌, ◌^◌, ◌<◌, ◌≤◌, ◌∷◌, length, take, reverse, option_map, IfSome};
 ghost use Rattle.wc_machine.specs.Advancing.{is_done, popped};
 ghost use Rattle.wc_outline.specs.Places.{behind, seen, standing};
 
 use wc_state::Frame;
 use wc_syntax::{Instr, Instrs};
+use wc_value::List;
 
 /// Where a work chain stands.
 #[derive(Clone, Copy)]
@@ -65,10 +66,13 @@ fn place_at<'a>(blocks: &[&'a Instrs], frame: Frame, outer: &'a [Frame]) -> Opti
 }
 
 /// Where a chain with these frames stands once those at their block's end are popped; none at the end of its outline.
-pub fn place_of<'a>(blocks: &[&'a Instrs], frames: &'a [Frame]) -> Option<Place<'a>>
+pub fn place_of<'a>(blocks: &List<&'a Instrs>, frames: &'a [Frame]) -> Option<Place<'a>>
+    ensures few { length blocks.now < 2 ^ 32 }
     ensures place { option_map seen result ≡ standing (behind blocks.now) (popped (behind blocks.now) (reverse frames.entry.now)) }
     ensures room { IfSome result (λ place. place.frame.next < 0xffffffff) }
 {
+    let _ = blocks.len();
+    let blocks = blocks.as_slice();
     let count = kept(blocks, frames);
     if count == 0 {
         return None;

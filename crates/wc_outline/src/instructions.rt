@@ -1,12 +1,12 @@
 //! What the instruction does that comes next.
 
-ghost use Rattle.std.specs.Prelude.{◌≡◌, ◌+◌, ◌<◌, ◌∷◌, length, reverse, suc, IfOk};
+ghost use Rattle.std.specs.Prelude.{◌≡◌, ◌+◌, ◌^◌, ◌<◌, ◌∷◌, length, reverse, suc, IfOk};
 ghost use Rattle.wc_syntax.specs.declared.outline.Instr.{out-Instr};
 ghost use Rattle.wc_expression.specs.Val.{holds};
 ghost use Rattle.wc_run.specs.Run.{returned};
 ghost use Rattle.wc_machine.specs.Advancing.{past, at_head, chosen, turned, done};
-ghost use Rattle.wc_machine.specs.Outlines.{Blocks};
-ghost use Rattle.wc_outline.specs.Places.{first_number, front_of, picked_from};
+ghost use Rattle.wc_machine.specs.Outlines.{Blocks, blocks_in};
+ghost use Rattle.wc_outline.specs.Places.{first_number, front_of, picked_from, if_blocks, Fit};
 ghost use Rattle.wc_outline.specs.Shown.{shown};
 ghost use Rattle.wc_outline.specs.Statements.{stepped, statements_in, came_to, unnoted};
 
@@ -18,7 +18,7 @@ use std::alloc::{AllocError, Global};
 use wc_expression::{Outcome, eval_condition};
 use wc_state::{Checkpoint, Env, Frame, Frames};
 use wc_syntax::{Arms, Block, Expr, Instr, Instrs, Number, Step};
-use wc_value::{Duplicate, ProcessState, Reason};
+use wc_value::{Duplicate, List, ProcessState, Reason};
 
 /// The frame with the next instruction.
 fn past(frame: Frame) -> Frame
@@ -71,10 +71,11 @@ fn end(checkpoint: &Checkpoint, state: ProcessState) -> Result<Advanced, AllocEr
 }
 
 /// The number of a block that is entered behind these.
-fn entered(frame: Frame, passed: &[&Instrs]) -> Result<Outcome<Option<u32>>, AllocError>
-    ensures { IfOk result (λ o. o ≡ Outcome.Gives (Some (suc frame.block + length passed.now))) }
+fn entered(frame: Frame, passed: &[&Instrs]) -> Outcome<Option<u32>>
+    requires { suc frame.block + length passed.now < 2 ^ 32 }
+    ensures { result ≡ Outcome.Gives (Some (suc frame.block + length passed.now)) }
 {
-    Ok(Outcome::Gives(Some(number_behind(frame, passed)?)))
+    Outcome::Gives(Some(number_behind(frame, passed)))
 }
 
 /// The number of the block behind the first true condition, or that of the `else`, if there is one.
@@ -85,19 +86,20 @@ fn pick(
     other: &Option<Block>,
     env: &Env,
 ) -> Result<Outcome<Option<u32>>, AllocError>
+    requires { Fit (first_number place.frame place.front.now) (length (if_blocks arms.now other.now)) }
     ensures { IfOk result (λ o. o ≡ picked_from (first_number place.entry.frame place.entry.front.now) arms.now other.now env.now) }
 {
-    let mut passed = Vec::new(alloc);
+    let mut passed = List::new(alloc);
     put_blocks(&mut passed, place.front)?;
     for arm in arms.as_slice() {
         match eval_condition(alloc, &arm.condition, env)? {
-            Outcome::Gives(true) => return entered(place.frame, passed.as_slice()),
+            Outcome::Gives(true) => return Ok(entered(place.frame, passed.as_slice())),
             Outcome::Gives(false) => put_block(&mut passed, &arm.block)?,
             Outcome::Faults(reason) => return Ok(Outcome::Faults(reason)),
         }
     }
     match other {
-        Some(_) => entered(place.frame, passed.as_slice()),
+        Some(_) => Ok(entered(place.frame, passed.as_slice())),
         None => Ok(Outcome::Gives(None)),
     }
 }
@@ -111,7 +113,8 @@ fn advance_if(
     other: &Option<Block>,
     env: &Env,
 ) -> Result<Advanced, AllocError>
-    requires { place.frame.next < 0xffffffff }
+    requires next { place.frame.next < 0xffffffff }
+    requires numbers { Fit (first_number place.frame place.front.now) (length (if_blocks arms.now other.now)) }
     ensures { IfOk result (λ a. a ≡ shown (chosen scene.entry.library.now scene.entry.chain.now scene.entry.depth env.now scene.entry.checkpoint.now (picked_from (first_number place.entry.frame place.entry.front.now) arms.now other.now env.now) (past place.entry.frame ∷ reverse place.entry.outer.now))) }
 {
     match pick(alloc, place, arms, other, env)? {
@@ -129,11 +132,12 @@ fn advance_if(
 
 /// The number of the first block inside the instruction that comes next.
 fn inner_number(alloc: Global, place: Place<'_>) -> Result<u32, AllocError>
+    requires { first_number place.frame place.front.now < 2 ^ 32 }
     ensures { IfOk result (λ n. n ≡ first_number place.entry.frame place.entry.front.now) }
 {
-    let mut passed = Vec::new(alloc);
+    let mut passed = List::new(alloc);
     put_blocks(&mut passed, place.front)?;
-    number_behind(place.frame, passed.as_slice())
+    Ok(number_behind(place.frame, passed.as_slice()))
 }
 
 /// A `while` whose condition holds enters its body and stays where it is, and else moves past itself.
@@ -144,7 +148,8 @@ fn advance_while(
     condition: &Expr,
     env: &Env,
 ) -> Result<Advanced, AllocError>
-    requires { place.frame.next < 0xffffffff }
+    requires next { place.frame.next < 0xffffffff }
+    requires number { first_number place.frame place.front.now < 2 ^ 32 }
     ensures { IfOk result (λ a. a ≡ shown (turned scene.entry.library.now scene.entry.chain.now scene.entry.depth env.now scene.entry.checkpoint.now (holds condition.now env.now) (at_head (first_number place.entry.frame place.entry.front.now) ∷ (place.entry.frame ∷ reverse place.entry.outer.now)) (past place.entry.frame ∷ reverse place.entry.outer.now))) }
 {
     match eval_condition(alloc, condition, env)? {
@@ -236,7 +241,8 @@ pub fn advance_at(
     place: Place<'_>,
     env: Env,
 ) -> Result<Advanced, AllocError>
-    requires { place.frame.next < 0xffffffff }
+    requires next { place.frame.next < 0xffffffff }
+    requires numbers { Fit (first_number place.frame place.front.now) (length (blocks_in place.instr.now)) }
     ensures { IfOk result (λ a. (bs : Blocks) → place.entry.front.now ≡ front_of bs place.entry.frame → a ≡ shown (done scene.entry.library.now scene.entry.chain.now scene.entry.depth env scene.entry.checkpoint.now bs (out-Instr place.entry.instr.now) place.entry.frame (reverse place.entry.outer.now))) }
 {
     match place.instr {

@@ -13,9 +13,9 @@ use Rattle.wc_outline.proofs.blocks.+blocks.Goals as goal
 pub put_block-returns : goal.put_block-returns
 put_block-returns t c =
     on_ok c.put_blocks.result
-    (λ h. two (behind c.args.found.now.items) (behind c.push.new.self.items) _ (c.args.block.now.instrs ∷ []) (flat_map blocks_in c.args.block.now.instrs) (blocks c.args.block.now)
-    (map_put (λ r. r.now) _ _ _ c.in_ok-push.ensures.items)
-    (h ∙ ap (λ (is : List Instr). behind c.push.new.self.items ++ flat_map blocks_in is) c.as_slice.ensures) (blocks_are c.args.block.now))
+    (λ h. two (behind c.args.found.now) (behind c.push.new.self) _ (c.args.block.now.instrs ∷ []) (flat_map blocks_in c.args.block.now.instrs) (blocks c.args.block.now)
+    (map_put (λ r. r.now) _ _ _ c.in_ok-push.ensures.ok)
+    (h ∙ ap (λ (is : List Instr). behind c.push.new.self ++ flat_map blocks_in is) c.as_slice.ensures) (blocks_are c.args.block.now))
     c.put_blocks.ensures
 
 pub put_blocks-loop-instr-preserved : goal.put_blocks-loop-instr-preserved
@@ -35,7 +35,7 @@ put_blocks_in-returns-in-Some t c =
 pub put_blocks_in-returns-in-None : goal.put_blocks_in-returns-in-None
 put_blocks_in-returns-in-None t c =
     c.in_ok-put_arms-in-If.ensures
-    ∙ ap (λ bs. behind c.args.found.now.items ++ bs) (sym (blocks_none _ c.in-If.field-0 _ (c.in-If.is ∙ ap (instr.If c.in-If.field-0 c.in-If.arms) c.in-None.is)))
+    ∙ ap (λ bs. behind c.args.found.now ++ bs) (sym (blocks_none _ c.in-If.field-0 _ (c.in-If.is ∙ ap (instr.If c.in-If.field-0 c.in-If.arms) c.in-None.is)))
 
 pub put_arms-loop-arm-preserved : goal.put_arms-loop-arm-preserved
 put_arms-loop-arm-preserved t c =

@@ -13,6 +13,7 @@ use Rattle.wc_world.specs.Consistent.{IsConsistent, Stands}
 use Rattle.wc_world.specs.Fits.{is_of_kind}
 use Rattle.wc_world.specs.Records.{find_record}
 use Rattle.wc_world.proofs.FoundRecords.{found_holds}
+use Rattle.wc_world.proofs.SnapshotLists.{number_of_found}
 use Rattle.wc_machine.specs.Recorded.{its_definition}
 use Rattle.wc_cache.specs.Keys.{key_value}
 
@@ -39,3 +40,9 @@ has_definition w pid r c found = defined r.kind (its_definition w r) (found_hold
 -- what holds of the one that is found
 pub found_one : (P : ProcessRecord → Type 0) (o : Option ProcessRecord) (r : ProcessRecord) → o ≡ Some r → P r → IfSome o P
 found_one P o r e p = subst (λ (x : Option ProcessRecord). IfSome x P) (sym e) p
+
+-- what is found by a number is there by its own
+pub is_there : (w : World) (pid : ℕ) (r : ProcessRecord) → find_record pid w.records ≡ Some r → IsSome (find_record r.node w.records)
+is_there w pid r found =
+    let number : r.node ≡ pid = number_of_found pid w.records r found in
+    subst (λ (n : ℕ). IsSome (find_record n w.records)) (sym number) (subst (λ (o : Option ProcessRecord). IsSome o) (sym found) refl)

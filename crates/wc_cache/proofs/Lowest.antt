@@ -1,6 +1,6 @@
 -- The lowest source is the first one in the order of the records.
 use Rattle.std.proofs.Common.{◌≡◌, ℕ, zero, suc, ◌+◌, ◌<◌, ◌≤◌, true, false, List, [], ◌∷◌, length, map, take, drop, get_or, Option, Some, None, refl, ap, sym, subst, ◌∙◌, arith}
-use Rattle.std.specs.Prelude.{All}
+use Rattle.std.specs.Prelude.{All, IsSome}
 use Rattle.std.proofs.lemmas.List.{take-append-drop, take_all}
 use Rattle.std.proofs.lemmas.List.Elements.{All-append, All-cons, All-more, All-nil, All-weaker}
 use Rattle.wc_graph.specs.declared.node.NodeKind.{NodeKind}
@@ -101,6 +101,14 @@ module _ (w : World) (batch : ℕ) (key : List ℕ) (consistent : IsConsistent w
     first_found d r lt is none source =
         first_is_lowest i d r (subst (λ (xs : List ProcessRecord). i < length xs) e lt) (is ∙ ap (λ (xs : List ProcessRecord). get_or xs i d) e)
         (subst (λ (xs : List ProcessRecord). All NoSource (take i xs)) e none) source
+
+    pub is_there : (d r : ProcessRecord) → i < length items → r ≡ get_or items i d → IsSome (find_record r.node w.records)
+    is_there d r lt is =
+        let same : r ≡ get_or w.records i d = is ∙ ap (λ (xs : List ProcessRecord). get_or xs i d) e in
+        let found : find_record r.node w.records ≡ Some r
+        = subst (λ (x : ProcessRecord). find_record x.node w.records ≡ Some x) (sym same)
+        (unique 1 w.nodes w.records consistent.numbered i d (subst (λ (xs : List ProcessRecord). i < length xs) e lt)) in
+        subst (λ (o : Option ProcessRecord). IsSome o) (sym found) refl
 
     pub none_yet : (d r : ProcessRecord) → i < length items → r ≡ get_or items i d → All NoSource (take i items) → NoSource r → All NoSource (take (i + 1) items)
     none_yet d r lt is none never = All-more NoSource items i d lt none (subst NoSource is never)

@@ -9,21 +9,23 @@ ghost use Rattle.wc_machine.specs.Sources.{IsLowestSource};
 ghost use Rattle.wc_cache.specs.Finding.{IsLowestWith, IsSourceWith};
 ghost use Rattle.wc_cache.specs.Keys.{IsKeyOf};
 
-use crate::keys::{definition_of, key_of_process};
+use crate::keys::key_of_process;
 use crate::names::has_name;
+use crate::recorded::definition_of;
 use crate::sources::is_valid;
 use std::alloc::{AllocError, Global};
 use wc_state::ProcessRecord;
 use wc_world::{World, reached_worlds_are_consistent};
 
-/// Whether a process whose definition is there has this key.
+/// Whether a process of the world whose definition is there has this key.
 fn has_key(
     alloc: Global,
     world: &World,
     process: &ProcessRecord,
     key: &[u8],
 ) -> Result<bool, AllocError>
-    requires { IsSome (its_definition world.now.world process.now) }
+    requires there { IsSome (find_record process.now.node world.now.world.records) }
+    requires defined { IsSome (its_definition world.now.world process.now) }
     ensures { IfOk result (λ has. IsTrue has ↔ IsKeyOf world.now.world process.now key.now) }
 {
     let own = key_of_process(alloc, world, process)?;
@@ -40,13 +42,14 @@ fn may_have(world: &World, process: &ProcessRecord, key: &[u8]) -> bool
     }
 }
 
-/// Whether a process is a valid source with this key for a start in the next batch.
+/// Whether a process of the world is a valid source with this key for a start in the next batch.
 fn is_source(
     alloc: Global,
     world: &World,
     process: &ProcessRecord,
     key: &[u8],
 ) -> Result<bool, AllocError>
+    requires { IsSome (find_record process.now.node world.now.world.records) }
     ensures { IfOk result (λ is. IsTrue is ↔ IsSourceWith world.now.world (world.now.world.batches + 1) key.now process.now) }
 {
     if !is_valid(world, process) || !may_have(world, process, key) {

@@ -1,63 +1,17 @@
 //! Keys: the canonical bytes of a definition's text and of input values.
 
-ghost use Rattle.std.specs.Prelude.{◌≡◌, true, Some, IfOk, IfSome, IsSome, option_map, option_and_then};
-ghost use Rattle.std.specs.Option.{option_copied};
-ghost use Rattle.wc_syntax.specs.Bare.{bare_definition};
+ghost use Rattle.std.specs.Prelude.{◌≡◌, true, Some, IfOk, IfSome, IsSome, option_map};
 ghost use Rattle.wc_syntax.specs.Printing.{printed_definition};
-ghost use Rattle.wc_world.specs.Records.{find_record, is_calculation, library_at};
-ghost use Rattle.wc_world.specs.Trees.{values_alone};
-ghost use Rattle.wc_machine.specs.Recorded.{its_definition, recorded_inputs};
+ghost use Rattle.wc_world.specs.Records.{find_record, is_calculation};
+ghost use Rattle.wc_machine.specs.Recorded.{its_definition};
 ghost use Rattle.wc_cache.specs.Keys.{IsKey, IsKeyOf, key_value};
 
+use crate::recorded::{definition_of, recorded_inputs};
 use std::alloc::{AllocError, Global};
-use wc_meaning::find_definition;
-use wc_state::{Named, ProcessRecord};
-use wc_syntax::{Checked, Definition, print_definition};
-use wc_value::{Bytes, Duplicate, Fields, Text, Value, encode};
-use wc_world::{World, env_of, reached_worlds_are_consistent};
-
-/// The library with this number, if there is one.
-fn library_at(world: &World, number: u32) -> Option<&Checked>
-    ensures { option_copied result ≡ library_at world.now.world.libraries number }
-{
-    if number == 0 {
-        return None;
-    }
-    match world.libraries().get(number as usize - 1) {
-        Some((library, _)) => Some(library),
-        None => None,
-    }
-}
-
-/// The definition that a process runs, if it is there.
-pub(crate) fn definition_of<'a>(world: &'a World, process: &ProcessRecord) -> Option<&'a Definition>
-    ensures { option_map bare_definition (option_copied result) ≡ its_definition world.now.world process.now }
-{
-    let library = library_at(world, process.library)?;
-    find_definition(library.library(), &process.definition)
-}
-
-/// The values of named nodes, without the nodes.
-fn values_alone(alloc: Global, named: &Named) -> Result<Fields, AllocError>
-    ensures { IfOk result (λ fields. fields ≡ values_alone named.now) }
-{
-    let mut fields = Fields::new(alloc);
-    for (name, held) in named.as_slice() {
-        fields.push((name.copy()?, held.value.copy()?))?;
-    }
-    Ok(fields)
-}
-
-/// The values of the inputs of a process, by port.
-pub(crate) fn recorded_inputs(alloc: Global, world: &World, pid: u32) -> Result<Fields, AllocError>
-    ensures { IfOk result (λ fields. fields ≡ recorded_inputs world.now.world pid) }
-{
-    match env_of(alloc, world, pid) {
-        Ok(env) => values_alone(alloc, &env.inputs),
-        // Of a process that is there, want of memory alone is told.
-        Err(_) => Err(AllocError),
-    }
-}
+use wc_state::ProcessRecord;
+use wc_syntax::{Definition, print_definition};
+use wc_value::{Bytes, Fields, Text, Value, encode};
+use wc_world::{World, reached_worlds_are_consistent};
 
 /// The dictionary of a definition's text and of inputs.
 fn dictionary_of(alloc: Global, text: Text, inputs: Fields) -> Result<Value, AllocError>
@@ -82,13 +36,14 @@ pub(crate) fn key_with(
     encode(alloc, &value)
 }
 
-/// The key of a process whose definition is there.
+/// The key of a process of the world whose definition is there.
 pub(crate) fn key_of_process(
     alloc: Global,
     world: &World,
     process: &ProcessRecord,
 ) -> Result<Bytes, AllocError>
-    requires { IsSome (its_definition world.now.world process.now) }
+    requires there { IsSome (find_record process.now.node world.now.world.records) }
+    requires defined { IsSome (its_definition world.now.world process.now) }
     ensures { IfOk result (IsKeyOf world.now.world process.now) }
 {
     let definition = definition_of(world, process).unwrap();

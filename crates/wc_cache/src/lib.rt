@@ -6,9 +6,11 @@ mod finding;
 mod keys;
 mod laws;
 mod names;
+mod recorded;
 mod sources;
 
 pub use digests::digest_of;
 pub use finding::{find, source_of};
 pub use keys::key_of;
 pub use laws::{equal_keys_are_equal, keys_are_of_one};
+pub use recorded::{definition_of, recorded_inputs};

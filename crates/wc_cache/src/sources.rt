@@ -7,7 +7,7 @@ ghost use Rattle.wc_machine.specs.Recorded.{its_definition};
 ghost use Rattle.wc_machine.specs.Sources.{IsValidSource, marks};
 ghost use Rattle.wc_cache.specs.Finding.{is_unmarked, is_unmarked_by};
 
-use crate::keys::definition_of;
+use crate::recorded::definition_of;
 use wc_meaning::head;
 use wc_state::{ProcessKind, ProcessRecord};
 use wc_syntax::Definition;

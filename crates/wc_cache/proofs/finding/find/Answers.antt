@@ -1,6 +1,13 @@
 use Rattle.std.proofs.Common.{Some, None, ◌+◌, ap, ◌∙◌, arith}
-use Rattle.wc_cache.proofs.Lowest.{first_found, lowest_for, none_found, none_yet}
+use Rattle.wc_cache.proofs.Lowest.{first_found, is_there, lowest_for, none_found, none_yet}
 use Rattle.wc_cache.proofs.finding.find.Goals as goal
+
+pub is_source-requires : goal.is_source-requires
+is_source-requires c =
+    let w = c.args.world.now.world in
+    is_there w (w.batches + 1) c.args.key.now (c.reached_worlds_are_consistent.ensures w c.graph.ensures.reached) c.as_slice-process-items.result.now
+    (c.as_slice-process-items.ensures ∙ ap (λ p. p.0) c.records.ensures) c.loop-process.process-index _ c.process-item.result c.loop-process-test.true
+    c.process-item.is
 
 pub returns-then-is-clause-lowest : goal.returns-then-is-clause-lowest
 returns-then-is-clause-lowest c =

@@ -27,6 +27,8 @@ mod requests;
 #[cfg(test)]
 mod rows;
 #[cfg(test)]
+mod settings;
+#[cfg(test)]
 mod shown;
 #[cfg(test)]
 mod tokens;

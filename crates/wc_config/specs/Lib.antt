@@ -1,0 +1,5 @@
+pub mod Keys
+pub mod Refusals
+pub mod Settings
+pub mod Seen
+pub mod Reading

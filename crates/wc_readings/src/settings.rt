@@ -9,7 +9,10 @@ use wc_value::Text;
 /// Settings in one line: the limits, and of the names `a`, `b` and `c` whether caching is on.
 fn shown(alloc: Global, settings: &Settings) -> Result<String, Fail> {
     let limits = &settings.limits;
-    let mut text = format!(in alloc; "{} {} {}", limits.max_nodes, limits.max_bytes, limits.poll_ms)?;
+    let mut text = format!(in alloc;
+        "{} {} {}",
+        limits.max_nodes, limits.max_bytes, limits.poll_ms
+    )?;
     for name in ["a", "b", "c"] {
         let on = caching_on(settings, &Text::of_str(alloc, name)?);
         text.push_str(if on { " on" } else { " off" })?;
@@ -49,7 +52,10 @@ const ROWS: [(&str, &str); 16] = [
     ("[run]\npoll_ms = 0\n", "bad value run.poll_ms"),
     ("[run]\npoll_ms = 600001\n", "bad value run.poll_ms"),
     ("[run]\npoll_ms = \"1\"\n", "bad value run.poll_ms"),
-    ("[limits]\nmax_nodes = 8000001\n", "bad value limits.max_nodes"),
+    (
+        "[limits]\nmax_nodes = 8000001\n",
+        "bad value limits.max_nodes",
+    ),
     ("[limits]\nmax_bytes = 1023\n", "bad value limits.max_bytes"),
     ("x = 1\n", "unknown key x"),
     ("[run]\nseed = 1\n", "unknown key run.seed"),
@@ -67,7 +73,8 @@ const ROWS: [(&str, &str); 16] = [
 ];
 
 #[test]
-fn settings_are_read(alloc: Global) -> Result<(), Fail> {
+fn settings_are_read(rt: HostRuntime) -> Result<(), Fail> {
+    let alloc = rt.alloc();
     for (file, wanted) in ROWS {
         let found = read(alloc, file)?;
         same(file, found.as_str(), wanted)?;

@@ -1,3 +1,5 @@
 mod Wholes
 mod Members
 mod Contents
+mod Steps
+mod Parsed

@@ -1,6 +1,10 @@
-//! Values as JSON.
+//! Values as JSON, and JSON as values.
 #![tactic(auto)]
 
+mod error;
+mod reading;
 mod writing;
 
+pub use error::JsonError;
+pub use reading::{Ports, fields_from_json, from_json};
 pub use writing::to_json;

@@ -17,6 +17,8 @@ mod files;
 #[cfg(test)]
 mod json;
 #[cfg(test)]
+mod json_read;
+#[cfg(test)]
 mod lists;
 #[cfg(test)]
 mod made;

@@ -6,7 +6,8 @@ use Rattle.std.specs.Str.{bytes_eq}
 use Rattle.std.specs.Str.Parse.{digits_value}
 use Rattle.wc_cli.specs.declared.line.Line.{Line}
 use Rattle.wc_cli.specs.declared.command.Command.{Command}
-use Rattle.wc_cli.specs.declared.command.Command.TheVariants.{Check, Dry, Init, Submit, Run, List as Listing, Tree, Pack}
+use Rattle.wc_cli.specs.declared.command.Command.TheVariants.{Check, Dry, Init, Submit, Run, View, Pack}
+use Rattle.wc_cli.specs.declared.command.View.TheVariants as view
 
 -- ---- a word PORT=VALUE
 
@@ -92,9 +93,9 @@ abbrev pub amount_of : Option (List ℕ) → Option ℕ
 amount_of None = Some 100000
 amount_of (Some text) = within 0 1000000000 (digits_of text)
 
--- the number of a process: of 32 bits, and not zero
-abbrev pub pid_of : List ℕ → Option ℕ
-pid_of text = within 1 4294967295 (digits_of text)
+-- the number of a node: of 32 bits, and not zero
+abbrev pub number_of : List ℕ → Option ℕ
+number_of text = within 1 4294967295 (digits_of text)
 
 abbrev pub dry_given : List ℕ → List ℕ → Option ℕ → Option (List (List ℕ × List ℕ)) → Option Command
 dry_given file name (Some fuel) (Some given) = Some (Dry file name given fuel)
@@ -120,8 +121,13 @@ submit_of _ = None
 
 -- `tree PID`
 abbrev pub tree_of : List (List ℕ) → Option Command
-tree_of (pid ∷ []) = option_map Tree (pid_of pid)
+tree_of (pid ∷ []) = option_map (λ n. View (view.Tree n)) (number_of pid)
 tree_of _ = None
+
+-- `show N`
+abbrev pub show_of : List (List ℕ) → Option Command
+show_of (node ∷ []) = option_map (λ n. View (view.Show n)) (number_of node)
+show_of _ = None
 
 -- a command that takes no operands
 abbrev pub alone : Command → List (List ℕ) → Option Command
@@ -135,8 +141,10 @@ plain_command word operands =
     else if bytes_eq word (codes "init") then alone Init operands
     else if bytes_eq word (codes "submit") then submit_of operands
     else if bytes_eq word (codes "run") then alone Run operands
-    else if bytes_eq word (codes "list") then alone Listing operands
+    else if bytes_eq word (codes "list") then alone (View view.List) operands
     else if bytes_eq word (codes "tree") then tree_of operands
+    else if bytes_eq word (codes "show") then show_of operands
+    else if bytes_eq word (codes "graph") then alone (View view.Graph) operands
     else if bytes_eq word (codes "pack") then alone Pack operands
     else None
 

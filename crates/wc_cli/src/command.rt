@@ -1,7 +1,7 @@
 //! Commands.
 
 ghost use Rattle.std.specs.Prelude.{◌≡◌, IfOk};
-ghost use Rattle.wc_cli.specs.Words.{cut_word, cut_all, digits_of, within, amount_of, pid_of, dry_among, check_of, submit_of, tree_of, alone, plain_command, named_command, command_of};
+ghost use Rattle.wc_cli.specs.Words.{cut_word, cut_all, digits_of, within, amount_of, number_of, dry_among, check_of, submit_of, tree_of, show_of, alone, plain_command, named_command, command_of};
 
 use crate::line::{Line, read_line};
 use std::alloc::{AllocError, Global};
@@ -18,6 +18,25 @@ pub type Given = (Text, Text);
 
 /// Words `PORT=VALUE`, in their order.
 pub type Givens = List<Given>;
+
+/// A view of a store.
+#[derive(Drop)]
+pub enum View {
+    /// `list`: the processes.
+    List,
+    /// `tree PID`: the tree of a process.
+    Tree {
+        /// The number of the process.
+        pid: u32,
+    },
+    /// `show N`: a node with its links.
+    Show {
+        /// The number of the node.
+        node: u32,
+    },
+    /// `graph`: the nodes and the links.
+    Graph,
+}
 
 /// A command of the program.
 #[derive(Drop)]
@@ -51,13 +70,8 @@ pub enum Command {
     },
     /// `run`: the work that the store's processes have left.
     Run,
-    /// `list`: the processes of the store.
-    List,
-    /// `tree PID`: the tree of a process.
-    Tree {
-        /// The number of the process.
-        pid: u32,
-    },
+    /// A view of the store.
+    View(View),
     /// `pack`: the store written anew in its shortest form.
     Pack,
 }
@@ -117,12 +131,12 @@ fn fuel_of(fuel: &Option<Text>) -> Option<u64>
     }
 }
 
-/// The number of a process that a text writes in decimal digits.
-fn pid_of(text: &str) -> Option<u32>
-    ensures { result ≡ pid_of text.now }
+/// The number of a node that a text writes in decimal digits.
+fn number_of(text: &str) -> Option<u32>
+    ensures { result ≡ number_of text.now }
 {
     match number_within(text, 1, u32::MAX as u64) {
-        Some(pid) => Some(pid as u32),
+        Some(node) => Some(node as u32),
         None => None,
     }
 }
@@ -181,8 +195,21 @@ fn tree_command(operands: &[Text]) -> Option<Command>
     ensures { result ≡ tree_of operands.now }
 {
     match operands {
-        [text] => match pid_of(text.as_str()) {
-            Some(pid) => Some(Command::Tree { pid }),
+        [text] => match number_of(text.as_str()) {
+            Some(pid) => Some(Command::View(View::Tree { pid })),
+            None => None,
+        },
+        _ => None,
+    }
+}
+
+/// The command `show` with these operands.
+fn show_command(operands: &[Text]) -> Option<Command>
+    ensures { result ≡ show_of operands.now }
+{
+    match operands {
+        [text] => match number_of(text.as_str()) {
+            Some(node) => Some(Command::View(View::Show { node })),
             None => None,
         },
         _ => None,
@@ -213,8 +240,10 @@ fn plain_command(
         "init" => Ok(alone(Command::Init, operands)),
         "submit" => submit_command(alloc, operands),
         "run" => Ok(alone(Command::Run, operands)),
-        "list" => Ok(alone(Command::List, operands)),
+        "list" => Ok(alone(Command::View(View::List), operands)),
         "tree" => Ok(tree_command(operands)),
+        "show" => Ok(show_command(operands)),
+        "graph" => Ok(alone(Command::View(View::Graph), operands)),
         "pack" => Ok(alone(Command::Pack, operands)),
         _ => Ok(None),
     }

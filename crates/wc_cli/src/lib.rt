@@ -4,5 +4,5 @@
 mod command;
 mod line;
 
-pub use command::{Command, Given, Givens, command_of};
+pub use command::{Command, Given, Givens, View, command_of};
 pub use line::Line;

@@ -1,5 +1,5 @@
 -- What was done to a store, as the reply to a command.
-use Rattle.std.proofs.Common.{◌≡◌, inl, inr, ◌+◌, ℕ, List, [], ◌∷◌, Some, Result, Ok, Err, IfOk, Bool, IsTrue, refl, sym, ap, subst, ◌∙◌}
+use Rattle.std.proofs.Common.{◌≡◌, ◌⊎◌, inl, inr, ◌+◌, ℕ, List, [], ◌∷◌, Some, Result, Ok, Err, IfOk, Bool, IsTrue, refl, sym, ap, subst, ◌∙◌}
 use Rattle.wc_disk.specs.declared.disk.Disk as disk
 use Rattle.wc_journal.specs.Reading.{holds, journal_of, batches_of}
 use Rattle.wc_record.specs.Spelled.{spelled}
@@ -17,13 +17,14 @@ use Rattle.wc_store.specs.Preparing.{HasGeneration}
 use Rattle.wc_store.specs.Refusals.{RefusesPack, RefusesInit, IsUnchanged}
 use Rattle.wc_store.specs.Stores.{StandsFor, other}
 use Rattle.wc_report.specs.Lines.{initialised_text, packed_text}
+use Rattle.wc_engine.specs.declared.deed.Begin.TheVariants as begin
+use Rattle.wc_engine.specs.declared.deed.Deed.TheVariants as deed
 use Rattle.wc_engine.specs.declared.reply.Reply.{Reply}
 use Rattle.wc_engine.specs.declared.status.Cause.TheVariants as cause
-use Rattle.wc_engine.specs.Owed.{visit, Does}
+use Rattle.wc_engine.specs.Owed.{visit, Does, OwedDeed}
 use Rattle.wc_engine.specs.Replies.{refuses, prints}
-use Rattle.wc_engine.specs.Shapes.{MayInit}
 use Rattle.wc_engine.specs.Stored.{Images, Hold, HasJournal, GoesOn, is_damaged, is_full, Inits, AtStore, OnStore, Packs}
-use Rattle.wc_engine.specs.StoreReplies.{store_reply, TellsAt, HasNoWorld, HasOpened}
+use Rattle.wc_engine.specs.Opening.{store_reply, NoWorld, TellsAt, HasNoWorld, HasOpened}
 
 pub some_is : (r s : Reply) → Some r ≡ Some s → r ≡ s
 some_is r s h = cc
@@ -65,10 +66,10 @@ module _ {D : Type 0} (g : disk.Ghosts D) where
       → (IsTrue (g.tells one) → IsTrue (g.tells two) → HasOpened g store one two one_mid two_mid)
       → g.tells one_mid ≡ g.tells one → g.tells two_mid ≡ g.tells two → IfOk result (λ r. may r)
       → IfOk result (λ r. IsTrue (g.tells one_mid) → IsTrue (g.tells two_mid) → does (g.seen one_mid, g.seen two_mid) store.world.world (g.seen one_new, g.seen two_new) r)
-      → IfOk result (λ r. Does may (OnStore does) (visit g one two one_new two_new) r)
+      → IfOk result (λ r. Does (λ x. NoWorld x ⊎ may x) (OnStore does) (visit g one two one_new two_new) r)
   goes_does may does store one two one_mid two_mid one_new two_new (Err e) o tells tells_too shape done = done
   goes_does may does store one two one_mid two_mid one_new two_new (Ok r) o tells tells_too shape done = (
-    shape,
+    inr shape,
     λ told told_too.
         on_world does store one two one_mid two_mid (g.seen one_new, g.seen two_new) r (o told told_too)
         (done (subst (λ (b : Bool). IsTrue b) (sym tells) told) (subst (λ (b : Bool). IsTrue b) (sym tells_too) told_too)),
@@ -172,7 +173,7 @@ module _ {D : Type 0} (g : disk.Ghosts D) where
   pub refused_init : {E : Type 0} (e : StoreError) (one two one_new two_new : D) (result : Result Reply E)
       → RefusesInit (IsTrue (g.tells one) × IsTrue (g.tells two)) (IsHeld (g.seen one) (g.seen two)) e
       → IsUnchanged {T = Store} (Err e) (g.seen one) (g.seen one_new) → g.seen two_new ≡ g.seen two
-      → IfOk result (λ r. store_reply e ≡ Some r) → IfOk result (λ r. Does MayInit Inits (visit g one two one_new two_new) r)
+      → IfOk result (λ r. store_reply e ≡ Some r) → IfOk result (λ r. OwedDeed (visit g one two one_new two_new) (deed.Begin begin.Init) r)
   refused_init e one two one_new two_new (Err x) refused same same_too reply = reply
   refused_init error.DiskFault one two one_new two_new (Ok r) refused same same_too reply = absurd (cc)
   refused_init (error.Damaged disk at found) one two one_new two_new (Ok r) refused same same_too reply = (

@@ -16,14 +16,17 @@ use Rattle.wc_world.specs.Records.{find_record, library_at, kind_of_definition}
 use Rattle.wc_world.proofs.ReachedWorlds.{reached_is_consistent}
 use Rattle.wc_world.proofs.SnapshotLists.{IsFree, find_here}
 use Rattle.wc_machine.specs.Recorded.{recorded_inputs}
-use Rattle.wc_machine.specs.Submitting.{submitted_number}
+use Rattle.wc_machine.specs.Submitting.{Submits, submitted_number}
 use Rattle.wc_machine.proofs.Frames.{records_below}
 use Rattle.wc_machine.proofs.Submitted.{at_length, new_nodes, new_record, submitted_world, submission_gives}
 use Rattle.wc_machine.proofs.SubmittedAccepted.{inputs_are}
 use Rattle.wc_machine.proofs.SubmittedInputs.{inputs_gathered}
 use Rattle.wc_engine.specs.declared.submission.Submission.{Submission}
 use Rattle.wc_engine.specs.Acknowledged.{HasProcess}
-use Rattle.wc_engine.specs.Entering.{Changes}
+use Rattle.wc_engine.specs.Events.{Changes, event_of}
+use Rattle.wc_engine.specs.Stored.{usual_limits}
+use Rattle.wc_engine.specs.declared.deed.Asked.TheVariants as asked
+use Rattle.wc_engine.proofs.Asking.{submits_of}
 use Rattle.wc_engine.specs.Submits.{IsReady}
 
 -- no record has a number that each stands below
@@ -70,8 +73,10 @@ module _ (w : World) (h : IsConsistent w) (s : Submission) (ready : IsReady s) (
     uncached = refl;
   }
 
-pub has_process : (w : World) (s : Submission) (cs : List Change) → IsReached w → IsReady s → Changes w s cs → HasProcess (applied w cs) (submitted_number w s.inputs) s
-has_process w s cs reached ready submits =
+pub has_process : (w : World) (s : Submission) (cs : List Change) → IsReached w → IsReady s → Changes w (asked.Submit s) cs
+    → HasProcess (applied w cs) (submitted_number w s.inputs) s
+has_process w s cs reached ready leads =
+    let submits : Submits w s.library [] s.name s.inputs cs = submits_of usual_limits.poll_ms w (event_of (asked.Submit s)) cs leads in
     let d : Definition = submits.definition in
     let gives : applied w cs ≡ submitted_world w s.library [] s.name s.inputs d
     = ap (applied w) submits.changes ∙ submission_gives w s.library [] s.name s.inputs d in

@@ -1,4 +1,4 @@
--- What each pair of images holds at exit.
+-- What each pair of images holds at any moment and at exit.
 use Rattle.std.proofs.Common.{◌≡◌, ◌≤◌, inl, inr, ⊎_elim, ℕ, List, Option, sym, subst}
 use Rattle.wc_disk.specs.declared.disk.Disk as disk
 use Rattle.wc_world.specs.World.{World, empty}
@@ -6,15 +6,10 @@ use Rattle.wc_machine.specs.Laws.{EmptyIsSound}
 use Rattle.wc_machine.specs.Sound.{IsSound}
 use Rattle.wc_store.specs.Held.{IsHeld, nothing, a_world}
 use Rattle.wc_store.specs.Laws.{HeldIsOne}
-use Rattle.wc_store.proofs.Parts.{weaker_parts}
 use Rattle.wc_engine.specs.declared.status.Status.{Status}
-use Rattle.wc_engine.specs.Crashes.{EachPair, HoldsSound, HoldsTheSame, AreDurable, HoldsKeeping, Kept, LeavesKept}
 use Rattle.wc_engine.specs.declared.status.Status.TheVariants as status
-use Rattle.wc_engine.specs.Acknowledged.{OfSubmit, IsAcknowledged}
-use Rattle.wc_engine.specs.Headline.{Call, Headline}
-use Rattle.wc_engine.specs.Makes.{MayBegin, Makes}
-use Rattle.wc_engine.specs.Owed.{IsOfFiles}
-use Rattle.wc_engine.specs.Replies.{IsDoneOrFull}
+use Rattle.wc_engine.specs.Crashes.{EachPair, HoldsSound, HoldsTheSame, AreDurable, HoldsKeeping, Kept, BegunBy, MadeBy, LeavesMade, StaySound}
+use Rattle.wc_engine.proofs.Moments.{weaker_moments, exit_moments}
 
 no_world : (w : World) → nothing ≡ a_world w → ⊥
 no_world w h = cc
@@ -44,21 +39,12 @@ module _ {D : Type 0} (g : disk.Ghosts D) where
       subst (λ (x : List ℕ). IsHeld a x s) (sym (durable.durable_two b left_too))
       (subst (λ (x : List ℕ). IsHeld x (g.seen two) s) (sym (durable.durable_one a left)) held)
 
-  pub headline : HeldIsOne → EmptyIsSound → ((d : D) (image : List ℕ) → g.left_since d (g.moment d) image → g.may_leave d image) → ((d : D) (t : ℕ) (image : List ℕ) → t ≤ g.moment d → g.may_leave d image → g.left_since d t image)
-      → (c : Call D) (result : Status) → EachPair g c.one c.two HoldsSound → g.may_leave c.one (g.seen c.one) → g.may_leave c.two (g.seen c.two)
-      → LeavesKept g (MayBegin c.command) (Makes c.told c.command) c.one c.two c.one_new c.two_new → ((IsOfFiles c.command → ⊥) → IsDoneOrFull result → AreDurable g c.one_new c.two_new)
-      → ((disk at : ℕ) (found : Option ℕ) → result ≡ status.Damaged disk at found → ⊥)
-      → OfSubmit c.command (λ file name given. result ≡ status.Ok → IsAcknowledged g c.told file name given c.one_new c.two_new c.taken c.taken_new)
-      → Headline g c result
-  headline law sound at_now counts c result entry reads reads_too kept durable whole submitted = record {
-    moments = weaker_parts g at_now c.one c.two c.one_new c.two_new (Kept g (MayBegin c.command) (Makes c.told c.command) c.one c.two)
-        (λ a b. Kept g (MayBegin c.command) (Makes c.told c.command) c.one c.two a b × HoldsSound a b) kept.parts
-        (λ a b k. (k, kept_sound law sound (MayBegin c.command) (Makes c.told c.command) c.one c.two a b entry reads reads_too k));
-    one_writes = kept.one_writes;
-    exit = λ a b left left_too.
-        kept_sound law sound (MayBegin c.command) (Makes c.told c.command) c.one c.two a b entry reads reads_too (kept.parts.pairs a b (counts c.one_new (g.moment kept.parts.one_between) a kept.parts.later_one left)
-        (counts c.two_new (g.moment kept.parts.two_between) b kept.parts.later_two left_too));
-    acknowledged = λ of done. let d = durable of done in (d, durable_same c.one_new c.two_new d);
-    whole = whole;
-    submitted = submitted;
-  }
+  pub stay_sound : HeldIsOne → EmptyIsSound → ((d : D) (image : List ℕ) → g.left_since d (g.moment d) image → g.may_leave d image)
+      → ((d : D) (t : ℕ) (image : List ℕ) → t ≤ g.moment d → g.may_leave d image → g.left_since d t image)
+      → (told : Option (List ℕ → Option (List ℕ))) (words : List (List ℕ)) (one two one_new two_new : D) (result : Status) → EachPair g one two HoldsSound
+      → g.may_leave one (g.seen one) → g.may_leave two (g.seen two) → LeavesMade g told words one two one_new two_new
+      → ((disk at : ℕ) (found : Option ℕ) → result ≡ status.Damaged disk at found → ⊥) → StaySound g one two one_new two_new result
+  stay_sound law sound at_now counts told words one two one_new two_new result entry reads reads_too made whole =
+      let moments = weaker_moments g at_now counts one two one_new two_new (Kept g (BegunBy told words) (MadeBy told words) one two) HoldsSound
+      (λ a b. kept_sound law sound (BegunBy told words) (MadeBy told words) one two a b entry reads reads_too) made in
+      record { moments = moments; exit = exit_moments g at_now counts one two one_new two_new HoldsSound moments; whole = whole }

@@ -1,5 +1,5 @@
 -- What a call on a store leaves of its disks at each moment.
-use Rattle.std.proofs.Common.{◌≡◌, ◌≤◌, inl, inr, ⊎_elim, ℕ, List, Option, Result, refl, sym, subst}
+use Rattle.std.proofs.Common.{◌≡◌, ◌≤◌, inl, inr, ⊎_elim, ℕ, List, Result, refl, sym, subst}
 use Rattle.wc_disk.specs.declared.disk.Disk as disk
 use Rattle.wc_disk.specs.Images.{LeavesOnly}
 use Rattle.wc_disk.proofs.Runs.{no_call, both_runs}
@@ -18,13 +18,10 @@ use Rattle.wc_store.proofs.Parts.{then_none, then_commit, then_pack, then_worlds
 use Rattle.wc_store.specs.Laws.{HeldIsReached}
 use Rattle.wc_runner.specs.Laws.{TurnsKeepSound, WorldsContinueThemselves}
 use Rattle.wc_runner.specs.Leaves.{LeavesWorlds, SomeTurns}
-use Rattle.wc_engine.specs.declared.submission.Prepared.{Prepared}
-use Rattle.wc_engine.specs.declared.submission.Prepared.TheVariants as prepared
 use Rattle.wc_engine.specs.Crashes.{Keeps, HoldsKeeping, Kept, WritesOne, LeavesPairs, LeavesKept}
 use Rattle.wc_engine.specs.Running.{usual_turns}
-use Rattle.wc_engine.specs.Makes.{Stays, TakesSome, MakesPrepared, MakesSubmission}
+use Rattle.wc_engine.specs.Rows.{Stays, TakesSome}
 use Rattle.wc_engine.specs.Stored.{usual_limits}
-use Rattle.wc_engine.specs.Submits.{PreparesFrom}
 
 keeps_itself : WorldsContinueThemselves → (w : World) → IsReached w → Keeps w w
 keeps_itself law w reached sound = record { sound = sound; continues = law w reached; reached = reached }
@@ -32,12 +29,6 @@ keeps_itself law w reached sound = record { sound = sound; continues = law w rea
 pub images_hold : (one two a b : List ℕ) (s : Standing) → IsHeld one two s → AreImages one two a b → IsHeld a b s
 images_hold one two a b s held are =
     subst (λ (x : List ℕ). IsHeld a x s) (sym are.1) (subst (λ (x : List ℕ). IsHeld x two s) (sym are.0) held)
-
--- what is made for what words are prepared as is made by `submit` with these words
-pub made_by_submit : (told : Option (List ℕ → Option (List ℕ))) (file name : List ℕ) (given : List (List ℕ × List ℕ)) (p : Prepared) → PreparesFrom told file name given p
-    → (w v : World) → MakesPrepared p w v → MakesSubmission told file name given w v
-made_by_submit told file name given (prepared.Refused c) prepares w v same = inl same
-made_by_submit told file name given (prepared.Submits s) prepares w v makes = ⊎_elim (λ same. inl same) (λ entered. inr (s, prepares, entered)) makes
 
 module _ {D : Type 0} (g : disk.Ghosts D) (at_now : (d : D) (image : List ℕ) → g.left_since d (g.moment d) image → g.may_leave d image) where
   none_asked : (d : D) → LeavesOnly g d d (g.may_leave d)
@@ -161,17 +152,6 @@ module _ {D : Type 0} (g : disk.Ghosts D) (at_now : (d : D) (image : List ℕ) �
       parts = weaker_parts g at_now one two one_new two_new (HoldsKeeping makes w) (Kept g begins makes one two)
           (after_reading (HoldsKeeping makes w) one two one_mid two_mid one_new two_new first second leaves.parts) (λ a b keeps. inr (inr (w, held, keeps)));
       one_writes = ⊎_elim (λ still. inl (read_on one one_mid one_new first still)) (λ still. inr (read_on two two_mid two_new second still)) leaves.one_writes;
-    }
-
-    -- what may be made by one rule may be by a wider one
-    pub wider : (begins : Type 0) (makes more : World → World → Type 0) (one two one_new two_new : D) → ((w v : World) → makes w v → more w v)
-        → LeavesKept g begins makes one two one_new two_new → LeavesKept g begins more one two one_new two_new
-    wider begins makes more one two one_new two_new widens leaves = record {
-      parts = weaker_parts g at_now one two one_new two_new (Kept g begins makes one two) (Kept g begins more one two) leaves.parts
-          (λ a b.
-          ⊎_elim (λ was. inl was)
-          (⊎_elim (λ begun. inr (inl begun)) (λ keeps. inr (inr (keeps.0, keeps.1, (keeps.2.0, keeps.2.1, widens keeps.0 keeps.2.0 keeps.2.2, keeps.2.3))))));
-      one_writes = leaves.one_writes;
     }
 
     -- `init`

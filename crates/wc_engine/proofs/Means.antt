@@ -10,7 +10,7 @@ use Rattle.wc_run.specs.Tables.{plain, no_kills}
 use Rattle.wc_run.specs.Meaning.{meaning}
 use Rattle.wc_run.proofs.Bare.{named_bare, meaning_bare}
 use Rattle.wc_engine.specs.Given.{bad_given, fields_of}
-use Rattle.wc_engine.specs.Owed.{owed_answer, owed_inputs, owed_name}
+use Rattle.wc_engine.specs.Dry.{owed_answer, owed_inputs, owed_name}
 use Rattle.wc_engine.proofs.Bares.{bad_given_bare, fields_bare}
 
 inputs_bare : (o : Option (List ℕ)) (ports : List Port) (ds : List Definition) (name : List ℕ) (given : List (List ℕ × List ℕ)) (n : ℕ)

@@ -1,5 +1,5 @@
 -- One reply is owed for words, where the shelf tells its contents.
-use Rattle.std.proofs.Common.{◌≡◌, ℕ, List, Option, Some, None, Ok, Err, Bool, true, false, sym, ap, subst, ◌∙◌}
+use Rattle.std.proofs.Common.{◌≡◌, ℕ, List, Option, Some, None, Ok, Err, Bool, true, false, refl, sym, ap, subst, ◌∙◌}
 use Rattle.std.specs.Prelude.{IsSome, IsTrue}
 use Rattle.std.specs.Str.{is_utf8}
 use Rattle.wc_syntax.specs.declared.definition.Definition.{Definition}
@@ -7,20 +7,29 @@ use Rattle.wc_parser.specs.Parsing.{Parsed}
 use Rattle.wc_parser.proofs.Texts.{one_text_answer}
 use Rattle.wc_check.proofs.Single.{one_first}
 use Rattle.wc_cli.specs.declared.command.Command.{Command}
-use Rattle.wc_cli.specs.declared.command.Command.TheVariants.{Check, Dry, Init, Submit, Run, List as Listing, Tree, Pack}
+use Rattle.wc_cli.specs.declared.command.Command.TheVariants.{Check, Dry, Init, Submit, Run, View, Pack}
 use Rattle.wc_cli.specs.Words.{command_of}
 use Rattle.wc_engine.specs.declared.reading.Read.{Read}
 use Rattle.wc_engine.specs.declared.reply.Reply.{Reply}
 use Rattle.wc_engine.specs.declared.submission.Prepared.{Prepared}
 use Rattle.wc_engine.specs.Files.{read_found, ReadsLibrary, ReadsParsed, ReadsText, ReadsBytes, Reads, ReadsFrom}
-use Rattle.wc_engine.specs.declared.submission.Prepared.TheVariants as prepared
-use Rattle.wc_engine.specs.Entering.{Enters}
-use Rattle.wc_engine.specs.Owed.{Visit, owed_check, owed_dry, Does, OwedPrepared, IsCertain, IsOfFiles, OwedCommand, IsOwed}
-use Rattle.wc_engine.specs.Shapes.{MayInit, MayList, MayShow, MaySubmit, MayPack}
-use Rattle.wc_engine.specs.Stored.{Images, Inits, OnStore, Lists, Shows, Packs}
+use Rattle.wc_engine.specs.Dry.{owed_check, owed_dry}
+use Rattle.wc_engine.specs.Owed.{Visit, Done, OwedPlan, IsCertain, IsOwed}
+use Rattle.wc_engine.specs.Plans.{Plans, plan_of_prepared}
+use Rattle.wc_engine.specs.Rows.{row, work_row}
+use Rattle.wc_engine.specs.Stored.{Images}
 use Rattle.wc_engine.specs.Submits.{prepared_of, Prepares, PreparesFrom}
-use Rattle.wc_engine.proofs.OnceStored.{one_init, one_on, one_list, one_tree, one_pack, one_entry}
+use Rattle.wc_engine.proofs.OnceStored.{one_init, one_on, one_pack, one_entry}
+use Rattle.wc_engine.proofs.Viewing.{one_view}
 use Rattle.wc_store.specs.Laws.{HeldIsOne}
+use Rattle.wc_world.specs.World.{World}
+use Rattle.wc_engine.specs.declared.deed.Begin.TheVariants as begin
+use Rattle.wc_engine.specs.declared.deed.Deed.{Deed}
+use Rattle.wc_engine.specs.declared.deed.Deed.TheVariants as deed
+use Rattle.wc_engine.specs.declared.deed.Work.{Work}
+use Rattle.wc_engine.specs.declared.deed.Work.TheVariants as work
+use Rattle.wc_engine.specs.declared.deed.Plan.{Plan}
+use Rattle.wc_engine.specs.declared.deed.Plan.TheVariants as plan
 
 -- ---- a file
 
@@ -54,19 +63,7 @@ pub one_prepared : (file : List ℕ) (content : Option (List ℕ)) (name : List 
     → Prepares file content name given a → Prepares file content name given b → a ≡ b
 one_prepared file content name given a b p q = p.2 ∙ ap (prepared_of name given) (one_read file content p.0 q.0 p.1 q.1) ∙ sym q.2
 
--- ---- a command
-
--- what follows from a file
-abbrev Follows : Option (List ℕ → Option (List ℕ)) → List ℕ → (Read → Reply) → Reply → Type 0
-Follows told file owed reply = (r : Read) × ReadsFrom told file r × (reply ≡ owed r)
-
-one_follows : (told : Option (List ℕ → Option (List ℕ))) (file : List ℕ) (owed : Read → Reply) (r s : Reply) → IsSome told → Follows told file owed r → Follows told file owed s → r ≡ s
-one_follows told file owed r s h p q = p.2 ∙ ap owed (one_from told file p.0 q.0 h p.1 q.1) ∙ sym q.2
-
--- what was done, where both disks tell their bytes
-one_done : (may : Reply → Type 0) (done : Images → Images → Reply → Type 0) (v : Visit) (r s : Reply) → IsTrue v.tells_one → IsTrue v.tells_two
-    → (done v.before v.after r → done v.before v.after s → r ≡ s) → Does may done v r → Does may done v s → r ≡ s
-one_done may done v r s told told_too one p q = one (p.1 told told_too) (q.1 told told_too)
+-- ---- a plan
 
 pub prepared_from : (told : Option (List ℕ → Option (List ℕ))) (file name : List ℕ) (given : List (List ℕ × List ℕ)) (a b : Prepared) → IsSome told
     → PreparesFrom told file name given a → PreparesFrom told file name given b → a ≡ b
@@ -74,42 +71,38 @@ prepared_from None file name given a b h p q = absurd (cc)
 prepared_from (Some contents) file name given a b h p q =
     one_prepared file p.0 name given a b p.2 (subst (λ (z : Option (List ℕ)). Prepares file z name given b) (q.1 ∙ sym p.1) q.2)
 
-one_owed_prepared : HeldIsOne → (v : Visit) (p : Prepared) (r s : Reply) → IsTrue v.tells_one → IsTrue v.tells_two → OwedPrepared v p r → OwedPrepared v p s → r ≡ s
-one_owed_prepared law v (prepared.Refused c) r s told told_too p q = p.0 ∙ sym q.0
-one_owed_prepared law v (prepared.Submits x) r s told told_too p q =
-    one_done MaySubmit (OnStore (Enters x)) v r s told told_too (one_on law (Enters x) v.before v.after r s (one_entry law x v.before v.after r s)) p q
+-- words plan one thing
+pub one_plan : (told : Option (List ℕ → Option (List ℕ))) (command : Option Command) (p q : Plan) → IsSome told → Plans told command p → Plans told command q → p ≡ q
+one_plan told None p q h a b = a ∙ sym b
+one_plan told (Some (Check file)) p q h a b = a.2 ∙ ap (λ (r : Read). plan.Told (owed_check r)) (one_from told file a.0 b.0 h a.1 b.1) ∙ sym b.2
+one_plan told (Some (Dry file name given fuel)) p q h a b =
+    a.2 ∙ ap (λ (r : Read). plan.Told (owed_dry name given fuel r)) (one_from told file a.0 b.0 h a.1 b.1) ∙ sym b.2
+one_plan told (Some Init) p q h a b = a ∙ sym b
+one_plan told (Some (Submit file name given)) p q h a b = a.2 ∙ ap plan_of_prepared (prepared_from told file name given a.0 b.0 h a.1 b.1) ∙ sym b.2
+one_plan told (Some Run) p q h a b = a ∙ sym b
+one_plan told (Some (View v)) p q h a b = a ∙ sym b
+one_plan told (Some Pack) p q h a b = a ∙ sym b
 
-one_command : HeldIsOne → (told : Option (List ℕ → Option (List ℕ))) (v : Visit) (command : Option Command) (r s : Reply) → IsCertain command → IsSome told
-    → IsTrue v.tells_one → IsTrue v.tells_two → OwedCommand told v command r → OwedCommand told v command s → r ≡ s
-one_command law told v (Some (Check file)) r s of h t u p q = one_follows told file owed_check r s h p q
-one_command law told v (Some (Dry file name given fuel)) r s of h t u p q = one_follows told file (owed_dry name given fuel) r s h p q
-one_command law told v None r s of h t u p q = p ∙ sym q
-one_command law told v (Some Init) r s of h t u p q = one_done MayInit Inits v r s t u (one_init law v.before v.after r s) p q
-one_command law told v (Some (Submit file name given)) r s of h t u p q =
-    one_owed_prepared law v p.0 r s t u p.2 (subst (λ (x : Prepared). OwedPrepared v x s) (prepared_from told file name given q.0 p.0 h q.1 p.1) q.2)
-one_command law told v (Some Run) r s of h t u p q = absurd of
-one_command law told v (Some Listing) r s of h t u p q = one_done MayList (OnStore Lists) v r s t u (one_on law Lists v.before v.after r s (one_list v.before v.after r s)) p q
-one_command law told v (Some (Tree pid)) r s of h t u p q =
-    one_done (MayShow pid) (OnStore (Shows pid)) v r s t u (one_on law (Shows pid) v.before v.after r s (one_tree pid v.before v.after r s)) p q
-one_command law told v (Some Pack) r s of h t u p q = one_done MayPack (OnStore Packs) v r s t u (one_on law Packs v.before v.after r s (one_pack v.before v.after r s)) p q
+-- ---- a deed
 
-pub owed_once : HeldIsOne → (told : Option (List ℕ → Option (List ℕ))) (v : Visit) (words : List (List ℕ)) (r s : Reply) → IsCertain (command_of words) → IsSome told
-    → IsTrue v.tells_one → IsTrue v.tells_two → IsOwed told v words r → IsOwed told v words s → r ≡ s
-owed_once law told v words r s of h t u p q = one_command law told v (command_of words) r s of h t u p q
+work_once : HeldIsOne → (w : Work) → (work_row w).certain → (before after : Images) (r s : Reply) (world : World) → (work_row w).does before world after r
+    → (work_row w).does before world after s → r ≡ s
+work_once law (work.View v) c before after r s world p q = one_view v world r s p.1 q.1
+work_once law (work.Event a) c before after r s world p q = one_entry law a before after r s world p q
+work_once law work.Run c before after r s world p q = absurd c
+work_once law work.Pack c before after r s world p q = one_pack before after r s world p q
 
--- where no disk is asked, the disks need tell nothing
-one_file : (told : Option (List ℕ → Option (List ℕ))) (v : Visit) (command : Option Command) (r s : Reply) → IsOfFiles command → IsSome told
-    → OwedCommand told v command r → OwedCommand told v command s → r ≡ s
-one_file told v (Some (Check file)) r s of h p q = one_follows told file owed_check r s h p q
-one_file told v (Some (Dry file name given fuel)) r s of h p q = one_follows told file (owed_dry name given fuel) r s h p q
-one_file told v None r s of h p q = p ∙ sym q
-one_file told v (Some Init) r s of h p q = absurd of
-one_file told v (Some (Submit file name given)) r s of h p q = absurd of
-one_file told v (Some Run) r s of h p q = absurd of
-one_file told v (Some Listing) r s of h p q = absurd of
-one_file told v (Some (Tree pid)) r s of h p q = absurd of
-one_file told v (Some Pack) r s of h p q = absurd of
+row_once : HeldIsOne → (d : Deed) → (row d).certain → (before after : Images) (r s : Reply) → Done (row d) before after r → Done (row d) before after s → r ≡ s
+row_once law (deed.Begin begin.Init) c before after r s p q = one_init law before after r s p q
+row_once law (deed.Work w) c before after r s p q = one_on law (work_row w).does before after r s (work_once law w c before after r s) p q
 
-pub file_once : (told : Option (List ℕ → Option (List ℕ))) (v : Visit) (words : List (List ℕ)) (r s : Reply) → IsOfFiles (command_of words) → IsSome told
+one_owed : HeldIsOne → (v : Visit) (p : Plan) (r s : Reply) → ((d : Deed) → p ≡ plan.On d → (row d).certain × IsTrue v.tells_one × IsTrue v.tells_two)
+    → OwedPlan v p r → OwedPlan v p s → r ≡ s
+one_owed law v (plan.Told t) r s of p q = p.0 ∙ sym q.0
+one_owed law v (plan.On d) r s of p q = let c = of d refl in row_once law d c.0 v.before v.after r s (p.1 c.1 c.2) (q.1 c.1 c.2)
+
+pub owed_once : HeldIsOne → (told : Option (List ℕ → Option (List ℕ))) (v : Visit) (words : List (List ℕ)) (r s : Reply) → IsCertain told v.tells_one v.tells_two words
     → IsOwed told v words r → IsOwed told v words s → r ≡ s
-file_once told v words r s of h p q = one_file told v (command_of words) r s of h p q
+owed_once law told v words r s of p q =
+    one_owed law v p.0 r s (λ d is. of.1 d (subst (λ (x : Plan). Plans told (command_of words) x) is p.1)) p.2
+    (subst (λ (x : Plan). OwedPlan v x s) (one_plan told (command_of words) q.0 p.0 of.0 q.1 p.1) q.2)

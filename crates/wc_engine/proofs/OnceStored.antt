@@ -1,8 +1,7 @@
 -- One reply is owed for a command of a store, for what its disks read as at entry and at exit.
-use Rattle.std.proofs.Common.{◌≡◌, ◌⊎◌, inl, inr, ◌≤◌, ◌<◌, ◌+◌, ◌-◌, ◌^◌, ℕ, List, [], length, Some, None, refl, sym, ap, subst, ◌∙◌, arith}
+use Rattle.std.proofs.Common.{◌≡◌, ◌⊎◌, inl, inr, ◌≤◌, ◌<◌, ◌+◌, ◌-◌, ◌^◌, ℕ, List, [], length, Some, refl, sym, ap, subst, ◌∙◌, arith}
 use Rattle.std.specs.Prelude.{min}
 use Rattle.wc_syntax.specs.declared.definition.Definition.{Definition}
-use Rattle.wc_value.specs.declared.process.Tree.{Tree}
 use Rattle.wc_journal.specs.declared.journal.Journal.{Journal}
 use Rattle.wc_journal.specs.Reading.{Placed, end_of}
 use Rattle.wc_journal.specs.Refusals.{size_after}
@@ -11,10 +10,9 @@ use Rattle.wc_state.specs.declared.record.What.{What}
 use Rattle.wc_state.specs.declared.record.What.TheVariants as what
 use Rattle.wc_world.specs.World.{World}
 use Rattle.wc_world.specs.Applied.{applied}
-use Rattle.wc_world.specs.Records.{find_record}
-use Rattle.wc_world.specs.Trees.{recorded_tree}
 use Rattle.wc_world.specs.declared.change.Change.{Change}
-use Rattle.wc_machine.specs.Submitting.{submission}
+use Rattle.wc_machine.specs.Machine.{submits}
+use Rattle.wc_machine.specs.Submitting.{Submits, submission}
 use Rattle.wc_machine.proofs.Submitted.{submission_gives}
 use Rattle.wc_core.specs.Refusals.{AreTooMany, HasRoom}
 use Rattle.wc_store.specs.declared.error.StoreError.TheVariants.{Full}
@@ -25,15 +23,14 @@ use Rattle.wc_store.specs.declared.place.Place.{Place}
 use Rattle.wc_store.specs.Places.{number_of}
 use Rattle.wc_store.specs.Refusals.{byte_limit, RefusesCommit, RefusesPack}
 use Rattle.wc_report.specs.Lines.{packed_text}
-use Rattle.wc_report.specs.Trees.{tree_text}
+use Rattle.wc_engine.specs.declared.deed.Asked.{Asked}
+use Rattle.wc_engine.specs.declared.deed.Asked.TheVariants as asked
 use Rattle.wc_engine.specs.declared.reply.Reply.{Reply}
 use Rattle.wc_engine.specs.declared.submission.Submission.{Submission}
-use Rattle.wc_engine.specs.Entering.{Changes, IsEntered, IsCrowded, IsOverlong, IsRefusedAsFull, Enters}
+use Rattle.wc_engine.specs.Events.{Changes, event_of, IsEntered, IsCrowded, OverlongIn, IsRefusedAsFull, Enters}
 use Rattle.wc_engine.specs.Replies.{prints}
-use Rattle.wc_engine.specs.Stored.{Images, Hold, HasJournal, usual_limits, is_full, InitAt, Inits, AtStore, OnStore, Lists, ShowsTree, Shows, IsPacked, IsTooFull, Packs}
-
-some_tree : (t u : Tree) → Some t ≡ Some u → t ≡ u
-some_tree t u h = cc
+use Rattle.wc_engine.proofs.Asking.{submits_of}
+use Rattle.wc_engine.specs.Stored.{Images, Hold, HasJournal, usual_limits, is_full, InitAt, Inits, AtStore, OnStore, IsPacked, IsTooFull, Packs}
 
 some_definition : (d e : Definition) → Some d ≡ Some e → d ≡ e
 some_definition d e h = cc
@@ -69,23 +66,6 @@ module _ (law : HeldIsOne) where
       at nothing x y = x.1 ∙ sym y.1
       at (damage disk place found) x y = x.1 ∙ sym y.1
       at (a_world w) x y = one w x y
-
--- ---- list and tree
-
-pub one_list : (before after : Images) (r s : Reply) (w : World) → Lists before w after r → Lists before w after s → r ≡ s
-one_list before after r s w p q = p.1 ∙ sym q.1
-
-no_record : (w : World) (pid : ℕ) (t : Tree) → find_record pid w.records ≡ None → recorded_tree w pid ≡ Some t → ⊥
-no_record w pid t none some = cc
-
-one_shown : (pid : ℕ) (w : World) (r s : Reply) → ShowsTree pid w r → ShowsTree pid w s → r ≡ s
-one_shown pid w r s (inl p) (inl q) = p.1 ∙ sym q.1
-one_shown pid w r s (inl p) (inr q) = absurd (no_record w pid q.0 p.0 q.1)
-one_shown pid w r s (inr p) (inl q) = absurd (no_record w pid p.0 q.0 p.1)
-one_shown pid w r s (inr p) (inr q) = p.2 ∙ ap (λ (t : Tree). prints (tree_text t)) (some_tree p.0 q.0 (sym p.1 ∙ q.1)) ∙ sym q.2
-
-pub one_tree : (pid : ℕ) (before after : Images) (r s : Reply) (w : World) → Shows pid before w after r → Shows pid before w after s → r ≡ s
-one_tree pid before after r s w p q = one_shown pid w r s p.1 q.1
 
 -- ---- pack
 
@@ -141,24 +121,41 @@ pub one_pack : (before after : Images) (r s : Reply) (w : World) → Packs befor
 one_pack before after r s w p q =
     one_end before after r s w p.1.1.place q.1.1.place p.1.0 q.1.0 ((one_kept before p.1.0 q.1.0 p.1.1 q.1.1).1) p.1.2 q.1.2
 
--- ---- submit
+-- ---- events
 
-one_change : (w : World) (s : Submission) (cs ds : List Change) → Changes w s cs → Changes w s ds → cs ≡ ds
-one_change w s cs ds p q =
+-- Each event has one list of changes, which are one batch.
+one_submission : (w : World) (x : Submission) (cs ds : List Change) → Submits w x.library [] x.name x.inputs cs → Submits w x.library [] x.name x.inputs ds → cs ≡ ds
+one_submission w x cs ds p q =
     let same : p.definition ≡ q.definition = some_definition p.definition q.definition (sym p.is_there ∙ q.is_there) in
-    p.changes ∙ ap (submission w s.library [] s.name s.inputs) same ∙ sym q.changes
+    p.changes ∙ ap (submission w x.library [] x.name x.inputs) same ∙ sym q.changes
 
--- what is entered is one batch more
-more_batches : (w : World) (s : Submission) (cs : List Change) → Changes w s cs → applied w cs ≡ w → ⊥
-more_batches w s cs p same =
-    let gives = submission_gives w s.library [] s.name s.inputs p.definition in
-    let more : (applied w cs).batches ≡ w.batches + 1
-    = ap (λ (c : List Change). (applied w c).batches) p.changes ∙ ap (λ (v : World). v.batches) gives in
-    let none : w.batches ≡ w.batches + 1 = sym (ap (λ (v : World). v.batches) same) ∙ more in
+one_change : (w : World) (a : Asked) (cs ds : List Change) → Changes w a cs → Changes w a ds → cs ≡ ds
+one_change w (asked.Submit x) cs ds p q =
+    one_submission w x cs ds (submits_of usual_limits.poll_ms w (event_of (asked.Submit x)) cs p) (submits_of usual_limits.poll_ms w (event_of (asked.Submit x)) ds q)
+
+submitted_batch : (w : World) (x : Submission) (cs : List Change) → Submits w x.library [] x.name x.inputs cs → (applied w cs).batches ≡ w.batches + 1
+submitted_batch w x cs p =
+    ap (λ (c : List Change). (applied w c).batches) p.changes ∙ ap (λ (v : World). v.batches) (submission_gives w x.library [] x.name x.inputs p.definition)
+
+one_batch : (w : World) (a : Asked) (cs : List Change) → Changes w a cs → (applied w cs).batches ≡ w.batches + 1
+one_batch w (asked.Submit x) cs p = submitted_batch w x cs (submits_of usual_limits.poll_ms w (event_of (asked.Submit x)) cs p)
+
+more_batches : (w : World) (a : Asked) (cs : List Change) → Changes w a cs → applied w cs ≡ w → ⊥
+more_batches w a cs p same =
+    let none : w.batches ≡ w.batches + 1 = sym (ap (λ (v : World). v.batches) same) ∙ one_batch w a cs p in
     absurd (omega (arith, none))
 
-entered_or_full : HeldIsOne → (s : Submission) (before : Images) (w : World) (after : Images) (r t : Reply) → IsEntered s before w after r → IsRefusedAsFull s before w after t → ⊥
-entered_or_full law s before w after r t p q = more_batches w s p.changes p.submits (one_world law after (applied w p.changes) w p.held q.held)
+-- where the world would be too full, it is so after these changes
+pub record WouldBeFull (a : Asked) (w : World) (what : What) (count limit : ℕ) : Type 0 where
+  pub changes : List Change
+  pub leads : Changes w a changes
+  pub full : AreTooMany (length (applied w changes).nodes) (applied w changes).batches usual_limits.max_nodes what count limit
+
+would_be_full : (a : Asked) (w : World) (x : What) (c l : ℕ) → IsCrowded a w x c l → WouldBeFull a w x c l
+would_be_full (asked.Submit s) w x c l h = record { changes = h.0; leads = submits s.library [] s.name s.inputs h.0 h.1; full = h.2 }
+
+entered_or_full : HeldIsOne → (a : Asked) (before : Images) (w : World) (after : Images) (r t : Reply) → IsEntered a before w after r → IsRefusedAsFull a before w after t → ⊥
+entered_or_full law a before w after r t p q = more_batches w a p.changes p.submits (one_world law after (applied w p.changes) w p.held q.held)
 
 one_crowd : (n b most : ℕ) (x y : What) (c d l m : ℕ) → AreTooMany n b most x c l → AreTooMany n b most y d m → is_full x c l ≡ is_full y d m
 one_crowd n b most what.Bytes y c d l m p q = absurd p
@@ -178,16 +175,19 @@ room_or_crowd n b most what.Bytes c l room h = h
 room_or_crowd n b most what.Batches c l room h = absurd (omega (arith, room.1, h.3))
 room_or_crowd n b most what.Generations c l room h = h
 
-one_crowded : (s : Submission) (w : World) (x y : What) (c d l m : ℕ) → IsCrowded s w x c l → IsCrowded s w y d m → is_full x c l ≡ is_full y d m
-one_crowded s w x y c d l m p q =
-    let same = one_change w s q.0 p.0 q.1 p.1 in
-    one_crowd (length (applied w p.0).nodes) (applied w p.0).batches usual_limits.max_nodes x y c d l m p.2
-    (subst (λ (cs : List Change). AreTooMany (length (applied w cs).nodes) (applied w cs).batches usual_limits.max_nodes y d m) same q.2)
+one_crowded : (a : Asked) (w : World) (x y : What) (c d l m : ℕ) → IsCrowded a w x c l → IsCrowded a w y d m → is_full x c l ≡ is_full y d m
+one_crowded a w x y c d l m p q =
+    let f = would_be_full a w x c l p in
+    let g = would_be_full a w y d m q in
+    one_crowd (length (applied w f.changes).nodes) (applied w f.changes).batches usual_limits.max_nodes x y c d l m f.full
+    (subst (λ (cs : List Change). AreTooMany (length (applied w cs).nodes) (applied w cs).batches usual_limits.max_nodes y d m)
+    (one_change w a g.changes f.changes g.leads f.leads) g.full)
 
-crowded_or_overlong : (s : Submission) (before : Images) (w : World) (x y : What) (c d l m : ℕ) → IsCrowded s w x c l → IsOverlong s before w y d m → ⊥
-crowded_or_overlong s before w x y c d l m p q =
-    let same = one_change w s q.changes p.0 q.submits p.1 in
-    room_or_crowd (length (applied w p.0).nodes) (applied w p.0).batches usual_limits.max_nodes x c l (subst (λ (cs : List Change). HasRoom usual_limits.max_nodes (applied w cs)) same q.room) p.2
+crowded_or_overlong : (a : Asked) (before : Images) (w : World) (x y : What) (c d l m : ℕ) → IsCrowded a w x c l → OverlongIn a before w y d m → ⊥
+crowded_or_overlong a before w x y c d l m p q =
+    let f = would_be_full a w x c l p in
+    room_or_crowd (length (applied w f.changes).nodes) (applied w f.changes).batches usual_limits.max_nodes x c l
+    (subst (λ (cs : List Change). HasRoom usual_limits.max_nodes (applied w cs)) (one_change w a q.2.changes f.changes q.2.submits f.leads) q.2.room) f.full
 
 -- the journal's bytes and the limit in force hang on its version and its end
 abbrev refused_as : (version end : ℕ) → World → List Change → What → (count limit : ℕ) → Type 0
@@ -218,25 +218,25 @@ one_refused version end w cs what.Bytes what.Generations c d l m p q = absurd q
 one_refused version end w cs what.Bytes what.Nodes c d l m p q = absurd (omega (arith, p.0, q.2))
 one_refused version end w cs what.Bytes what.Bytes c d l m p q = full_alike what.Bytes what.Bytes c d l m refl (p.1 ∙ sym q.1) (p.2 ∙ sym q.2)
 
-one_overlong : (s : Submission) (before : Images) (w : World) (x y : What) (c d l m : ℕ) → IsOverlong s before w x c l → IsOverlong s before w y d m → is_full x c l ≡ is_full y d m
-one_overlong s before w x y c d l m p q =
-    let kept = one_kept before q.journal p.journal q.kept p.kept in
-    let same = one_change w s q.changes p.changes q.submits p.submits in
-    let other = commit_refused_as q.journal w q.changes y d m q.refused in
-    one_refused p.journal.version p.journal.end w p.changes x y c d l m (commit_refused_as p.journal w p.changes x c l p.refused)
-    (subst (λ (v : ℕ). refused_as v p.journal.end w p.changes y d m) kept.0
-    (subst (λ (e : ℕ). refused_as q.journal.version e w p.changes y d m) kept.2
-    (subst (λ (cs : List Change). refused_as q.journal.version q.journal.end w cs y d m) same other)))
+one_overlong : (a : Asked) (before : Images) (w : World) (x y : What) (c d l m : ℕ) → OverlongIn a before w x c l → OverlongIn a before w y d m → is_full x c l ≡ is_full y d m
+one_overlong a before w x y c d l m p q =
+    let kept = one_kept before q.0 p.0 q.1 p.1 in
+    let same = one_change w a q.2.changes p.2.changes q.2.submits p.2.submits in
+    let other = commit_refused_as q.0 w q.2.changes y d m q.2.refused in
+    one_refused p.0.version p.0.end w p.2.changes x y c d l m (commit_refused_as p.0 w p.2.changes x c l p.2.refused)
+    (subst (λ (v : ℕ). refused_as v p.0.end w p.2.changes y d m) kept.0
+    (subst (λ (e : ℕ). refused_as q.0.version e w p.2.changes y d m) kept.2
+    (subst (λ (cs : List Change). refused_as q.0.version q.0.end w cs y d m) same other)))
 
-one_fullness : (s : Submission) (before : Images) (w : World) (x y : What) (c d l m : ℕ)
-    → IsCrowded s w x c l ⊎ IsOverlong s before w x c l → IsCrowded s w y d m ⊎ IsOverlong s before w y d m → is_full x c l ≡ is_full y d m
-one_fullness s before w x y c d l m (inl p) (inl q) = one_crowded s w x y c d l m p q
-one_fullness s before w x y c d l m (inl p) (inr q) = absurd (crowded_or_overlong s before w x y c d l m p q)
-one_fullness s before w x y c d l m (inr p) (inl q) = absurd (crowded_or_overlong s before w y x d c m l q p)
-one_fullness s before w x y c d l m (inr p) (inr q) = one_overlong s before w x y c d l m p q
+one_fullness : (a : Asked) (before : Images) (w : World) (x y : What) (c d l m : ℕ)
+    → IsCrowded a w x c l ⊎ OverlongIn a before w x c l → IsCrowded a w y d m ⊎ OverlongIn a before w y d m → is_full x c l ≡ is_full y d m
+one_fullness a before w x y c d l m (inl p) (inl q) = one_crowded a w x y c d l m p q
+one_fullness a before w x y c d l m (inl p) (inr q) = absurd (crowded_or_overlong a before w x y c d l m p q)
+one_fullness a before w x y c d l m (inr p) (inl q) = absurd (crowded_or_overlong a before w y x d c m l q p)
+one_fullness a before w x y c d l m (inr p) (inr q) = one_overlong a before w x y c d l m p q
 
-pub one_entry : HeldIsOne → (s : Submission) (before after : Images) (r t : Reply) (w : World) → Enters s before w after r → Enters s before w after t → r ≡ t
-one_entry law s before after r t w (inl p) (inl q) = p.reply ∙ sym q.reply
-one_entry law s before after r t w (inl p) (inr q) = absurd (entered_or_full law s before w after r t p q)
-one_entry law s before after r t w (inr p) (inl q) = absurd (entered_or_full law s before w after t r q p)
-one_entry law s before after r t w (inr p) (inr q) = p.reply ∙ one_fullness s before w p.what q.what p.count q.count p.limit q.limit p.full q.full ∙ sym q.reply
+pub one_entry : HeldIsOne → (a : Asked) (before after : Images) (r t : Reply) (w : World) → Enters a before w after r → Enters a before w after t → r ≡ t
+one_entry law a before after r t w (inl p) (inl q) = p.reply ∙ sym q.reply
+one_entry law a before after r t w (inl p) (inr q) = absurd (entered_or_full law a before w after r t p q)
+one_entry law a before after r t w (inr p) (inl q) = absurd (entered_or_full law a before w after t r q p)
+one_entry law a before after r t w (inr p) (inr q) = p.reply ∙ one_fullness a before w p.what q.what p.count q.count p.limit q.limit p.full q.full ∙ sym q.reply

@@ -1,5 +1,5 @@
 -- The statuses of replies.
-use Rattle.std.proofs.Common.{ℕ, List, [], Option, Some, None, sym, subst}
+use Rattle.std.proofs.Common.{◌≡◌, ℕ, List, [], Option, Some, None, sym, subst}
 use Rattle.wc_syntax.specs.declared.definition.Definition.{Definition}
 use Rattle.wc_syntax.specs.declared.definition.Port.{Port}
 use Rattle.wc_syntax.specs.Findings.{head_of, definition_named}
@@ -8,22 +8,32 @@ use Rattle.wc_run.specs.declared.progress.Answer.TheVariants.{Gave, TooLittle, W
 use Rattle.wc_run.specs.Tables.{plain, no_kills}
 use Rattle.wc_run.specs.Meaning.{meaning}
 use Rattle.wc_cli.specs.declared.command.Command.{Command}
-use Rattle.wc_cli.specs.declared.command.Command.TheVariants.{Check, Dry, Init, Submit, Run, List as Listing, Tree, Pack}
+use Rattle.wc_cli.specs.declared.command.Command.TheVariants.{Check, Dry, Init, Submit, Run, View, Pack}
 use Rattle.wc_cli.specs.Words.{command_of}
 use Rattle.wc_engine.specs.declared.reading.Read.{Read}
 use Rattle.wc_engine.specs.declared.reading.Read.TheVariants as read
+use Rattle.wc_engine.specs.declared.deed.Plan.{Plan}
+use Rattle.wc_engine.specs.declared.deed.Plan.TheVariants as plan
 use Rattle.wc_engine.specs.declared.reply.Reply.{Reply}
+use Rattle.wc_engine.specs.declared.status.Cause.TheVariants as cause
 use Rattle.wc_engine.specs.declared.status.Status.{Status}
 use Rattle.wc_engine.specs.declared.status.Status.TheVariants as status
 use Rattle.wc_engine.specs.Given.{bad_given, fields_of}
-use Rattle.wc_engine.specs.Owed.{Visit, owed_answer, owed_inputs, owed_name, owed_check, owed_dry, OwedPrepared, OwedCommand, IsOwed, OwesStatus}
-use Rattle.wc_engine.specs.Replies.{IsReplied, IsDoneOrFull}
-use Rattle.wc_engine.proofs.Shaping.{init_replied, list_replied, show_replied, submit_replied, pack_replied, running_replied}
+use Rattle.wc_engine.specs.Dry.{owed_answer, owed_inputs, owed_name, owed_check, owed_dry}
+use Rattle.wc_engine.specs.Owed.{Visit, OwedPlan, IsOwed}
+use Rattle.wc_engine.specs.Plans.{Plans, plan_of_prepared}
+use Rattle.wc_engine.specs.Replies.{refuses, IsReplied, IsDoneOrFull, OwesStatus}
+use Rattle.wc_engine.proofs.Shaping.{row_replied}
+use Rattle.wc_engine.proofs.Viewing.{IsDoneOrRefused, is_replied}
 use Rattle.wc_engine.specs.declared.submission.Prepared.{Prepared}
 use Rattle.wc_engine.specs.declared.submission.Prepared.TheVariants as prepared
 
-abbrev HasReplied : Reply → Type 0
-HasReplied r = IsReplied r.status
+same_reply : (r s : Reply) → plan.Told r ≡ plan.Told s → r ≡ s
+same_reply r s is = cc
+
+-- so with each reply that asks no disk
+abbrev pub HasReplied : Reply → Type 0
+HasReplied r = IsDoneOrRefused r.status
 
 answer_replied : (a : Answer) → HasReplied (owed_answer a)
 answer_replied (Gave r left) = tt
@@ -49,24 +59,28 @@ check_replied : (r : Read) → HasReplied (owed_check r)
 check_replied (read.Refused c) = tt
 check_replied (read.Library library) = tt
 
-prepared_replied : (v : Visit) (p : Prepared) (r : Reply) → OwedPrepared v p r → HasReplied r
-prepared_replied v (prepared.Refused c) r h = subst HasReplied (sym h.0) tt
-prepared_replied v (prepared.Submits s) r h = submit_replied r h.0
+-- a prepared submission that is refused
+prepared_replied : (p : Prepared) (r : Reply) → plan_of_prepared p ≡ plan.Told r → HasReplied r
+prepared_replied (prepared.Refused c) r is = subst HasReplied (same_reply (refuses c) r is) tt
+prepared_replied (prepared.Submits s) r is = absurd (cc)
 
-command_replied : (told : Option (List ℕ → Option (List ℕ))) (v : Visit) (command : Option Command) (r : Reply) → OwedCommand told v command r → HasReplied r
-command_replied told v (Some (Check file)) r p = subst HasReplied (sym p.2) (check_replied p.0)
-command_replied told v (Some (Dry file name given fuel)) r p = subst HasReplied (sym p.2) (dry_replied name given fuel p.0)
-command_replied told v None r p = subst HasReplied (sym p) tt
-command_replied told v (Some Init) r p = init_replied r p.0
-command_replied told v (Some (Submit file name given)) r p = prepared_replied v p.0 r p.2
-command_replied told v (Some Run) r p = running_replied r p.0
-command_replied told v (Some Listing) r p = list_replied r p.0
-command_replied told v (Some (Tree pid)) r p = show_replied pid r p.0
-command_replied told v (Some Pack) r p = pack_replied r p.0
+pub told_replied : (told : Option (List ℕ → Option (List ℕ))) (command : Option Command) (r : Reply) → Plans told command (plan.Told r) → HasReplied r
+told_replied told None r p = subst HasReplied (same_reply (refuses cause.Words) r (sym p)) tt
+told_replied told (Some (Check file)) r p = subst HasReplied (same_reply (owed_check p.0) r (sym p.2)) (check_replied p.0)
+told_replied told (Some (Dry file name given fuel)) r p = subst HasReplied (same_reply (owed_dry name given fuel p.0) r (sym p.2)) (dry_replied name given fuel p.0)
+told_replied told (Some Init) r p = absurd (cc)
+told_replied told (Some (Submit file name given)) r p = prepared_replied p.0 r (sym p.2)
+told_replied told (Some Run) r p = absurd (cc)
+told_replied told (Some (View v)) r p = absurd (cc)
+told_replied told (Some Pack) r p = absurd (cc)
+
+plan_replied : (told : Option (List ℕ → Option (List ℕ))) (command : Option Command) (v : Visit) (p : Plan) (r : Reply) → Plans told command p → OwedPlan v p r → IsReplied r.status
+plan_replied told command v (plan.Told t) r plans owed = subst (λ (x : Reply). IsReplied x.status) (sym owed.0) (is_replied t.status (told_replied told command t plans))
+plan_replied told command v (plan.On d) r plans owed = row_replied d r owed.0
 
 -- a reply that is owed has a status of a reply
 pub owed_replied : (told : Option (List ℕ → Option (List ℕ))) (v : Visit) (words : List (List ℕ)) (r : Reply) → IsOwed told v words r → IsReplied r.status
-owed_replied told v words r p = command_replied told v (command_of words) r p
+owed_replied told v words r p = plan_replied told (command_of words) v p.0 r p.1 p.2
 
 -- what is done ends as what is owed
 pub done_owed : (owed ended : Status) → OwesStatus owed ended → IsDoneOrFull ended → IsDoneOrFull owed

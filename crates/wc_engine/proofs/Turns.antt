@@ -22,7 +22,7 @@ use Rattle.wc_engine.specs.declared.reply.Reply.{Reply}
 use Rattle.wc_engine.specs.declared.status.Cause.TheVariants as cause
 use Rattle.wc_engine.specs.Replies.{refuses, IsReplied}
 use Rattle.wc_engine.specs.Running.{status_of, usual_turns, has_run, Runs}
-use Rattle.wc_engine.specs.Unwritten.{IsBeforeTurns}
+use Rattle.wc_engine.specs.Undone.{IsBeforeTurns}
 use Rattle.wc_engine.proofs.Doing.{journal_held}
 use Rattle.wc_engine.specs.Stored.{HasJournal, GoesOn, usual_limits, Fits, is_full}
 

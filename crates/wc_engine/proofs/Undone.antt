@@ -8,7 +8,7 @@ use Rattle.wc_engine.specs.declared.reply.Reply.{Reply}
 use Rattle.wc_engine.specs.declared.status.Cause.TheVariants as cause
 use Rattle.wc_engine.specs.Replies.{refuses, IsDoneOrFull}
 use Rattle.wc_engine.specs.Stored.{is_damaged}
-use Rattle.wc_engine.specs.StoreReplies.{store_reply}
+use Rattle.wc_engine.specs.Opening.{store_reply}
 use Rattle.wc_engine.proofs.Doing.{some_is}
 
 -- a refusal of a load may be one of `init` too

@@ -1,5 +1,5 @@
 -- Calls that write no disk.
-use Rattle.std.proofs.Common.{◌≡◌, ◌⊎◌, ◌≤◌, inl, inr, ⊎_elim, ℕ, List, Option, Some, None, Result, Err, refl, sym, subst, arith}
+use Rattle.std.proofs.Common.{◌≡◌, ◌⊎◌, ◌≤◌, inl, inr, ⊎_elim, ℕ, List, Result, Err, refl, sym, subst, arith}
 use Rattle.wc_disk.specs.declared.disk.Disk as disk
 use Rattle.wc_disk.specs.Images.{LeavesOnly}
 use Rattle.wc_disk.proofs.Runs.{no_call}
@@ -8,15 +8,19 @@ use Rattle.wc_store.specs.declared.error.StoreError.TheVariants as error
 use Rattle.wc_store.specs.declared.store.Store.{Store}
 use Rattle.wc_store.specs.Refusals.{IsUnchanged}
 use Rattle.wc_store.specs.Stores.{InOnePart, InTwoParts, AreImages, InitLeaves}
-use Rattle.wc_cli.specs.declared.command.Command.{Command}
-use Rattle.wc_cli.specs.declared.command.Command.TheVariants.{Check, Dry, Init, Submit, Run, List as Listing, Tree, Pack}
+use Rattle.wc_engine.specs.declared.deed.Begin.TheVariants as begin
+use Rattle.wc_engine.specs.declared.deed.Deed.{Deed}
+use Rattle.wc_engine.specs.declared.deed.Deed.TheVariants as deed
+use Rattle.wc_engine.specs.declared.deed.Work.{Work}
+use Rattle.wc_engine.specs.declared.deed.Work.TheVariants as work
 use Rattle.wc_engine.specs.declared.reply.Reply.{Reply}
 use Rattle.wc_engine.specs.declared.status.Status.{Status}
 use Rattle.wc_engine.specs.declared.status.Status.TheVariants as status
-use Rattle.wc_engine.specs.declared.storing.StoreReplyError.{StoreReplyError}
-use Rattle.wc_engine.specs.Owed.{OwesStatus}
-use Rattle.wc_engine.specs.StoreReplies.{TellsFault}
-use Rattle.wc_engine.specs.Unwritten.{LeavesUnwritten, IsBeforeTurns, IsBeforePacking, IsBeforeStoring, IsUnwritten, store_ended_by, EndsWith}
+use Rattle.wc_engine.specs.declared.error.ActError.{ActError}
+use Rattle.wc_engine.specs.Replies.{OwesStatus}
+use Rattle.wc_engine.specs.Opening.{TellsFault}
+use Rattle.wc_engine.specs.Rows.{row, work_row}
+use Rattle.wc_engine.specs.Undone.{LeavesUnwritten, IsBeforeTurns, IsBeforePacking, IsBeforeStoring, EndsWith}
 
 -- ---- how a call ends
 
@@ -34,17 +38,17 @@ said_of_reply P never owed status.ReadFault h memory reading disks p = absurd (r
 said_of_reply P never owed status.WriteFault h memory reading disks p = absurd (never p)
 said_of_reply P never owed (status.Full what count limit) h memory reading disks p = subst P h p
 
-pub unwritten_reply : (command : Option Command) (owed ended : Status) → OwesStatus owed ended → (ended ≡ status.OutOfMemory → ⊥) → (ended ≡ status.ReadFault → ⊥)
-    → (ended ≡ status.DiskFault → ⊥) → IsUnwritten command ended → IsUnwritten command owed
-unwritten_reply None owed ended h memory reading disks u = tt
-unwritten_reply (Some (Check file)) owed ended h memory reading disks u = tt
-unwritten_reply (Some (Dry file name given fuel)) owed ended h memory reading disks u = tt
-unwritten_reply (Some Init) owed ended h memory reading disks u = said_of_reply IsBeforeStoring (λ never. never) owed ended h memory reading disks u
-unwritten_reply (Some (Submit file name given)) owed ended h memory reading disks u = said_of_reply IsBeforeStoring (λ never. never) owed ended h memory reading disks u
-unwritten_reply (Some Run) owed ended h memory reading disks u = said_of_reply IsBeforeTurns (λ never. never) owed ended h memory reading disks u
-unwritten_reply (Some Listing) owed ended h memory reading disks u = tt
-unwritten_reply (Some (Tree pid)) owed ended h memory reading disks u = tt
-unwritten_reply (Some Pack) owed ended h memory reading disks u = said_of_reply IsBeforePacking (λ never. never) owed ended h memory reading disks u
+work_undone : (w : Work) (owed ended : Status) → OwesStatus owed ended → (ended ≡ status.OutOfMemory → ⊥) → (ended ≡ status.ReadFault → ⊥) → (ended ≡ status.DiskFault → ⊥)
+    → (work_row w).undone ended → (work_row w).undone owed
+work_undone (work.View v) owed ended h memory reading disks u = tt
+work_undone (work.Event a) owed ended h memory reading disks u = said_of_reply IsBeforeStoring (λ never. never) owed ended h memory reading disks u
+work_undone work.Run owed ended h memory reading disks u = said_of_reply IsBeforeTurns (λ never. never) owed ended h memory reading disks u
+work_undone work.Pack owed ended h memory reading disks u = said_of_reply IsBeforePacking (λ never. never) owed ended h memory reading disks u
+
+pub row_undone : (d : Deed) (owed ended : Status) → OwesStatus owed ended → (ended ≡ status.OutOfMemory → ⊥) → (ended ≡ status.ReadFault → ⊥) → (ended ≡ status.DiskFault → ⊥)
+    → (row d).undone ended → (row d).undone owed
+row_undone (deed.Begin begin.Init) owed ended h memory reading disks u = said_of_reply IsBeforeStoring (λ never. never) owed ended h memory reading disks u
+row_undone (deed.Work w) owed ended h memory reading disks u = work_undone w owed ended h memory reading disks u
 
 -- ---- what is left
 
@@ -62,9 +66,9 @@ module _ {D : Type 0} (g : disk.Ghosts D) where
 
   -- a store that isn't as a disk failed left its disks alone
   pub refused_untouched : (T : Type 0) (P : Status → Type 0) → (P status.DiskFault → ⊥) → (e : StoreError) (one two one_new two_new : D) → IsUnchanged {T = T} (Err e) one one_new
-      → IsUnchanged {T = T} (Err e) two two_new → (result : Result Reply StoreReplyError) → TellsFault e result → EndsWith store_ended_by P result
+      → IsUnchanged {T = T} (Err e) two two_new → (result : Result Reply ActError) → TellsFault e result → EndsWith P result
       → (one_new ≡ one) × (two_new ≡ two)
-  refused_untouched T P never error.DiskFault one two one_new two_new same same_too result fault ends = absurd (never (subst (EndsWith store_ended_by P) fault ends))
+  refused_untouched T P never error.DiskFault one two one_new two_new same same_too result fault ends = absurd (never (subst (EndsWith P) fault ends))
   refused_untouched T P never (error.Damaged disk at found) one two one_new two_new same same_too result fault ends = (same, same_too)
   refused_untouched T P never (error.Full what count limit) one two one_new two_new same same_too result fault ends = (same, same_too)
   refused_untouched T P never error.AlreadyThere one two one_new two_new same same_too result fault ends = (same, same_too)
@@ -104,8 +108,8 @@ module _ {D : Type 0} (g : disk.Ghosts D) where
 
     -- `init` that is refused
     pub refused_init : (e : StoreError) → InitLeaves g (Err e) one two one_new two_new → IsUnchanged {T = Store} (Err e) (g.seen one) (g.seen one_new) → g.seen two_new ≡ g.seen two
-        → (result : Result Reply StoreReplyError) → TellsFault e result → EndsWith store_ended_by IsBeforeStoring result → LeavesUnwritten g one two one_new two_new
-    refused_init error.DiskFault leaves seen seen_too result fault ends = absurd (subst (EndsWith store_ended_by IsBeforeStoring) fault ends)
+        → (result : Result Reply ActError) → TellsFault e result → EndsWith IsBeforeStoring result → LeavesUnwritten g one two one_new two_new
+    refused_init error.DiskFault leaves seen seen_too result fault ends = absurd (subst (EndsWith IsBeforeStoring) fault ends)
     refused_init (error.Damaged disk at found) leaves seen seen_too result fault ends = (leaves, seen, seen_too)
     refused_init (error.Full what count limit) leaves seen seen_too result fault ends = (leaves, seen, seen_too)
     refused_init error.AlreadyThere leaves seen seen_too result fault ends = (images_again leaves, seen, seen_too)

@@ -1,39 +1,49 @@
--- What is counted in a call that prepares a reply.
+-- What is counted in a call that makes a plan, does a deed, or both.
 use Rattle.std.specs.Prelude.{◌≡◌, ◌⊎◌, ℕ, Result, Ok, Err}
 use Rattle.wc_io.specs.Counts.{Rises}
-use Rattle.wc_engine.specs.declared.reply.ReplyError.{ReplyError}
-use Rattle.wc_engine.specs.declared.reply.ReplyError.TheVariants.{OutOfMemory, ReadFault, DiskFault}
-use Rattle.wc_engine.specs.declared.storing.StoreReplyError.{StoreReplyError}
-use Rattle.wc_engine.specs.declared.storing.StoreReplyError.TheVariants as of_a_store
-
-abbrev pub of_store : StoreReplyError → ReplyError
-of_store of_a_store.OutOfMemory = OutOfMemory
-of_store of_a_store.DiskFault = DiskFault
+use Rattle.wc_engine.specs.declared.error.PlanError.{PlanError}
+use Rattle.wc_engine.specs.declared.error.PlanError.TheVariants as plan_error
+use Rattle.wc_engine.specs.declared.error.ActError.{ActError}
+use Rattle.wc_engine.specs.declared.error.ActError.TheVariants as act_error
+use Rattle.wc_engine.specs.declared.error.ReplyError.{ReplyError}
+use Rattle.wc_engine.specs.declared.error.ReplyError.TheVariants as reply_error
+use Rattle.wc_engine.specs.declared.reply.Reply.{Reply}
+use Rattle.wc_engine.specs.declared.status.Status.{Status}
+use Rattle.wc_engine.specs.declared.status.Status.TheVariants as status
 
 -- `ReadFault` comes only where the shelf's count rose, and each other answer leaves it
-abbrev pub CountsShelf : {T : Type 0} → Result T ReplyError → ℕ → ℕ → Type 0
+abbrev pub CountsShelf : {T : Type 0} → Result T PlanError → ℕ → ℕ → Type 0
 CountsShelf (Ok answer) old new = new ≡ old
-CountsShelf (Err OutOfMemory) old new = new ≡ old
-CountsShelf (Err ReadFault) old new = Rises old new
-CountsShelf (Err DiskFault) old new = new ≡ old
+CountsShelf (Err plan_error.OutOfMemory) old new = new ≡ old
+CountsShelf (Err plan_error.ReadFault) old new = Rises old new
 
 -- `DiskFault` comes only where the count of one of the disks rose, and each other answer leaves both counts
-abbrev pub CountsDisks : {T : Type 0} → Result T ReplyError → (one one' two two' : ℕ) → Type 0
+abbrev pub CountsDisks : {T : Type 0} → Result T ActError → (one one' two two' : ℕ) → Type 0
 CountsDisks (Ok answer) one one' two two' = (one' ≡ one) × (two' ≡ two)
-CountsDisks (Err OutOfMemory) one one' two two' = (one' ≡ one) × (two' ≡ two)
-CountsDisks (Err ReadFault) one one' two two' = (one' ≡ one) × (two' ≡ two)
-CountsDisks (Err DiskFault) one one' two two' = Rises one one' ⊎ Rises two two'
+CountsDisks (Err act_error.OutOfMemory) one one' two two' = (one' ≡ one) × (two' ≡ two)
+CountsDisks (Err act_error.DiskFault) one one' two two' = Rises one one' ⊎ Rises two two'
 
--- no disk was asked
-abbrev pub IsOfShelf : {T : Type 0} → Result T ReplyError → Type 0
-IsOfShelf (Ok answer) = Unit {0}
-IsOfShelf (Err OutOfMemory) = Unit {0}
-IsOfShelf (Err ReadFault) = Unit {0}
-IsOfShelf (Err DiskFault) = ⊥
+-- ---- both
 
--- where the shelf failed, no disk was asked
-abbrev pub IsReadFirst : {T D : Type 0} → Result T ReplyError → (one one' two two' : D) → Type 0
-IsReadFirst (Ok answer) one one' two two' = Unit {0}
-IsReadFirst (Err OutOfMemory) one one' two two' = Unit {0}
-IsReadFirst (Err ReadFault) one one' two two' = (one' ≡ one) × (two' ≡ two)
-IsReadFirst (Err DiskFault) one one' two two' = Unit {0}
+abbrev pub of_plan : PlanError → ReplyError
+of_plan plan_error.OutOfMemory = reply_error.OutOfMemory
+of_plan plan_error.ReadFault = reply_error.ReadFault
+
+abbrev pub of_act : ActError → ReplyError
+of_act act_error.OutOfMemory = reply_error.OutOfMemory
+of_act act_error.DiskFault = reply_error.DiskFault
+
+-- `ReadFault` comes only where the shelf's count rose, before any disk is asked, and `DiskFault` only where the count of one of the disks
+-- rose; each other count stays
+abbrev pub CountsReply : {D : Type 0} → Result Reply ReplyError → (shelf shelf' one one' two two' : ℕ) → (d d' e e' : D) → Type 0
+CountsReply (Ok reply) shelf shelf' one one' two two' d d' e e' = (shelf' ≡ shelf) × (one' ≡ one) × (two' ≡ two)
+CountsReply (Err reply_error.OutOfMemory) shelf shelf' one one' two two' d d' e e' = (shelf' ≡ shelf) × (one' ≡ one) × (two' ≡ two)
+CountsReply (Err reply_error.ReadFault) shelf shelf' one one' two two' d d' e e' = Rises shelf shelf' × (d' ≡ d) × (e' ≡ e)
+CountsReply (Err reply_error.DiskFault) shelf shelf' one one' two two' d d' e e' = (shelf' ≡ shelf) × (Rises one one' ⊎ Rises two two')
+
+-- the status of a reply, or of a call that has none
+abbrev pub status_of : Result Reply ReplyError → Status
+status_of (Ok r) = r.status
+status_of (Err reply_error.OutOfMemory) = status.OutOfMemory
+status_of (Err reply_error.ReadFault) = status.ReadFault
+status_of (Err reply_error.DiskFault) = status.DiskFault

@@ -1,5 +1,5 @@
 -- What a crash leaves of a store, and what each call of the program keeps.
-use Rattle.std.specs.Prelude.{◌⊎◌, ℕ, List}
+use Rattle.std.specs.Prelude.{◌≡◌, ◌⊎◌, ℕ, List, Option}
 use Rattle.wc_disk.specs.declared.disk.Disk as disk
 use Rattle.wc_disk.specs.Images.{LeavesOnly}
 use Rattle.wc_disk.specs.Steps.{Only}
@@ -8,6 +8,15 @@ use Rattle.wc_machine.specs.Sound.{IsSound}
 use Rattle.wc_runner.specs.Laws.{StaysSound}
 use Rattle.wc_store.specs.Held.{Standing, IsHeld, nothing, a_world}
 use Rattle.wc_store.specs.Stores.{InTwoParts, BeginsFrom}
+use Rattle.wc_cli.specs.Words.{command_of}
+use Rattle.wc_engine.specs.declared.deed.Deed.{Deed}
+use Rattle.wc_engine.specs.declared.deed.Plan.TheVariants as plan
+use Rattle.wc_engine.specs.declared.status.Status.{Status}
+use Rattle.wc_engine.specs.declared.status.Status.TheVariants as status
+use Rattle.wc_engine.specs.Owed.{OfSome}
+use Rattle.wc_engine.specs.Plans.{Plans}
+use Rattle.wc_engine.specs.Replies.{Writes}
+use Rattle.wc_engine.specs.Rows.{row}
 
 -- ---- what images hold
 
@@ -56,10 +65,50 @@ pub record LeavesPairs {D : Type 0} (g : disk.Ghosts D) (one two one_new two_new
   pub parts : InTwoParts g one two one_new two_new P
   pub one_writes : WritesOne g one two one_new two_new
 
--- what a call leaves at each of its moments
+-- what a deed leaves at each of its moments
 abbrev pub LeavesKept : {D : Type 0} → disk.Ghosts D → (begins : Type 0) → (makes : World → World → Type 0) → (one two one_new two_new : D) → Type 0
 LeavesKept g begins makes one two one_new two_new = LeavesPairs g one two one_new two_new (Kept g begins makes one two)
 
--- its two parts, where each of the pairs holds nothing or a sound world too
-abbrev pub LeavesSound : {D : Type 0} → disk.Ghosts D → (begins : Type 0) → (makes : World → World → Type 0) → (one two one_new two_new : D) → Type 0
-LeavesSound g begins makes one two one_new two_new = InTwoParts g one two one_new two_new (λ a b. Kept g begins makes one two a b × HoldsSound a b)
+-- ---- at any moment
+
+-- One disk leaves only what a crash at entry might have left. Each image of the other, at any moment of the call, has P beside each
+-- image that the first may leave at exit.
+pub record OneSide {D : Type 0} (g : disk.Ghosts D) (rest rest_new own own_new : D) (P : List ℕ → List ℕ → Type 0) : Type 0 where
+  pub rest_only : LeavesOnly g rest rest_new (g.may_leave rest)
+  pub own_only : LeavesOnly g own own_new (λ b. (a : List ℕ) → g.may_leave rest_new a → P a b)
+
+-- one of the disks, or the other, is not written
+abbrev pub AtAnyMoment : {D : Type 0} → disk.Ghosts D → (one two one_new two_new : D) → (List ℕ → List ℕ → Type 0) → Type 0
+AtAnyMoment g one two one_new two_new P = OneSide g one one_new two two_new P ⊎ OneSide g two two_new one one_new (λ b a. P a b)
+
+-- ---- by words
+
+-- what some deed that the words plan begins, and what it makes of a world
+abbrev pub BegunBy : Option (List ℕ → Option (List ℕ)) → List (List ℕ) → Type 0
+BegunBy told words = OfSome told words (λ k. k.begins)
+
+abbrev pub MadeBy : Option (List ℕ → Option (List ℕ)) → List (List ℕ) → World → World → Type 0
+MadeBy told words w v = (v ≡ w) ⊎ OfSome told words (λ k. k.makes w v)
+
+-- Each pair is one that a crash at entry might have left, or holds what the words make of what the disks read as at entry.
+abbrev pub LeavesMade : {D : Type 0} → disk.Ghosts D → Option (List ℕ → Option (List ℕ)) → List (List ℕ) → (one two one_new two_new : D) → Type 0
+LeavesMade g told words one two one_new two_new = AtAnyMoment g one two one_new two_new (Kept g (BegunBy told words) (MadeBy told words) one two)
+
+-- What a call keeps where each pair at entry holds nothing or a sound world: so do the pairs at any moment and those at exit, and no disk
+-- is told to be damaged.
+pub record StaySound {D : Type 0} (g : disk.Ghosts D) (one two one_new two_new : D) (result : Status) : Type 0 where
+  pub moments : AtAnyMoment g one two one_new two_new HoldsSound
+  pub exit : EachPair g one_new two_new HoldsSound
+  pub whole : (disk at : ℕ) (found : Option ℕ) → result ≡ status.Damaged disk at found → ⊥
+
+-- What stands after some deed that the words plan was done, of which this was written: nothing is pending, and each pair of images holds a
+-- world, the one that the disks read as, of which this is acknowledged.
+pub record Stands {D : Type 0} (g : disk.Ghosts D) (told : Option (List ℕ → Option (List ℕ))) (words : List (List ℕ)) (one two : D)
+    (taken taken_new : Option (List ℕ)) : Type 0 where
+  pub deed : Deed
+  pub plans : Plans told (command_of words) (plan.On deed)
+  pub text : List ℕ
+  pub written : Writes text taken taken_new
+  pub world : World
+  pub held : EachPair g one two (λ a b. IsHeld a b (a_world world))
+  pub acknowledged : (row deed).acknowledges text world

@@ -1,11 +1,11 @@
 -- What is written, and the status once it is.
-use Rattle.std.specs.Prelude.{ℕ, List}
+use Rattle.std.specs.Prelude.{◌≡◌, ℕ, List, ◌++◌, Option, option_map}
 use Rattle.wc_engine.specs.declared.reply.Reply.{Reply}
 use Rattle.wc_engine.specs.declared.status.Cause.{Cause}
 use Rattle.wc_engine.specs.declared.status.Status.{Status}
 use Rattle.wc_engine.specs.declared.status.Status.TheVariants as status
-use Rattle.wc_engine.specs.declared.storing.Opened.{Opened}
-use Rattle.wc_engine.specs.declared.storing.Opened.TheVariants as opened
+use Rattle.wc_engine.specs.declared.opening.Opened.{Opened}
+use Rattle.wc_engine.specs.declared.opening.Opened.TheVariants as opened
 use Rattle.wc_engine.specs.Texts.{refusal_text}
 
 abbrev pub code_of : Status → ℕ
@@ -55,3 +55,17 @@ IsRefused (status.Refused c) = Unit {0}
 IsRefused (status.Damaged disk at found) = Unit {0}
 IsRefused (status.Full what count limit) = Unit {0}
 IsRefused _ = ⊥
+
+-- ---- how a call ends
+
+-- the bytes were written behind what was there, where the sink tells
+abbrev pub Writes : List ℕ → Option (List ℕ) → Option (List ℕ) → Type 0
+Writes bytes old new = new ≡ option_map (λ before. before ++ bytes) old
+
+-- the status is that of a reply, where there was neither want of memory nor a fault of the shelf, a disk or the sink
+abbrev pub OwesStatus : Status → Status → Type 0
+OwesStatus owed status.OutOfMemory = Unit {0}
+OwesStatus owed status.DiskFault = Unit {0}
+OwesStatus owed status.ReadFault = Unit {0}
+OwesStatus owed status.WriteFault = Unit {0}
+OwesStatus owed ended = ended ≡ owed

@@ -75,3 +75,21 @@ pub record IsForLater (before : Images) (w : World) (after : Images) (r : Reply)
 -- `run`
 abbrev pub Runs : Images → World → Images → Reply → Type 0
 Runs before w after r = IsForLater before w after r ⊎ ((find (λ p. not (is_plain p)) w.records ≡ None) × RunsTo before w after r)
+
+-- Turns led from some world to another, where the store would be too full with the turn of a ready process, by some journal.
+pub record HasFilled (w v : World) (r : Reply) : Type 0 where
+  pub left : v.batches < w.batches + usual_turns
+  pub what : What
+  pub count : ℕ
+  pub limit : ℕ
+  pub pid : ℕ
+  pub ready : is_ready_at v pid 0 ≡ true
+  pub journal : Journal
+  pub refused : RefusesStep journal usual_limits v pid (Full what count limit)
+  pub reply : r ≡ is_full what count limit
+
+-- what is replied at a world: the first process that is no function, or may take another's outcome, is told, or turns led to another world
+abbrev pub MayRun : Reply → Type 0
+MayRun r = (w : World) × (
+    ((first : ProcessRecord) × (find (λ p. not (is_plain p)) w.records ≡ Some first) × (r ≡ refuses (cause.Later first.definition)))
+    ⊎ ((v : World) × TakesTurns usual_limits.poll_ms usual_turns w v × (HasRun w v r ⊎ HasFilled w v r)))

@@ -1,6 +1,5 @@
 -- What the commands of a store do: from what the two disks read as at entry to what they read as at exit, with the reply.
 use Rattle.std.specs.Prelude.{◌≡◌, ◌⊎◌, ◌≤◌, ℕ, ◌+◌, List, [], ◌∷◌, length, Option, Some, None}
-use Rattle.wc_value.specs.declared.process.Tree.{Tree}
 use Rattle.wc_journal.specs.declared.error.Found.{Found}
 use Rattle.wc_journal.specs.declared.error.Found.TheVariants.{Byte, End}
 use Rattle.wc_journal.specs.declared.journal.Journal.{Journal}
@@ -9,9 +8,7 @@ use Rattle.wc_record.specs.Spelled.{spelled}
 use Rattle.wc_state.specs.declared.record.Limits.{Limits}
 use Rattle.wc_state.specs.declared.record.What.{What}
 use Rattle.wc_world.specs.World.{World, empty}
-use Rattle.wc_world.specs.Records.{find_record}
 use Rattle.wc_world.specs.Snapshot.{snapshot}
-use Rattle.wc_world.specs.Trees.{recorded_tree}
 use Rattle.wc_store.specs.declared.error.StoreError.TheVariants.{Full}
 use Rattle.wc_store.specs.declared.place.Place.{Place}
 use Rattle.wc_store.specs.declared.place.Place.TheVariants.{One}
@@ -22,8 +19,6 @@ use Rattle.wc_store.specs.Held.{Standing, IsHeld, nothing, damage, a_world}
 use Rattle.wc_store.specs.Preparing.{HasGeneration}
 use Rattle.wc_store.specs.Refusals.{RefusesPack, byte_limit}
 use Rattle.wc_report.specs.Lines.{initialised_text, packed_text, damaged_text, full_text}
-use Rattle.wc_report.specs.Lists.{list_text}
-use Rattle.wc_report.specs.Trees.{tree_text}
 use Rattle.wc_engine.specs.declared.reply.Reply.{Reply}
 use Rattle.wc_engine.specs.declared.status.Cause.TheVariants as cause
 use Rattle.wc_engine.specs.declared.status.Status.TheVariants as status
@@ -113,20 +108,6 @@ AtStore before does (a_world w) after r = does w after r
 
 abbrev pub OnStore : (Images → World → Images → Reply → Type 0) → Images → Images → Reply → Type 0
 OnStore does before after r = (s : Standing) × Hold before s × AtStore before (does before) s after r
-
--- `list`: each process has its line
-abbrev pub Lists : Images → World → Images → Reply → Type 0
-Lists before w after r = (after ≡ before) × (r ≡ prints (list_text w.records))
-
--- a process is shown by its recorded tree, if there is such a process
-abbrev pub ShowsTree : ℕ → World → Reply → Type 0
-ShowsTree pid w r =
-    ((find_record pid w.records ≡ None) × (r ≡ refuses (cause.UnknownProcess pid)))
-    ⊎ ((t : Tree) × (recorded_tree w pid ≡ Some t) × (r ≡ prints (tree_text t)))
-
--- `tree PID`
-abbrev pub Shows : ℕ → Images → World → Images → Reply → Type 0
-Shows pid before w after r = (after ≡ before) × ShowsTree pid w r
 
 -- The generation and the snapshot of the world are within the limits. The other disk than the one at the place has a journal of the next
 -- generation with the snapshot alone, which the images then hold, and the disk at the place reads as before.

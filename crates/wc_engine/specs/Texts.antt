@@ -58,6 +58,7 @@ cause_text (cause.Later name) = codes "later " ++ name
 cause_text cause.NoStore = codes "no store"
 cause_text cause.StoreExists = codes "store exists"
 cause_text (cause.UnknownProcess pid) = codes "unknown process " ++ decimal pid
+cause_text (cause.UnknownNode node) = codes "unknown node " ++ decimal node
 
 abbrev pub refusal_text : Cause → List ℕ
 refusal_text c = codes "refused: " ++ cause_text c ++ 10 ∷ []

@@ -24,7 +24,7 @@ pub fn files_are_read_as_one_thing()
         → Prepares file content name given p → Prepares file content name given q → p ≡ q }
 {}
 
-/// Two empty disks hold nothing, so they meet what the headline asks of each pair of images at entry.
+/// Two empty disks hold nothing, so they meet what the clause `sound` of `serve` asks of each pair of images at entry.
 pub fn empty_disks_hold_nothing()
     ensures nothing { IsHeld [] [] nothing }
     ensures meets { HoldsSound [] [] }

@@ -1,23 +1,34 @@
 //! The top call of the program.
 #![tactic(auto)]
 
-mod answering;
-mod entering;
+mod acting;
+mod beginning;
+mod commands;
+mod deed;
+mod error;
+mod events;
 mod given;
 mod laws;
+mod opening;
+mod packing;
+mod planning;
 mod reading;
 mod reply;
 mod running;
 mod serving;
 mod status;
-mod storing;
 mod submission;
 mod text;
+mod views;
 
+pub use acting::act;
+pub use deed::{Asked, Begin, Deed, Plan, Work};
+pub use error::{ActError, PlanError, ReplyError};
 pub use given::{find_bad_given, read_given};
 pub use laws::{empty_disks_hold_nothing, files_are_read_as_one_thing};
+pub use planning::plan;
 pub use reading::{Read, read_content};
-pub use reply::{Reply, ReplyError};
+pub use reply::Reply;
 pub use serving::serve;
 pub use status::{Cause, Status};
 pub use submission::{Prepared, Submission, prepare};

@@ -35,6 +35,8 @@ pub enum Cause {
     StoreExists,
     /// The store has no process of this number.
     UnknownProcess(u32),
+    /// The store has no node of this number.
+    UnknownNode(u32),
 }
 
 /// How a call of the program ended.

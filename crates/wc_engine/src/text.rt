@@ -93,6 +93,7 @@ fn cause_name(alloc: Global, cause: &Cause) -> Result<String, AllocError>
         Cause::NoStore => String::from_str(alloc, "no store"),
         Cause::StoreExists => String::from_str(alloc, "store exists"),
         Cause::UnknownProcess(pid) => format!(in alloc; "unknown process {pid}"),
+        Cause::UnknownNode(node) => format!(in alloc; "unknown node {node}"),
     }
 }
 

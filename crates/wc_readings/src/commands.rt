@@ -3,7 +3,7 @@
 use crate::rows::same;
 use std::alloc::Global;
 use std::test::Fail;
-use wc_cli::{Command, Givens, command_of};
+use wc_cli::{Command, Givens, View, command_of};
 use wc_value::{Text, Words};
 
 /// The words of a line in which single spaces part them.
@@ -51,8 +51,10 @@ fn shown(alloc: Global, line: &str) -> Result<String, Fail> {
         Command::Init => Ok(String::from_str(alloc, "init")?),
         Command::Submit { file, name, given } => shown_call(alloc, "submit", &file, &name, &given),
         Command::Run => Ok(String::from_str(alloc, "run")?),
-        Command::List => Ok(String::from_str(alloc, "list")?),
-        Command::Tree { pid } => Ok(format!(in alloc; "tree {pid}")?),
+        Command::View(View::List) => Ok(String::from_str(alloc, "list")?),
+        Command::View(View::Tree { pid }) => Ok(format!(in alloc; "tree {pid}")?),
+        Command::View(View::Show { node }) => Ok(format!(in alloc; "show {node}")?),
+        Command::View(View::Graph) => Ok(String::from_str(alloc, "graph")?),
         Command::Pack => Ok(String::from_str(alloc, "pack")?),
     }
 }
@@ -105,7 +107,7 @@ const REFUSED: [&str; 24] = [
 ];
 
 /// Lines with their commands of a store.
-const OF_A_STORE: [(&str, &str); 28] = [
+const OF_A_STORE: [(&str, &str); 34] = [
     ("init", "init"),
     ("init f", "words"),
     ("submit f add x=2 y=", "submit f add x<2 y<"),
@@ -131,6 +133,12 @@ const OF_A_STORE: [(&str, &str); 28] = [
     ("tree -- -1", "words"),
     ("tree 1x", "words"),
     ("tree 1 2", "words"),
+    ("show 7", "show 7"),
+    ("show", "words"),
+    ("show 0", "words"),
+    ("show 1 2", "words"),
+    ("graph", "graph"),
+    ("graph 1", "words"),
     ("pack", "pack"),
     ("pack --", "pack"),
     ("pack f", "words"),

@@ -137,6 +137,7 @@ pub enum End {
     NoStore,
     StoreExists,
     UnknownProcess(u32),
+    UnknownNode(u32),
     OtherRefusal,
     OutOfMemory,
     Spent,
@@ -159,6 +160,7 @@ fn refusal(cause: &Cause) -> End {
         Cause::NoStore => End::NoStore,
         Cause::StoreExists => End::StoreExists,
         Cause::UnknownProcess(pid) => End::UnknownProcess(*pid),
+        Cause::UnknownNode(node) => End::UnknownNode(*node),
         _ => End::OtherRefusal,
     }
 }

@@ -5,7 +5,7 @@ use crate::session::{End, Row};
 use crate::wrong::Wrong;
 
 /// One function, from an empty store to its tree.
-const SESSION: [Row; 10] = [
+const SESSION: [Row; 16] = [
     ("init", End::Ok, "initialised\n"),
     ("list", End::Ok, ""),
     ("submit add.wcf add x=2 y=3", End::Ok, "submitted 3\n"),
@@ -19,6 +19,20 @@ const SESSION: [Row; 10] = [
         "tree 1",
         End::UnknownProcess(1),
         "refused: unknown process 1\n",
+    ),
+    (
+        "show 3",
+        End::Ok,
+        "3 calcfunction add finished 0\npaused no\ncaller none\ncached_from none\ninput x 1\ninput y 2\noutput sum 4\n",
+    ),
+    ("show 4", End::Ok, "4 data int 5\ncreator 3\n"),
+    ("show 1", End::Ok, "1 data int 2\ncreator none\n"),
+    ("show 5", End::UnknownNode(5), "refused: unknown node 5\n"),
+    ("show 0", End::Words, "refused: words\n"),
+    (
+        "graph",
+        End::Ok,
+        "node 1 data int 2\nnode 2 data int 3\nnode 3 calcfunction add\nnode 4 data int 5\nlink 1 3 INPUT_CALC x\nlink 2 3 INPUT_CALC y\nlink 3 4 CREATE sum\n",
     ),
 ];
 

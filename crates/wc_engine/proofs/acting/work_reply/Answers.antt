@@ -1,0 +1,36 @@
+use Rattle.std.proofs.Common.{Bool, IsTrue, sym, subst}
+use Rattle.wc_engine.specs.Opening.{Opens}
+use Rattle.wc_engine.specs.Rows.{work_row}
+use Rattle.wc_engine.specs.declared.opening.Opened.{Opened}
+use Rattle.wc_engine.proofs.Doing.{held_before, goes_does}
+use Rattle.wc_engine.proofs.Leaving.{goes_on}
+use Rattle.wc_engine.proofs.Unwriting.{then_untouched}
+use Rattle.wc_engine.proofs.acting.work_reply.Goals as goal
+
+pub returns-in-Held-clause-does : goal.returns-in-Held-clause-does
+returns-in-Held-clause-does g c =
+    let one = c.args.one.now in
+    let two = c.args.two.now in
+    let k = work_row c.args.work in
+    let P : Opened → Type 0 = λ o. IsTrue (g.D.Disk.tells one) → IsTrue (g.D.Disk.tells two) → Opens g.D.Disk one two c.open_store.new.one c.open_store.new.two o in
+    goes_does g.D.Disk k.may k.does c.in-Held.store one two c.open_store.new.one c.open_store.new.two c.worked.new.one c.worked.new.two c.worked.result
+    (subst P c.in-Held.is c.in_ok-reply.ensures.opens) c.open_store.ensures.tells.0 c.open_store.ensures.tells.1 c.worked.ensures.may c.worked.ensures.does
+
+pub returns-in-Held-clause-kept : goal.returns-in-Held-clause-kept
+returns-in-Held-clause-kept g c =
+    λ told told_too.
+    let one = c.args.one.now in
+    let two = c.args.two.now in
+    let store = c.in-Held.store in
+    let P : Opened → Type 0 = λ o. IsTrue (g.D.Disk.tells one) → IsTrue (g.D.Disk.tells two) → Opens g.D.Disk one two c.open_store.new.one c.open_store.new.two o in
+    let opens = subst P c.in-Held.is c.in_ok-reply.ensures.opens told told_too in
+    let tells = c.open_store.ensures.tells in
+    goes_on g.D.Disk g.met.D.Disk.only_now g.met.D.Disk.counts_now ⊥ (work_row c.args.work).makes store.world.world one two c.open_store.new.one c.open_store.new.two c.worked.new.one c.worked.new.two
+    (held_before g.D.Disk store one two c.open_store.new.one c.open_store.new.two opens) c.open_store.ensures.any_moment_one c.open_store.ensures.any_moment_two
+    (c.worked.ensures.kept (subst (λ (b : Bool). IsTrue b) (sym tells.0) told) (subst (λ (b : Bool). IsTrue b) (sym tells.1) told_too))
+
+pub returns-in-Held-clause-undone : goal.returns-in-Held-clause-undone
+returns-in-Held-clause-undone g c =
+    λ ends told told_too.
+    then_untouched g.D.Disk c.args.one.now c.args.two.now c.open_store.new.one c.open_store.new.two c.worked.new.one c.worked.new.two c.open_store.ensures.unwritten
+    (c.worked.ensures.untouched ends)

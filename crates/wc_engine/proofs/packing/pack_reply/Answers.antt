@@ -1,0 +1,60 @@
+use Rattle.std.proofs.Common.{inl, ℕ, ap, subst, ◌∙◌}
+use Rattle.wc_report.specs.Lines.{packed_text}
+use Rattle.wc_engine.specs.Replies.{prints}
+use Rattle.wc_engine.proofs.Doing.{has_packed, refused_pack}
+use Rattle.wc_engine.proofs.Leaving.{packed}
+use Rattle.wc_engine.specs.declared.reply.Reply.{Reply}
+use Rattle.wc_engine.specs.Undone.{IsBeforePacking}
+use Rattle.wc_engine.proofs.Shaping.{refused_packing}
+use Rattle.wc_engine.proofs.Unwriting.{refused_untouched}
+use Rattle.wc_engine.proofs.packing.pack_reply.Goals as goal
+
+pub returns-in_err-packed_text-in-Ok-clause-kept : goal.returns-in_err-packed_text-in-Ok-clause-kept
+returns-in_err-packed_text-in-Ok-clause-kept g c =
+    λ told told_too.
+    packed g.D.Disk g.met.D.Disk.only_now c.worlds_are_kept.ensures.reached c.worlds_are_kept.ensures.same c.args.store c.args.one.now c.args.two.now (c.requires.stands told told_too) c.pack.new.one c.pack.new.two
+    (c.pack.ensures.any_moment told told_too)
+
+pub returns-in-Ok-clause-does : goal.returns-in-Ok-clause-does
+returns-in-Ok-clause-does g c =
+    λ told told_too.
+    has_packed g.D.Disk c.args.store c.pack.new.self c.in-Ok.generation _ c.args.one.now c.args.two.now c.pack.new.one c.pack.new.two c.print.result (c.requires.stands told told_too)
+    (c.pack.ensures.still c.in-Ok.ensures.live told told_too) c.in-Ok.ensures.fits (c.pack.ensures.any_moment told told_too).untouched
+    (c.in-Ok.ensures.written told told_too) c.pack.ensures.world c.in-Ok.ensures.generation.0 c.in-Ok.ensures.generation.1
+    (c.print.ensures ∙ ap prints c.in_ok-packed_text-in-Ok.ensures)
+
+pub returns-in-Ok-clause-kept : goal.returns-in-Ok-clause-kept
+returns-in-Ok-clause-kept g c =
+    λ told told_too.
+    packed g.D.Disk g.met.D.Disk.only_now c.worlds_are_kept.ensures.reached c.worlds_are_kept.ensures.same c.args.store c.args.one.now c.args.two.now (c.requires.stands told told_too) c.pack.new.one c.pack.new.two
+    (c.pack.ensures.any_moment told told_too)
+
+pub returns-clause-does : goal.returns-clause-does
+returns-clause-does g c =
+    refused_pack g.D.Disk ℕ c.args.store c.in-Err.error c.args.one.now c.args.two.now c.pack.new.one c.pack.new.two c.refused.result c.requires.stands
+    c.in-Err.ensures.refused c.in-Err.ensures.untouched_one c.in-Err.ensures.untouched_two c.refused.ensures.reply
+
+pub returns-clause-kept : goal.returns-clause-kept
+returns-clause-kept g c =
+    λ told told_too.
+    packed g.D.Disk g.met.D.Disk.only_now c.worlds_are_kept.ensures.reached c.worlds_are_kept.ensures.same c.args.store c.args.one.now c.args.two.now (c.requires.stands told told_too) c.pack.new.one c.pack.new.two
+    (c.pack.ensures.any_moment told told_too)
+
+pub returns-in-Ok-clause-may : goal.returns-in-Ok-clause-may
+returns-in-Ok-clause-may g c =
+    let s = c.args.store in (
+      s.journal.generation,
+      s.world.world,
+      inl (c.in-Ok.ensures.fits, c.print.ensures ∙ ap prints (c.in_ok-packed_text-in-Ok.ensures ∙ ap packed_text c.in-Ok.ensures.generation.0)),
+    )
+
+pub returns-clause-may : goal.returns-clause-may
+returns-clause-may g c = refused_packing c.args.store.journal.generation c.args.store.world.world c.in-Err.error c.refused.result c.in-Err.ensures.refused c.refused.ensures.reply
+
+pub returns-in-Ok-clause-untouched : goal.returns-in-Ok-clause-untouched
+returns-in-Ok-clause-untouched g c = λ ends. absurd (subst (λ (r : Reply). IsBeforePacking r.status) c.print.ensures ends)
+
+pub returns-clause-untouched : goal.returns-clause-untouched
+returns-clause-untouched g c =
+    refused_untouched g.D.Disk ℕ IsBeforePacking (λ never. never) c.in-Err.error c.args.one.now c.args.two.now c.pack.new.one c.pack.new.two c.in-Err.ensures.untouched_one
+    c.in-Err.ensures.untouched_two c.refused.result c.refused.ensures.fault

@@ -1,0 +1,37 @@
+-- What a view of a world replies.
+use Rattle.std.specs.Prelude.{◌≡◌, ◌⊎◌, ℕ, List, Option, Some, None}
+use Rattle.wc_value.specs.declared.process.Tree.{Tree}
+use Rattle.wc_world.specs.World.{World}
+use Rattle.wc_world.specs.Records.{find_record}
+use Rattle.wc_world.specs.Trees.{recorded_tree}
+use Rattle.wc_report.specs.Lists.{list_text}
+use Rattle.wc_report.specs.Trees.{tree_text}
+use Rattle.wc_show.specs.Shows.{show_text, graph_text}
+use Rattle.wc_cli.specs.declared.command.View.{View}
+use Rattle.wc_cli.specs.declared.command.View.TheVariants as view
+use Rattle.wc_engine.specs.declared.reply.Reply.{Reply}
+use Rattle.wc_engine.specs.declared.status.Cause.TheVariants as cause
+use Rattle.wc_engine.specs.Replies.{refuses, prints}
+use Rattle.wc_engine.specs.Stored.{Images}
+
+-- a process is shown by its recorded tree, if there is such a process
+abbrev pub ShowsTree : ℕ → World → Reply → Type 0
+ShowsTree pid w r =
+    ((find_record pid w.records ≡ None) × (r ≡ refuses (cause.UnknownProcess pid)))
+    ⊎ ((t : Tree) × (recorded_tree w pid ≡ Some t) × (r ≡ prints (tree_text t)))
+
+-- a node is shown, if there is such a node
+abbrev pub node_reply : ℕ → Option (List ℕ) → Reply
+node_reply node None = refuses (cause.UnknownNode node)
+node_reply node (Some text) = prints text
+
+-- each process has its line; a process has its tree; a node has its lines; each node and each link has its line
+abbrev pub Shows : View → World → Reply → Type 0
+Shows view.List w r = r ≡ prints (list_text w.records)
+Shows (view.Tree pid) w r = ShowsTree pid w r
+Shows (view.Show node) w r = r ≡ node_reply node (show_text w node)
+Shows view.Graph w r = r ≡ prints (graph_text w)
+
+-- the disks read as before
+abbrev pub ShowsStill : View → Images → World → Images → Reply → Type 0
+ShowsStill v before w after r = (after ≡ before) × Shows v w r

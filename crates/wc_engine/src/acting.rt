@@ -1,0 +1,92 @@
+//! What a deed does with two disks. No shelf is in scope.
+
+ghost use Rattle.std.specs.Prelude.{◌≡◌, true, IsTrue, IfOk};
+ghost use Rattle.wc_store.specs.Stores.{StandsFor};
+ghost use Rattle.wc_engine.specs.Calls.{CountsDisks};
+ghost use Rattle.wc_engine.specs.Crashes.{AreDurable, HoldsKeeping, LeavesKept, LeavesPairs};
+ghost use Rattle.wc_engine.specs.Owed.{visit, OwedDeed};
+ghost use Rattle.wc_engine.specs.Plans.{IsReadyDeed, IsReadyWork};
+ghost use Rattle.wc_engine.specs.Replies.{IsDoneOrFull};
+ghost use Rattle.wc_engine.specs.Rows.{row, work_row};
+ghost use Rattle.wc_engine.specs.Undone.{EndsWith, LeavesUnwritten};
+ghost use Rattle.wc_engine.specs.declared.deed.Deed.TheVariants.{Work as OnStore};
+
+use crate::beginning::init_reply;
+use crate::deed::{Begin, Deed, Work};
+use crate::error::ActError;
+use crate::events::event_reply;
+use crate::laws::worlds_are_kept;
+use crate::opening::{Opened, open_store};
+use crate::packing::pack_reply;
+use crate::reply::Reply;
+use crate::running::run_reply;
+use crate::views::view_reply;
+use std::alloc::Global;
+use wc_disk::Disk;
+use wc_store::Store;
+
+/// The reply of what is done on a store.
+fn worked<D: Disk>(
+    alloc: Global,
+    store: Store,
+    work: Work,
+    one: &mut D,
+    two: &mut D,
+) -> Result<Reply, ActError>
+    requires ready { IsReadyWork work }
+    requires live { store.live ≡ true }
+    requires stands { IsTrue (D.tells one.old) → IsTrue (D.tells two.old) → StandsFor D.Disk store one.old two.old }
+    ensures does { IfOk result (λ r. IsTrue (D.tells one.old) → IsTrue (D.tells two.old)
+        → (work_row work).does (D.seen one.old, D.seen two.old) store.world.world (D.seen one.new, D.seen two.new) r) }
+    ensures may { IfOk result (λ r. (work_row work).may r) }
+    ensures kept { IsTrue (D.tells one.old) → IsTrue (D.tells two.old) → LeavesPairs D.Disk one.old two.old one.new two.new (HoldsKeeping (work_row work).makes store.world.world) }
+    ensures durable { IfOk result (λ r. IsTrue (D.tells one.old) → IsTrue (D.tells two.old) → AreDurable D.Disk one.new two.new) }
+    ensures tells { (D.tells one.new ≡ D.tells one.old) × (D.tells two.new ≡ D.tells two.old) }
+    ensures untouched { EndsWith (work_row work).undone result → (one.new ≡ one.old) × (two.new ≡ two.old) }
+    ensures cause { CountsDisks result (D.faults one.old) (D.faults one.new) (D.faults two.old) (D.faults two.new) }
+{
+    worlds_are_kept();
+    match work {
+        Work::View(view) => Ok(view_reply(alloc, store.world(), view)?),
+        Work::Event(asked) => event_reply(alloc, store, asked, one, two),
+        Work::Run => run_reply(alloc, store, one, two),
+        Work::Pack => pack_reply(alloc, store, one, two),
+    }
+}
+
+/// The reply of what is done on the store that the disks hold, if they hold one.
+fn work_reply<D: Disk>(
+    alloc: Global,
+    work: Work,
+    one: &mut D,
+    two: &mut D,
+) -> Result<Reply, ActError>
+    requires ready { IsReadyWork work }
+    ensures does { IfOk result (λ r. OwedDeed (visit D.Disk one.old two.old one.new two.new) (OnStore work) r) }
+    ensures kept { IsTrue (D.tells one.old) → IsTrue (D.tells two.old) → LeavesKept D.Disk (row (OnStore work)).begins (row (OnStore work)).makes one.old two.old one.new two.new }
+    ensures durable { IfOk result (λ r. IsDoneOrFull r.status → IsTrue (D.tells one.old) → IsTrue (D.tells two.old) → AreDurable D.Disk one.new two.new) }
+    ensures tells { (D.tells one.new ≡ D.tells one.old) × (D.tells two.new ≡ D.tells two.old) }
+    ensures undone { EndsWith (row (OnStore work)).undone result → IsTrue (D.tells one.old) → IsTrue (D.tells two.old) → LeavesUnwritten D.Disk one.old two.old one.new two.new }
+    ensures cause { CountsDisks result (D.faults one.old) (D.faults one.new) (D.faults two.old) (D.faults two.new) }
+{
+    match open_store(alloc, one, two)? {
+        Opened::Told(reply) => Ok(reply),
+        Opened::Held(store) => worked(alloc, store, work, one, two),
+    }
+}
+
+/// The reply of a deed.
+pub fn act<D: Disk>(alloc: Global, deed: Deed, one: &mut D, two: &mut D) -> Result<Reply, ActError>
+    requires ready { IsReadyDeed deed }
+    ensures does { IfOk result (λ r. OwedDeed (visit D.Disk one.old two.old one.new two.new) deed r) }
+    ensures kept { IsTrue (D.tells one.old) → IsTrue (D.tells two.old) → LeavesKept D.Disk (row deed).begins (row deed).makes one.old two.old one.new two.new }
+    ensures durable { IfOk result (λ r. IsDoneOrFull r.status → IsTrue (D.tells one.old) → IsTrue (D.tells two.old) → AreDurable D.Disk one.new two.new) }
+    ensures tells { (D.tells one.new ≡ D.tells one.old) × (D.tells two.new ≡ D.tells two.old) }
+    ensures undone { EndsWith (row deed).undone result → IsTrue (D.tells one.old) → IsTrue (D.tells two.old) → LeavesUnwritten D.Disk one.old two.old one.new two.new }
+    ensures cause { CountsDisks result (D.faults one.old) (D.faults one.new) (D.faults two.old) (D.faults two.new) }
+{
+    match deed {
+        Deed::Begin(Begin::Init) => init_reply(alloc, one, two),
+        Deed::Work(work) => work_reply(alloc, work, one, two),
+    }
+}

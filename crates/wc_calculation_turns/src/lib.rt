@@ -1,0 +1,10 @@
+//! The turns of calculations as changes of a world: functions and jobs, with caching.
+#![tactic(auto)]
+
+mod courses;
+mod ending;
+mod starting;
+mod turning;
+mod waiting;
+
+pub use turning::calculation_turn;

@@ -1,0 +1,4 @@
+pub mod Known
+pub mod Called
+pub mod Coming
+pub mod Turned

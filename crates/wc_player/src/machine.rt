@@ -1,0 +1,129 @@
+//! A machine on which the program is called: a shelf, a sink and two disks in memory.
+
+use crate::called::Called;
+use crate::disks::{Disks, bytes_of};
+use crate::letting::{both, put};
+use crate::program::{Program, Sipping};
+use std::alloc::{AllocError, Global};
+use wc_io::{MemoryShelf, MemorySink};
+use wc_transcript::{Left, Side};
+use wc_value::{Bytes, Duplicate, Files, List, Text, Words};
+
+/// A shelf, a sink and two disks on which the program is called.
+#[derive(Drop)]
+pub struct Machine {
+    alloc: Global,
+    files: Files,
+    shelf: MemoryShelf,
+    sink: Sipping,
+    /// The disks.
+    pub disks: Disks,
+}
+
+/// An empty sink that takes at most so many bytes in a call.
+fn sink_of(alloc: Global, most: usize, failing: List<u64>) -> Sipping {
+    Sipping {
+        inner: MemorySink::new(alloc, failing),
+        most,
+    }
+}
+
+impl Machine {
+    /// A machine with no file and two empty disks.
+    pub fn new(alloc: Global) -> Machine {
+        Machine {
+            alloc,
+            files: Files::new(alloc),
+            shelf: MemoryShelf::new(Files::new(alloc), List::new(alloc)),
+            sink: sink_of(alloc, usize::MAX, List::new(alloc)),
+            disks: Disks::new(alloc),
+        }
+    }
+
+    /// A machine that holds the same beside these disks, and of which no call fails.
+    fn with(&self, disks: Disks) -> Result<Machine, AllocError> {
+        let alloc = self.alloc;
+        let (disks, files) = both(disks, self.files.copy())?;
+        let ((disks, files), given) = both((disks, files), self.files.copy())?;
+        Ok(Machine {
+            alloc,
+            files,
+            shelf: MemoryShelf::new(given, List::new(alloc)),
+            sink: sink_of(alloc, self.sink.most, List::new(alloc)),
+            disks,
+        })
+    }
+
+    /// A machine that holds the same, of which no call fails. All that the disks hold counts as synced.
+    pub fn copy(&self) -> Result<Machine, AllocError> {
+        self.with(self.disks.copy(self.alloc)?)
+    }
+
+    /// What a crash of both disks leaves, where each is picked so.
+    pub fn crashed(&self, one: Left, two: Left) -> Result<Machine, AllocError> {
+        self.with(self.disks.crashed(self.alloc, one, two)?)
+    }
+
+    /// What the machine takes its memory from.
+    pub fn alloc(&self) -> Global {
+        self.alloc
+    }
+
+    /// A disk holds these bytes.
+    pub fn set_bytes(&mut self, side: Side, bytes: Bytes) {
+        let none = List::new(self.alloc);
+        self.disks.set(self.alloc, side, bytes, none);
+    }
+
+    /// These calls of a disk fail, counted from now on.
+    pub fn fail_disk(&mut self, side: Side, failing: List<u64>) -> Result<(), AllocError> {
+        let bytes = bytes_of(self.alloc, self.disks.bytes(side))?;
+        self.disks.set(self.alloc, side, bytes, failing);
+        Ok(())
+    }
+
+    /// These calls of the shelf fail, counted from now on.
+    pub fn fail_shelf(&mut self, failing: List<u64>) -> Result<(), AllocError> {
+        let (failing, files) = both(failing, self.files.copy())?;
+        put(&mut self.shelf, MemoryShelf::new(files, failing));
+        Ok(())
+    }
+
+    /// These calls of the sink fail, counted from now on.
+    pub fn fail_sink(&mut self, failing: List<u64>) {
+        let sink = sink_of(self.alloc, self.sink.most, failing);
+        put(&mut self.sink, sink);
+    }
+
+    /// The sink takes at most so many bytes in a call.
+    pub fn sip(&mut self, most: usize) {
+        self.sink.most = most;
+    }
+
+    /// The shelf has a file of this name, and none of its calls fails.
+    pub fn set_file(&mut self, name: Text, content: Bytes) -> Result<(), AllocError> {
+        self.files.set(name, content)?;
+        self.fail_shelf(List::new(self.alloc))
+    }
+
+    /// What the sink took behind so many bytes.
+    fn written_behind(&self, before: usize) -> Result<Bytes, AllocError> {
+        let all = self.sink.inner.bytes();
+        bytes_of(self.alloc, all.get(before..).unwrap_or(&[]))
+    }
+
+    /// Calls a program with these words.
+    pub fn call<P: Program>(&mut self, program: &P, words: &Words) -> Result<Called, AllocError> {
+        let before = self.sink.inner.bytes().len();
+        let status = program.call(
+            self.alloc,
+            words,
+            &mut self.shelf,
+            &mut self.sink,
+            &mut self.disks.one,
+            &mut self.disks.two,
+        );
+        let text = self.written_behind(before)?;
+        Ok(Called { status, text })
+    }
+}

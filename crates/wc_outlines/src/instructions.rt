@@ -1,11 +1,10 @@
 //! Instructions, one advance each.
 
-use crate::given::{checkpoint, env, library};
-use crate::shown::{answer_text, same};
-use std::alloc::Global;
-use std::test::Fail;
-use wc_outline::{advance, is_chain};
-use wc_state::Checkpoint;
+use crate::advances::expect;
+use crate::given::library;
+use crate::wrong::Wrong;
+use std::alloc::{AllocError, Global};
+use wc_outline::is_chain;
 use wc_syntax::Checked;
 use wc_value::Text;
 
@@ -129,67 +128,47 @@ const ROWS: [Row; 32] = [
     ),
 ];
 
-/// One advance from a checkpoint.
-fn answered(
-    alloc: Global,
-    library: &Checked,
-    name: &Text,
-    depth: u32,
-    checkpoint: &Checkpoint,
-) -> Result<String, Fail> {
-    if !is_chain(library, name) {
-        return Err(Fail::new(format_args!("no work chain")));
+/// The whole answer of a row.
+fn whole(alloc: Global, answer: &str) -> Result<String, AllocError> {
+    let mut text = String::from_str(alloc, answer)?;
+    if !answer.starts_with("ends") {
+        text.push_str(KEPT)?;
     }
-    let answer = advance(alloc, library, name, depth, checkpoint, env(alloc)?)?;
-    Ok(answer_text(alloc, &answer)?)
-}
-
-/// One advance from these frames, with so many calls made, at a depth.
-fn advanced_in(
-    alloc: Global,
-    library: &Checked,
-    places: &[(u32, u32)],
-    calls: u32,
-    depth: u32,
-) -> Result<String, Fail> {
-    let name = Text::of_str(alloc, "w")?;
-    let checkpoint = checkpoint(alloc, places, calls)?;
-    answered(alloc, library, &name, depth, &checkpoint)
-}
-
-/// The same of a chain with this outline.
-pub fn advanced(
-    alloc: Global,
-    outline: &str,
-    places: &[(u32, u32)],
-    calls: u32,
-    depth: u32,
-) -> Result<String, Fail> {
-    let library = library(alloc, outline)?;
-    advanced_in(alloc, &library, places, calls, depth)
-}
-
-fn all_advance(alloc: Global, rows: &[Row<'_>]) -> Result<(), Fail> {
-    for (outline, places, wanted) in rows {
-        let found = advanced(alloc, outline, places, 2, 1)?;
-        let kept = if wanted.starts_with("ends") { "" } else { KEPT };
-        let wanted = format!(in alloc; "{wanted}{kept}")?;
-        same(outline, found.as_str(), wanted.as_str())?;
-    }
-    Ok(())
+    Ok(text)
 }
 
 #[test]
-fn one_instruction_is_evaluated(rt: HostRuntime) -> Result<(), Fail> {
+fn one_instruction_is_evaluated(rt: HostRuntime) -> Result<(), Wrong> {
     all_advance(rt.alloc(), &ROWS)
 }
 
-/// A name that is no work chain's.
-#[test]
-fn functions_are_no_chains(rt: HostRuntime) -> Result<(), Fail> {
-    let library = library(rt.alloc(), "")?;
-    assert!(rt; is_chain(&library, &Text::of_str(rt.alloc(), "w")?));
-    assert!(rt; !is_chain(&library, &Text::of_str(rt.alloc(), "add")?));
-    assert!(rt; !is_chain(&library, &Text::of_str(rt.alloc(), "v")?));
+fn all_advance(alloc: Global, rows: &[Row<'_>]) -> Result<(), Wrong> {
+    for (outline, places, answer) in rows {
+        let wanted = whole(alloc, answer)?;
+        expect(alloc, outline, places, 2, 1, wanted.as_str())?;
+    }
     Ok(())
+}
+
+/// Names, and whether a work chain has them.
+const NAMES: [(&str, bool); 3] = [("w", true), ("add", false), ("v", false)];
+
+/// Whether each name is one of a work chain exactly where its row says so.
+fn are_told_apart(alloc: Global, library: &Checked) -> Result<bool, AllocError> {
+    for (name, wanted) in &NAMES {
+        if is_chain(library, &Text::of_str(alloc, name)?) != *wanted {
+            return Ok(false);
+        }
+    }
+    Ok(true)
+}
+
+#[test]
+fn functions_are_no_chains(rt: HostRuntime) -> Result<(), Wrong> {
+    let library = library(rt.alloc(), "")?;
+    match are_told_apart(rt.alloc(), &library) {
+        Ok(true) => Ok(()),
+        Ok(false) => Err(Wrong::Not("a function is no work chain")),
+        Err(_) => Err(Wrong::OutOfMemory),
+    }
 }

@@ -3,6 +3,8 @@
 #![tactic(auto)]
 
 #[cfg(test)]
+mod advances;
+#[cfg(test)]
 mod bindings;
 #[cfg(test)]
 mod given;
@@ -12,3 +14,5 @@ mod instructions;
 mod shown;
 #[cfg(test)]
 mod steps;
+#[cfg(test)]
+mod wrong;

@@ -1,149 +1,180 @@
 //! What an advance answers, as text.
 
 use std::alloc::{AllocError, Global};
-use std::test::Fail;
 use wc_json::to_json;
-use wc_outline::{Advanced, Args, Argument, Calls};
+use wc_outline::{Advanced, Args, Argument, Call, Calls};
 use wc_state::{Checkpoint, Context, CtxRef, Frames, Ids, Outs};
-use wc_value::{Duplicate, ProcessState, Value};
+use wc_value::{ProcessState, Value};
 
-/// Fails where a text isn't the one that is wanted.
-pub fn same(row: &str, found: &str, wanted: &str) -> Result<(), Fail> {
-    if found == wanted {
-        Ok(())
-    } else {
-        Err(Fail::new(format_args!("{row}: {found}, and not {wanted}")))
-    }
+/// Puts a number behind a text.
+fn put_number(alloc: Global, text: &mut String, number: u32) -> Result<(), AllocError> {
+    text.push_str(format!(in alloc; "{number}")?.as_str())
 }
 
-/// The frames, each as its block and place.
-fn frames_text(alloc: Global, frames: &Frames) -> Result<String, AllocError> {
-    let mut text = String::new(alloc);
+/// Puts a value as JSON behind a text.
+fn put_value(alloc: Global, text: &mut String, value: &Value) -> Result<(), AllocError> {
+    text.push_str(to_json(alloc, value)?.as_str())
+}
+
+/// Puts the frames, each as its block and place, behind a text.
+fn put_frames(alloc: Global, text: &mut String, frames: &Frames) -> Result<(), AllocError> {
     for frame in frames.as_slice() {
-        let block = frame.block;
-        let next = frame.next;
-        text.push_str(format!(in alloc; " {block}:{next}")?.as_str())?;
+        text.push_str(" ")?;
+        put_number(alloc, text, frame.block)?;
+        text.push_str(":")?;
+        put_number(alloc, text, frame.next)?;
     }
-    Ok(text)
+    Ok(())
 }
 
-/// A value as JSON.
-fn value_text(alloc: Global, value: &Value) -> Result<String, AllocError> {
-    String::from_str(alloc, to_json(alloc, value)?.as_str())
-}
-
-/// The numbers of processes.
-fn pids_text(alloc: Global, pids: &Ids) -> Result<String, AllocError> {
-    let mut text = String::new(alloc);
+/// Puts the numbers of processes behind a text.
+fn put_pids(alloc: Global, text: &mut String, pids: &Ids) -> Result<(), AllocError> {
     for pid in pids.as_slice() {
-        text.push_str(format!(in alloc; "+{pid}")?.as_str())?;
+        text.push_str("+")?;
+        put_number(alloc, text, *pid)?;
     }
-    Ok(text)
+    Ok(())
 }
 
-/// What a key holds.
-fn held_text(alloc: Global, held: &CtxRef) -> Result<String, AllocError> {
+/// Puts what a key holds behind a text.
+fn put_held(alloc: Global, text: &mut String, held: &CtxRef) -> Result<(), AllocError> {
     match held {
-        CtxRef::Plain(value) => value_text(alloc, value),
-        CtxRef::One(pid) => format!(in alloc; "#{pid}"),
-        CtxRef::Many(pids) => pids_text(alloc, pids),
+        CtxRef::Plain(value) => put_value(alloc, text, value),
+        CtxRef::One(pid) => {
+            text.push_str("#")?;
+            put_number(alloc, text, *pid)
+        }
+        CtxRef::Many(pids) => put_pids(alloc, text, pids),
     }
 }
 
-/// The keys with what they hold, in their order.
-pub fn context_text(alloc: Global, ctx: &Context) -> Result<String, AllocError> {
-    let mut text = String::new(alloc);
+/// Puts a name behind a text, between a blank and this sign.
+fn put_name(text: &mut String, name: &str, sign: &str) -> Result<(), AllocError> {
+    text.push_str(" ")?;
+    text.push_str(name)?;
+    text.push_str(sign)
+}
+
+/// Puts the keys with what they hold, in their order, behind a text.
+pub fn put_context(alloc: Global, text: &mut String, ctx: &Context) -> Result<(), AllocError> {
     for at in 0..ctx.len() {
         if let Some((key, held)) = ctx.get(at) {
-            let held = held_text(alloc, held)?;
-            let key = key.as_str();
-            text.push_str(format!(in alloc; " {key}={}", held.as_str())?.as_str())?;
+            put_name(text, key.as_str(), "=")?;
+            put_held(alloc, text, held)?;
         }
     }
-    Ok(text)
+    Ok(())
 }
 
-/// The outputs with their nodes.
-fn outputs_text(alloc: Global, outputs: &Outs) -> Result<String, AllocError> {
-    let mut text = String::new(alloc);
+/// Puts the outputs with their nodes behind a text.
+fn put_outputs(alloc: Global, text: &mut String, outputs: &Outs) -> Result<(), AllocError> {
     for (label, node) in outputs.as_slice() {
-        let label = label.as_str();
-        text.push_str(format!(in alloc; " {label}@{node}")?.as_str())?;
+        put_name(text, label.as_str(), "@")?;
+        put_number(alloc, text, *node)?;
     }
-    Ok(text)
+    Ok(())
 }
 
-/// The arguments of a call.
-fn args_text(alloc: Global, args: &Args) -> Result<String, AllocError> {
-    let mut text = String::new(alloc);
+/// Puts the arguments of a call behind a text.
+fn put_args(alloc: Global, text: &mut String, args: &Args) -> Result<(), AllocError> {
     for (port, argument) in args.as_slice() {
-        let port = port.as_str();
         match argument {
             Argument::Node(node) => {
-                text.push_str(format!(in alloc; " {port}@{node}")?.as_str())?;
+                put_name(text, port.as_str(), "@")?;
+                put_number(alloc, text, *node)?;
             }
             Argument::Plain(value) => {
-                let value = value_text(alloc, value)?;
-                text.push_str(format!(in alloc; " {port}={}", value.as_str())?.as_str())?;
+                put_name(text, port.as_str(), "=")?;
+                put_value(alloc, text, value)?;
             }
         }
     }
-    Ok(text)
+    Ok(())
 }
 
-/// The calls of a step.
-fn calls_text(alloc: Global, calls: &Calls) -> Result<String, AllocError> {
-    let mut text = String::new(alloc);
+/// Puts a call behind a text.
+fn put_call(alloc: Global, text: &mut String, call: &Call) -> Result<(), AllocError> {
+    let word = if call.append { " append" } else { " to" };
+    put_name(text, call.label.as_str(), " ")?;
+    text.push_str(call.definition.as_str())?;
+    put_args(alloc, text, &call.args)?;
+    text.push_str(word)?;
+    put_name(text, call.key.as_str(), "")
+}
+
+/// Puts the calls of a step behind a text.
+fn put_calls(alloc: Global, text: &mut String, calls: &Calls) -> Result<(), AllocError> {
     for call in calls.as_slice() {
-        let args = args_text(alloc, &call.args)?;
-        let callee = call.definition.as_str();
-        let label = call.label.as_str();
-        let key = call.key.as_str();
-        let word = if call.append { "append" } else { "to" };
-        let args = args.as_str();
-        let line = format!(in alloc; "; {label} {callee}{args} {word} {key}")?;
-        text.push_str(line.as_str())?;
+        text.push_str(";")?;
+        put_call(alloc, text, call)?;
     }
-    Ok(text)
+    Ok(())
 }
 
-/// A checkpoint: its frames, its context, how many calls were made, and its outputs.
-fn checkpoint_text(alloc: Global, checkpoint: &Checkpoint) -> Result<String, AllocError> {
-    let frames = frames_text(alloc, &checkpoint.frames)?;
-    let ctx = context_text(alloc, &checkpoint.ctx)?;
-    let outputs = outputs_text(alloc, &checkpoint.outputs)?;
-    let calls = checkpoint.calls;
-    let (frames, ctx, outputs) = (frames.as_str(), ctx.as_str(), outputs.as_str());
-    format!(in alloc; "{frames};{ctx}; {calls};{outputs}")
+/// Puts a checkpoint behind a text: its frames, its context, how many calls were made, and its outputs.
+pub fn put_checkpoint(
+    alloc: Global,
+    text: &mut String,
+    checkpoint: &Checkpoint,
+) -> Result<(), AllocError> {
+    put_frames(alloc, text, &checkpoint.frames)?;
+    text.push_str(";")?;
+    put_context(alloc, text, &checkpoint.ctx)?;
+    text.push_str("; ")?;
+    put_number(alloc, text, checkpoint.calls)?;
+    text.push_str(";")?;
+    put_outputs(alloc, text, &checkpoint.outputs)
 }
 
-/// A state in which a chain ends.
-fn state_text(alloc: Global, state: ProcessState) -> Result<String, AllocError> {
+/// Puts a state in which a chain ends behind a text.
+fn put_state(alloc: Global, text: &mut String, state: ProcessState) -> Result<(), AllocError> {
     match state {
-        ProcessState::Finished(status) => format!(in alloc; "{status}"),
-        ProcessState::Excepted(reason) => format!(in alloc; "{reason:?}"),
-        _ => String::from_str(alloc, "live"),
+        ProcessState::Finished(status) => put_number(alloc, text, status),
+        ProcessState::Excepted(reason) => text.push_str(format!(in alloc; "{reason:?}")?.as_str()),
+        _ => text.push_str("live"),
     }
 }
 
-/// An answer of an advance.
-pub fn answer_text(alloc: Global, answer: &Advanced) -> Result<String, AllocError> {
+/// Puts a word and a checkpoint behind a text.
+fn put_next(
+    alloc: Global,
+    text: &mut String,
+    word: &str,
+    next: &Checkpoint,
+) -> Result<(), AllocError> {
+    text.push_str(word)?;
+    put_checkpoint(alloc, text, next)
+}
+
+/// Puts a checkpoint and the calls that it waits for behind a text.
+fn put_waiting(
+    alloc: Global,
+    text: &mut String,
+    next: &Checkpoint,
+    calls: &Calls,
+) -> Result<(), AllocError> {
+    put_next(alloc, text, "submits", next)?;
+    put_calls(alloc, text, calls)
+}
+
+/// Puts the end of a chain behind a text.
+fn put_end(
+    alloc: Global,
+    text: &mut String,
+    state: ProcessState,
+    outputs: &Outs,
+) -> Result<(), AllocError> {
+    text.push_str("ends ")?;
+    put_state(alloc, text, state)?;
+    put_outputs(alloc, text, outputs)
+}
+
+/// Puts an answer of an advance behind a text.
+pub fn put_answer(alloc: Global, text: &mut String, answer: &Advanced) -> Result<(), AllocError> {
     match answer {
-        Advanced::Goes(next) => {
-            format!(in alloc; "goes{}", checkpoint_text(alloc, next)?.as_str())
-        }
-        Advanced::Loops(next) => {
-            format!(in alloc; "loops{}", checkpoint_text(alloc, next)?.as_str())
-        }
-        Advanced::Submits(next, calls) => {
-            let next = checkpoint_text(alloc, next)?;
-            let calls = calls_text(alloc, calls)?;
-            format!(in alloc; "submits{}{}", next.as_str(), calls.as_str())
-        }
-        Advanced::Ends(state, outputs) => {
-            let state = state_text(alloc, *state)?;
-            let outputs = outputs_text(alloc, outputs)?;
-            format!(in alloc; "ends {}{}", state.as_str(), outputs.as_str())
-        }
+        Advanced::Goes(next) => put_next(alloc, text, "goes", next),
+        Advanced::Loops(next) => put_next(alloc, text, "loops", next),
+        Advanced::Submits(next, calls) => put_waiting(alloc, text, next, calls),
+        Advanced::Ends(state, outputs) => put_end(alloc, text, *state, outputs),
     }
 }

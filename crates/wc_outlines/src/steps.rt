@@ -1,9 +1,8 @@
 //! Steps, one advance each.
 
-use crate::instructions::advanced;
-use crate::shown::same;
-use std::alloc::Global;
-use std::test::Fail;
+use crate::advances::expect;
+use crate::wrong::Wrong;
+use std::alloc::{AllocError, Global};
 
 /// A row: the statements of the step, how many calls were made before it, and the answer.
 type Row<'a> = (&'a str, u32, &'a str);
@@ -170,17 +169,35 @@ const ROWS: [Row; 38] = [
     ("", 5, "goes 0:1; i=3 c=#7 cs=+9+11; 5; s@8"),
 ];
 
-fn all_step(alloc: Global, rows: &[Row<'_>]) -> Result<(), Fail> {
+/// An outline that is one step of these statements.
+fn outline(alloc: Global, statements: &str) -> Result<String, AllocError> {
+    let mut outline = String::from_str(alloc, "step a { ")?;
+    outline.push_str(statements)?;
+    outline.push_str(" }")?;
+    Ok(outline)
+}
+
+/// Fails where such a step, after so many calls, at a depth, doesn't have this answer.
+fn expect_step(
+    alloc: Global,
+    statements: &str,
+    calls: u32,
+    depth: u32,
+    wanted: &str,
+) -> Result<(), Wrong> {
+    let outline = outline(alloc, statements)?;
+    expect(alloc, outline.as_str(), &[(0, 0)], calls, depth, wanted)
+}
+
+fn all_step(alloc: Global, rows: &[Row<'_>]) -> Result<(), Wrong> {
     for (statements, calls, wanted) in rows {
-        let outline = format!(in alloc; "step a {{ {statements} }}")?;
-        let found = advanced(alloc, outline.as_str(), &[(0, 0)], *calls, 1)?;
-        same(statements, found.as_str(), wanted)?;
+        expect_step(alloc, statements, *calls, 1, wanted)?;
     }
     Ok(())
 }
 
 #[test]
-fn statements_run_in_order(rt: HostRuntime) -> Result<(), Fail> {
+fn statements_run_in_order(rt: HostRuntime) -> Result<(), Wrong> {
     all_step(rt.alloc(), &ROWS)
 }
 
@@ -205,33 +222,30 @@ const DEPTHS: [Row; 5] = [
     ),
 ];
 
-fn all_at_depth(alloc: Global, rows: &[Row<'_>]) -> Result<(), Fail> {
+fn all_at_depth(alloc: Global, rows: &[Row<'_>]) -> Result<(), Wrong> {
     for (statements, depth, wanted) in rows {
-        let outline = format!(in alloc; "step a {{ {statements} }}")?;
-        let found = advanced(alloc, outline.as_str(), &[(0, 0)], 0, *depth)?;
-        same(statements, found.as_str(), wanted)?;
+        expect_step(alloc, statements, 0, *depth, wanted)?;
     }
     Ok(())
 }
 
 #[test]
-fn no_call_is_made_at_the_greatest_depth(rt: HostRuntime) -> Result<(), Fail> {
+fn no_call_is_made_at_the_greatest_depth(rt: HostRuntime) -> Result<(), Wrong> {
     all_at_depth(rt.alloc(), &DEPTHS)
 }
 
-/// A step of 500 statements, of which each adds 1 to a key.
-#[test]
-fn a_long_step_runs_whole(rt: HostRuntime) -> Result<(), Fail> {
-    let alloc = rt.alloc();
-    let mut outline = String::from_str(alloc, "step a { ")?;
+/// 500 statements, of which each adds 1 to a key.
+fn many(alloc: Global) -> Result<String, AllocError> {
+    let mut statements = String::new(alloc);
     for _statement in 0..500 {
-        outline.push_str("ctx.i = ctx.i + 1; ")?;
+        statements.push_str("ctx.i = ctx.i + 1; ")?;
     }
-    outline.push_str("}")?;
-    let found = advanced(alloc, outline.as_str(), &[(0, 0)], 0, 1)?;
-    same(
-        "500 statements",
-        found.as_str(),
-        "goes 0:1; i=503 c=#7 cs=+9+11; 0; s@8",
-    )
+    Ok(statements)
+}
+
+#[test]
+fn a_long_step_runs_whole(rt: HostRuntime) -> Result<(), Wrong> {
+    let statements = many(rt.alloc())?;
+    let wanted = "goes 0:1; i=503 c=#7 cs=+9+11; 0; s@8";
+    expect_step(rt.alloc(), statements.as_str(), 0, 1, wanted)
 }

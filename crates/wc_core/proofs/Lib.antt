@@ -1,7 +1,10 @@
 pub mod Bare
 pub mod Counted
 pub mod Refused
-pub mod Valued
-pub mod Functions
 pub mod Allowed
 pub mod Leading
+pub mod Results
+pub mod Happening
+pub mod Asking
+pub mod Turns
+pub mod Marking

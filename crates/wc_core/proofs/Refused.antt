@@ -1,4 +1,4 @@
--- Too many nodes or batches, as refusals of events.
+-- Too many nodes or batches, as refusals of submissions.
 use Rattle.std.proofs.Common.{◌≡◌, ℕ, ◌+◌, List, length, Some, None, true, refl, sym, subst}
 use Rattle.wc_syntax.specs.Findings.{head_of, definition_named}
 use Rattle.wc_syntax.specs.declared.definition.Definition.{Definition}
@@ -9,14 +9,11 @@ use Rattle.wc_world.specs.World.{World}
 use Rattle.wc_world.specs.Applied.{applied}
 use Rattle.wc_machine.specs.Submitting.{AreInputs, IsKeptLibrary, submission}
 use Rattle.wc_world.specs.Fits.{names_ascend}
-use Rattle.wc_core.specs.declared.error.TurnError.{TurnError}
-use Rattle.wc_core.specs.declared.error.TurnError.TheVariants as error
-use Rattle.wc_core.specs.Refusals.{AreFew, AreTooMany, HasRoom, IsFull, RefusesCounts, RefusesSubmission}
+use Rattle.wc_refusal.specs.declared.error.TurnError.{TurnError}
+use Rattle.wc_refusal.specs.declared.error.TurnError.TheVariants as error
+use Rattle.wc_refusal.specs.Refusals.{AreFew, AreTooMany, HasRoom, IsFull, RefusesCounts, RefusesSubmission}
+use Rattle.wc_refusal.proofs.Rooms.{said_of}
 use Rattle.wc_core.proofs.Counted.{nodes_submitted, batches_submitted}
-
--- what is said of so many nodes and batches is said of a world that has so many
-pub said_of : (P : (nodes batches : ℕ) → Type 0) (w : World) (nodes batches : ℕ) → length w.nodes ≡ nodes → w.batches ≡ batches → P nodes batches → P (length w.nodes) w.batches
-said_of P w nodes batches n b h = subst (λ (m : ℕ). P m w.batches) (sym n) (subst (λ (m : ℕ). P nodes m) (sym b) h)
 
 module _ (w : World) (library : List Definition) (caching : List (List ℕ)) (name : List ℕ) (inputs : Values) (most : ℕ) where
   module _ (d : Definition) where

@@ -1,4 +1,4 @@
 pub mod Ready
-pub mod Ended
+pub mod Asks
 pub mod Submitted
 pub mod Refusals

@@ -1,95 +1,48 @@
--- Why an event is refused.
-use Rattle.std.specs.Prelude.{◌≡◌, ℕ, ◌<◌, ◌≤◌, false, List, length, Some, None}
-use Rattle.wc_syntax.specs.Findings.{head_of, definition_named}
-use Rattle.wc_syntax.specs.declared.definition.Definition.{Definition}
-use Rattle.wc_calculation.specs.Rules.{Values}
-use Rattle.wc_state.specs.declared.record.What.{What}
-use Rattle.wc_state.specs.declared.record.What.TheVariants as what
-use Rattle.wc_meaning.specs.Inputs.{bad_input}
+-- Why an event of a process is refused, and why what it asks isn't told.
+use Rattle.std.specs.Prelude.{◌≡◌, ℕ, false, List, None}
 use Rattle.wc_world.specs.declared.change.Change.{Change}
 use Rattle.wc_world.specs.World.{World}
-use Rattle.wc_world.specs.Applied.{applied}
-use Rattle.wc_machine.specs.Submitting.{Submits}
-use Rattle.wc_core.specs.Ended.{EndsFunction}
+use Rattle.wc_world.specs.Records.{find_record}
+use Rattle.wc_machine.specs.declared.answer.TaskAnswer.{TaskAnswer}
+use Rattle.wc_machine.specs.Machine.{Event, turn, Leads}
+use Rattle.wc_lists.specs.Laws.{AreItsChanges}
+use Rattle.wc_refusal.specs.Refusals.{FullOf, FullOfBatches, HasEndedAs}
+use Rattle.wc_refusal.specs.declared.error.TurnError.{TurnError}
+use Rattle.wc_refusal.specs.declared.error.TurnError.TheVariants as error
 use Rattle.wc_core.specs.Ready.{is_ready_at}
-use Rattle.wc_core.specs.declared.error.TurnError.{TurnError}
-use Rattle.wc_core.specs.declared.error.TurnError.TheVariants as error
 
--- ---- room
-
--- so many nodes and batches are within the limits, of which the first is the most nodes
-abbrev pub AreFew : (nodes batches most : ℕ) → Type 0
-AreFew nodes batches most = (nodes ≤ most) × (batches ≤ 4000000000)
-
--- there is room for a world, where there are at most so many nodes
-abbrev pub HasRoom : ℕ → World → Type 0
-HasRoom most w = AreFew (length w.nodes) w.batches most
-
--- there are too many nodes, or else too many batches, and of these there are so many of at most so many
-abbrev pub AreTooMany : (nodes batches most : ℕ) → What → (count limit : ℕ) → Type 0
-AreTooMany nodes batches most what.Nodes count limit = (count ≡ nodes) × (limit ≡ most) × (most < nodes)
-AreTooMany nodes batches most what.Bytes count limit = ⊥
-AreTooMany nodes batches most what.Batches count limit = (count ≡ batches) × (limit ≡ 4000000000) × (nodes ≤ most) × (4000000000 < batches)
-AreTooMany nodes batches most what.Generations count limit = ⊥
-
--- a world would be full so
-abbrev pub IsFull : ℕ → World → What → (count limit : ℕ) → Type 0
-IsFull most w = AreTooMany (length w.nodes) w.batches most
-
--- so many nodes and batches are refused so
-abbrev pub RefusesCounts : (nodes batches most : ℕ) → TurnError → Type 0
-RefusesCounts nodes batches most error.NotReady = ⊥
-RefusesCounts nodes batches most (error.Full what count limit) = AreTooMany nodes batches most what count limit
-RefusesCounts nodes batches most error.UnknownProcess = ⊥
-RefusesCounts nodes batches most (error.Ended s) = ⊥
-RefusesCounts nodes batches most error.UnknownName = ⊥
-RefusesCounts nodes batches most (error.BadInputs port) = ⊥
-RefusesCounts nodes batches most error.OutOfMemory = ⊥
-
--- ---- answers
-
--- none of the conditions of refusals holds, but that want of memory may come at any time
-abbrev pub NoneHolds : (TurnError → Type 0) → Type 0
-NoneHolds refuses = (e : TurnError) → refuses e → e ≡ error.OutOfMemory
-
--- ---- submissions
-
--- the inputs of a definition of the library have this least bad port
-abbrev pub HasBadInput : List Definition → List ℕ → Values → List ℕ → Type 0
-HasBadInput library name inputs port = (d : Definition) × (definition_named name library ≡ Some d) × (bad_input (head_of d).inputs inputs ≡ Some port)
-
--- the library lacks the name, or else a port has a bad input
-abbrev pub RefusesName : List Definition → List ℕ → Values → TurnError → Type 0
-RefusesName library name inputs error.NotReady = ⊥
-RefusesName library name inputs (error.Full what count limit) = ⊥
-RefusesName library name inputs error.UnknownProcess = ⊥
-RefusesName library name inputs (error.Ended s) = ⊥
-RefusesName library name inputs error.UnknownName = definition_named name library ≡ None
-RefusesName library name inputs (error.BadInputs port) = HasBadInput library name inputs port
-RefusesName library name inputs error.OutOfMemory = Unit {0}
-
--- The submission is refused so: the library lacks the name, else a port has a bad input, else the world after it would have more
--- than so many nodes, else it would have too many batches. Want of memory may come at any time.
-abbrev pub RefusesSubmission : World → List Definition → List (List ℕ) → List ℕ → Values → (most : ℕ) → TurnError → Type 0
-RefusesSubmission w library caching name inputs most error.NotReady = ⊥
-RefusesSubmission w library caching name inputs most (error.Full what count limit) =
-    (cs : List Change) × Submits w library caching name inputs cs × IsFull most (applied w cs) what count limit
-RefusesSubmission w library caching name inputs most error.UnknownProcess = ⊥
-RefusesSubmission w library caching name inputs most (error.Ended s) = ⊥
-RefusesSubmission w library caching name inputs most error.UnknownName = definition_named name library ≡ None
-RefusesSubmission w library caching name inputs most (error.BadInputs port) = HasBadInput library name inputs port
-RefusesSubmission w library caching name inputs most error.OutOfMemory = Unit {0}
-
--- ---- turns of functions
+-- What a process asks isn't told where there is no such process. Want of memory may come at any time.
+abbrev pub RefusesNeed : World → (pid : ℕ) → TurnError → Type 0
+RefusesNeed w pid error.NotReady = ⊥
+RefusesNeed w pid (error.Full what count limit) = ⊥
+RefusesNeed w pid error.UnknownProcess = find_record pid w.records ≡ None
+RefusesNeed w pid (error.Ended s) = ⊥
+RefusesNeed w pid error.UnknownName = ⊥
+RefusesNeed w pid (error.BadInputs port) = ⊥
+RefusesNeed w pid error.OutOfMemory = Unit {0}
 
 -- The turn is refused so: the process isn't ready, else the world after it would have more than so many nodes, else it would have too
 -- many batches. Want of memory may come at any time.
-abbrev pub RefusesTurn : World → (pid now most : ℕ) → TurnError → Type 0
-RefusesTurn w pid now most error.NotReady = is_ready_at w pid now ≡ false
-RefusesTurn w pid now most (error.Full what count limit) =
-    (cs : List Change) × EndsFunction w pid now cs × IsFull most (applied w cs) what count limit
-RefusesTurn w pid now most error.UnknownProcess = ⊥
-RefusesTurn w pid now most (error.Ended s) = ⊥
-RefusesTurn w pid now most error.UnknownName = ⊥
-RefusesTurn w pid now most (error.BadInputs port) = ⊥
-RefusesTurn w pid now most error.OutOfMemory = Unit {0}
+abbrev pub RefusesTurn : (poll : ℕ) → World → (pid : ℕ) → TaskAnswer → (now most : ℕ) → TurnError → Type 0
+RefusesTurn poll w pid a now most error.NotReady = is_ready_at w pid now ≡ false
+RefusesTurn poll w pid a now most (error.Full what count limit) = FullOf (Leads poll w (turn pid a now)) most w (error.Full what count limit)
+RefusesTurn poll w pid a now most error.UnknownProcess = ⊥
+RefusesTurn poll w pid a now most (error.Ended s) = ⊥
+RefusesTurn poll w pid a now most error.UnknownName = ⊥
+RefusesTurn poll w pid a now most (error.BadInputs port) = ⊥
+RefusesTurn poll w pid a now most error.OutOfMemory = Unit {0}
+
+-- the changes of an event, however often jobs are polled, and its only ones
+abbrev pub AreChangesOf : World → Event → List Change → Type 0
+AreChangesOf w e cs = (poll : ℕ) → AreItsChanges poll w e cs
+
+-- A pause, a play or a kill of a process is refused so: there is none with the number, else it has ended, else a batch more is one too many,
+-- where there are changes. Want of memory may come at any time.
+abbrev pub RefusesMark : World → Event → (pid : ℕ) → TurnError → Type 0
+RefusesMark w e pid error.NotReady = ⊥
+RefusesMark w e pid (error.Full what count limit) = FullOfBatches (AreChangesOf w e) w (error.Full what count limit)
+RefusesMark w e pid error.UnknownProcess = find_record pid w.records ≡ None
+RefusesMark w e pid (error.Ended s) = HasEndedAs w pid s
+RefusesMark w e pid error.UnknownName = ⊥
+RefusesMark w e pid (error.BadInputs port) = ⊥
+RefusesMark w e pid error.OutOfMemory = Unit {0}

@@ -1,15 +1,15 @@
-//! The events of functions as changes of a world: which processes are ready, what a submission adds, and what a turn does.
+//! The pure heart of the engine: which processes are ready, what they ask, and the changes of each event, as values of a world.
 #![tactic(auto)]
 
-mod ending;
-mod error;
-mod evaluating;
+mod marks;
+mod needs;
 mod readiness;
-mod room;
 mod submitting;
 mod turning;
 
-pub use error::TurnError;
+pub use marks::{kill_changes, pause_changes, play_changes};
+pub use needs::{Asks, need};
 pub use readiness::{is_ready, ready};
 pub use submitting::submit_changes;
 pub use turning::turn;
+pub use wc_refusal::TurnError;

@@ -2,24 +2,14 @@
 
 ghost use Rattle.std.specs.Prelude.{◌≡◌, IfOk};
 ghost use Rattle.std.specs.List.{list_all};
-ghost use Rattle.wc_world.specs.Records.{has_ended};
 ghost use Rattle.wc_machine.specs.Readiness.{ended_at, is_through, may_go, is_ready, ready_at};
 ghost use Rattle.wc_core.specs.Ready.{is_ready_at};
 
 use std::alloc::{AllocError, Global};
+use wc_refusal::has_ended;
 use wc_state::{Await, Ids, Part, ProcessRecord};
 use wc_value::ProcessState;
 use wc_world::World;
-
-/// Whether a process in this state has ended.
-fn has_ended(state: ProcessState) -> bool
-    ensures { result ≡ has_ended state }
-{
-    match state {
-        ProcessState::Created | ProcessState::Running | ProcessState::Waiting => false,
-        ProcessState::Finished(_) | ProcessState::Excepted(_) | ProcessState::Killed => true,
-    }
-}
 
 /// Whether the process with this number is there and has ended.
 fn ended_at(world: &World, pid: u32) -> bool

@@ -1,29 +1,71 @@
-//! What the turn of a function does.
+//! What the turn of a process does.
 
-ghost use Rattle.std.specs.Prelude.{◌≡◌, false, IfOk, IfErr, IfSome, OnOk};
-ghost use Rattle.wc_state.specs.declared.record.ProcessKind.TheVariants.{Function};
+ghost use Rattle.std.specs.Prelude.{◌≡◌, true, Some, IfOk, IfErr, OnOk};
+ghost use Rattle.wc_state.specs.Ranges.{AreLimits};
 ghost use Rattle.wc_world.specs.Accepted.{IsAccepted};
 ghost use Rattle.wc_world.specs.Applied.{applied};
 ghost use Rattle.wc_world.specs.Records.{find_record};
-ghost use Rattle.wc_machine.specs.declared.answer.TaskAnswer.TheVariants.{Nothing};
+ghost use Rattle.wc_machine.specs.Asking.{fits, need};
 ghost use Rattle.wc_machine.specs.Continues.{Continues};
-ghost use Rattle.wc_machine.specs.Machine.{Leads, turn};
-ghost use Rattle.wc_machine.specs.Sound.{IsSound};
-ghost use Rattle.wc_core.specs.Ended.{EndsFunction};
-ghost use Rattle.wc_state.specs.Ranges.{AreLimits};
-ghost use Rattle.wc_core.specs.Refusals.{HasRoom, NoneHolds, RefusesTurn};
+ghost use Rattle.wc_machine.specs.Machine.{turn};
+ghost use Rattle.wc_machine.specs.Readiness.{is_ready};
+ghost use Rattle.wc_machine.specs.Sound.{IsSound, OutputsAscend};
+ghost use Rattle.wc_machine.specs.Turning.{TurnGives};
+ghost use Rattle.wc_lists.specs.Laws.{AreItsChanges};
+ghost use Rattle.wc_refusal.specs.Refusals.{FullOf, HasRoom, NoneHolds};
+ghost use Rattle.wc_core.specs.Asks.{FitsAt};
+ghost use Rattle.wc_core.specs.Refusals.{RefusesTurn};
 
-use crate::ending::ends;
-use crate::error::TurnError;
-use crate::evaluating::evaluate;
 use crate::readiness::goes_on;
-use crate::room::check_room;
 use std::alloc::Global;
+use wc_calculation_turns::calculation_turn;
+use wc_chain_turns::chain_turn;
 use wc_machine::TaskAnswer;
-use wc_state::Limits;
+use wc_refusal::TurnError;
+use wc_state::{Limits, Part, ProcessKind, ProcessRecord};
 use wc_world::{Changes, World, reached_worlds_are_consistent};
 
-/// The changes of a turn of a function, which asks nothing of the transport: it is evaluated, and ends.
+/// The outputs of a checkpoint ascend by their labels: its type tells it.
+fn outputs_ascend(part: &Part)
+    ensures { OutputsAscend part.now }
+{
+    match part {
+        Part::Chain(checkpoint) => {
+            let _outputs = checkpoint.outputs.as_slice();
+        }
+        Part::Fresh | Part::Job(_) | Part::Over => (),
+    }
+}
+
+/// The changes of a turn of a ready process, by its kind.
+fn turn_by_kind(
+    alloc: Global,
+    world: &World,
+    limits: &Limits,
+    process: &ProcessRecord,
+    answer: TaskAnswer,
+    now: u64,
+) -> Result<Changes, TurnError>
+    requires limits { AreLimits limits.now }
+    requires found { find_record process.now.node world.now.world.records ≡ Some process.now }
+    requires ready { is_ready world.now.world now process.now ≡ true }
+    requires fits { fits (need world.now.world process.now) answer ≡ true }
+    ensures gives { IfOk result (TurnGives limits.now.poll_ms now world.now.world process.now answer) }
+    ensures room { IfOk result (λ cs. HasRoom limits.now.max_nodes (applied world.now.world cs)) }
+    ensures refused { IfErr result (FullOf (TurnGives limits.now.poll_ms now world.now.world process.now answer) limits.now.max_nodes world.now.world) }
+{
+    reached_worlds_are_consistent();
+    // What accepted changes make is told by the graph.
+    let _graph = world.graph();
+    match process.kind {
+        ProcessKind::Function | ProcessKind::Job => {
+            calculation_turn(alloc, world, limits, process, answer, now)
+        }
+        ProcessKind::Chain => chain_turn(alloc, world, limits, process),
+    }
+}
+
+/// The changes of a turn of a process at a moment, with what the transport answered to what the process asks.
 pub fn turn(
     alloc: Global,
     world: &World,
@@ -33,28 +75,24 @@ pub fn turn(
     now: u64,
 ) -> Result<Changes, TurnError>
     requires limits { AreLimits limits.now }
-    requires function { IfSome (find_record pid world.now.world.records) (λ r. (r.kind ≡ Function) × (r.caching ≡ false)) }
-    requires need { answer ≡ Nothing }
-    ensures ok { IfOk result (EndsFunction world.now.world pid now) }
-    ensures leads { IfOk result (Leads limits.now.poll_ms world.now.world (turn pid Nothing now)) }
+    requires fits { FitsAt world.now.world pid answer }
+    ensures changes { IfOk result (AreItsChanges limits.now.poll_ms world.now.world (turn pid answer now)) }
     ensures accepted { IfOk result (IsAccepted world.now.world) }
     ensures continues { IfOk result (λ cs. IsSound world.now.world → Continues world.now.world (applied world.now.world cs)) }
     ensures sound { IfOk result (λ cs. IsSound world.now.world → IsSound (applied world.now.world cs)) }
     ensures room { IfOk result (λ cs. HasRoom limits.now.max_nodes (applied world.now.world cs)) }
-    ensures none { OnOk result (NoneHolds (RefusesTurn world.now.world pid now limits.now.max_nodes)) }
-    ensures refused { IfErr result (RefusesTurn world.now.world pid now limits.now.max_nodes) }
+    ensures none { OnOk result (NoneHolds (RefusesTurn limits.now.poll_ms world.now.world pid answer now limits.now.max_nodes)) }
+    ensures refused { IfErr result (RefusesTurn limits.now.poll_ms world.now.world pid answer now limits.now.max_nodes) }
 {
     reached_worlds_are_consistent();
-    let nodes = world.graph().nodes().len();
+    // What accepted changes make is told by the graph.
+    let _graph = world.graph();
     let Some(process) = world.record_of(pid) else {
         return Err(TurnError::NotReady);
     };
     if !goes_on(world, process, now) {
         return Err(TurnError::NotReady);
     }
-    let parsed = evaluate(alloc, world, process)?;
-    match check_room(world, limits, parsed.outputs.len() as u64) {
-        Ok(()) => Ok(ends(alloc, world, process, &parsed)?),
-        Err(error) => Err(error),
-    }
+    outputs_ascend(&process.part);
+    turn_by_kind(alloc, world, limits, process, answer, now)
 }

@@ -29,6 +29,7 @@ use Rattle.wc_machine.specs.Readiness.{may_go, is_ready}
 use Rattle.wc_machine.specs.Recorded.{its_definition}
 use Rattle.wc_machine.specs.Turning.{TurnGives, calculates, clones, begins, excepts, gives_up, moves, parses, advances, binds}
 use Rattle.wc_machine.proofs.Endings.{end_record, ended_world, applied_ends}
+use Rattle.wc_runner.specs.Ended.{EndsFunction}
 use Rattle.wc_runner.specs.Trips.{OneTurn}
 
 -- ---- what a turn is
@@ -97,6 +98,23 @@ created_here w r reached only found ready =
       found = found;
       calculates = ap is_calculation plain.0;
       created = is_created w 0 r.state r.part (subst (λ (k : ProcessKind). part_fits k r.state r.part ≡ true) plain.0 stands.part) (right (not r.paused) (may_go w 0 r.state r.part) ready);
+    }
+
+-- a turn of a function's process ends it
+pub ends_function : (poll pid : ℕ) (w : World) (cs : List Change) → IsReached w → OnlyFunctions w → Leads poll w (turn pid Nothing 0) cs → EndsFunction w pid 0 cs
+ends_function poll pid w cs reached only leads =
+    let given : GivesTurn poll w (turn pid Nothing 0) cs = gives_turn poll w (turn pid Nothing 0) cs leads in
+    let r : ProcessRecord = given.0 in
+    let plain : IsPlain r = found_holds IsPlain r.node w.records r only given.2 in
+    let stands : Stands w r = found_holds (Stands w) r.node w.records r (reached_is_consistent w reached).records given.2 in
+    let runs : RunsFunction (its_definition w r) = runs_function (its_definition w r) (subst (λ (k : ProcessKind). is_of_kind k (its_definition w r) ≡ true) plain.0 stands.defined) in
+    record {
+      process = r;
+      function = runs.0;
+      found = subst (λ (n : ℕ). find_record n w.records ≡ Some r) given.1 given.2;
+      ready = given.3;
+      runs = runs.1;
+      changes = only_calculates poll 0 w r runs.0 Nothing cs plain.1 runs.1 given.4;
     }
 
 -- A created function of the one world has ended in the other.

@@ -1,3 +1,4 @@
+pub mod Ended
 pub mod Trips
 pub mod Laws
 pub mod Refusals

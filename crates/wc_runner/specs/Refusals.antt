@@ -7,15 +7,13 @@ use Rattle.wc_journal.specs.Journals.{IsSettled}
 use Rattle.wc_state.specs.declared.record.Limits.{Limits}
 use Rattle.wc_world.specs.declared.change.Change.{Change}
 use Rattle.wc_world.specs.World.{World}
-use Rattle.wc_core.specs.Ended.{EndsFunction}
 use Rattle.wc_core.specs.Ready.{is_ready_at}
-use Rattle.wc_core.specs.Refusals.{RefusesTurn}
-use Rattle.wc_core.specs.declared.error.TurnError.TheVariants as turn_error
 use Rattle.wc_store.specs.Places.{its}
 use Rattle.wc_store.specs.Refusals.{RefusesCommit}
 use Rattle.wc_store.specs.declared.error.StoreError.{StoreError}
 use Rattle.wc_store.specs.declared.error.StoreError.TheVariants as store_error
 use Rattle.wc_store.specs.declared.store.Store.{Store}
+use Rattle.wc_runner.specs.Ended.{EndsFunction, IsFullBy}
 use Rattle.wc_runner.specs.declared.error.RunError.{RunError}
 use Rattle.wc_runner.specs.declared.error.RunError.TheVariants.{DiskFault, Full, OutOfMemory}
 
@@ -29,7 +27,7 @@ RefusesItsCommit journal limits w pid e = (cs : List Change) × EndsFunction w p
 abbrev pub RefusesStep : Journal → Limits → World → (pid : ℕ) → RunError → Type 0
 RefusesStep journal limits w pid DiskFault = RefusesItsCommit journal limits w pid store_error.DiskFault
 RefusesStep journal limits w pid (Full what count limit) =
-    RefusesTurn w pid 0 limits.max_nodes (turn_error.Full what count limit) ⊎ RefusesItsCommit journal limits w pid (store_error.Full what count limit)
+    IsFullBy w pid 0 limits.max_nodes what count limit ⊎ RefusesItsCommit journal limits w pid (store_error.Full what count limit)
 RefusesStep journal limits w pid OutOfMemory = Unit {0}
 
 -- ---- a run

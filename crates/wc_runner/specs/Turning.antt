@@ -5,13 +5,12 @@ use Rattle.wc_world.specs.World.{World}
 use Rattle.wc_world.specs.Accepted.{IsAccepted, IsReached}
 use Rattle.wc_machine.specs.declared.answer.TaskAnswer.TheVariants.{Nothing}
 use Rattle.wc_machine.specs.Machine.{Leads, turn}
-use Rattle.wc_core.specs.Ended.{EndsFunction}
-use Rattle.wc_core.specs.Refusals.{RefusesTurn}
-use Rattle.wc_core.specs.declared.error.TurnError.{TurnError}
-use Rattle.wc_core.specs.declared.error.TurnError.TheVariants as turn_error
+use Rattle.wc_refusal.specs.declared.error.TurnError.{TurnError}
+use Rattle.wc_refusal.specs.declared.error.TurnError.TheVariants as turn_error
 use Rattle.wc_store.specs.Held.{is_plain}
 use Rattle.wc_store.specs.declared.error.StoreError.{StoreError}
 use Rattle.wc_store.specs.declared.error.StoreError.TheVariants as store_error
+use Rattle.wc_runner.specs.Ended.{EndsFunction, IsFullBy}
 use Rattle.wc_runner.specs.declared.error.RunError.{RunError}
 use Rattle.wc_runner.specs.declared.error.RunError.TheVariants.{DiskFault, Full, OutOfMemory}
 
@@ -26,7 +25,7 @@ pub record IsTurnOf (poll : ℕ) (w : World) (pid : ℕ) (cs : List Change) : Ty
 -- the turn is refused before any disk is called
 abbrev pub RefusesChanges : World → (pid most : ℕ) → RunError → Type 0
 RefusesChanges w pid most DiskFault = ⊥
-RefusesChanges w pid most (Full what count limit) = RefusesTurn w pid 0 most (turn_error.Full what count limit)
+RefusesChanges w pid most (Full what count limit) = IsFullBy w pid 0 most what count limit
 RefusesChanges w pid most OutOfMemory = Unit {0}
 
 -- a turn of a ready process is refused for fullness or want of memory alone

@@ -5,7 +5,7 @@ ghost use Rattle.wc_machine.specs.Laws.{OnlyFunctions};
 ghost use Rattle.wc_state.specs.Ranges.{AreLimits};
 ghost use Rattle.wc_world.specs.Applied.{applied};
 ghost use Rattle.wc_core.specs.Ready.{is_ready_at};
-ghost use Rattle.wc_core.specs.Refusals.{HasRoom};
+ghost use Rattle.wc_refusal.specs.Refusals.{HasRoom};
 ghost use Rattle.wc_store.specs.Refusals.{byte_limit};
 ghost use Rattle.wc_store.specs.Stores.{StandsFor};
 ghost use Rattle.wc_runner.specs.Leaves.{IsOrTurnOf, LeavesWorlds};

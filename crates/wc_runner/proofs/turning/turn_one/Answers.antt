@@ -4,7 +4,7 @@ use Rattle.wc_world.specs.World.{World}
 use Rattle.wc_machine.specs.Laws.{OnlyFunctions}
 use Rattle.wc_runner.specs.Leaves.{IsOrTurnOf}
 use Rattle.wc_runner.specs.Turning.{IsTurnOf}
-use Rattle.wc_core.specs.Refusals.{HasRoom}
+use Rattle.wc_refusal.specs.Refusals.{HasRoom}
 use Rattle.wc_world.specs.Applied.{applied}
 use Rattle.wc_runner.proofs.Accepted.{one_batch, still_functions, turn_within, refused_commit}
 use Rattle.wc_runner.proofs.Leaving.{stands_leaves, commit_leaves}

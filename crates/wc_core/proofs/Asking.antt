@@ -1,13 +1,19 @@
 -- What a process asks.
-use Rattle.std.proofs.Common.{◌≡◌, ℕ, true, false, Option, Some, None, refl, sym, ap, subst, ◌∙◌}
+use Rattle.std.proofs.Common.{◌≡◌, ℕ, true, Option, Some, None, refl, sym, ap, subst, ◌∙◌}
 use Rattle.std.specs.Prelude.{IsSome}
 use Rattle.wc_value.specs.declared.process.ProcessState.{ProcessState}
 use Rattle.wc_value.specs.declared.process.ProcessState.TheVariants as state
 use Rattle.wc_value.specs.declared.process.Request.{Request}
+use Rattle.wc_syntax.specs.Bare.{bare_job}
+use Rattle.wc_syntax.specs.declared.definition.Chain.{Chain}
 use Rattle.wc_syntax.specs.declared.definition.Definition.{Definition}
 use Rattle.wc_syntax.specs.declared.definition.Definition.TheVariants as definition
+use Rattle.wc_syntax.specs.declared.definition.Function.{Function}
+use Rattle.wc_syntax.specs.declared.definition.Job.{Job}
 use Rattle.wc_expression.specs.declared.outcome.Outcome.{Outcome}
+use Rattle.wc_calculation.specs.Requests.{request}
 use Rattle.wc_calculation.specs.Rules.{Values}
+use Rattle.wc_calculation.proofs.Bare.{request_bare}
 use Rattle.wc_state.specs.declared.record.Part.{Part}
 use Rattle.wc_state.specs.declared.record.Part.TheVariants as part
 use Rattle.wc_state.specs.declared.record.ProcessKind.{ProcessKind}
@@ -25,7 +31,7 @@ use Rattle.wc_machine.specs.Asking.{Need, nothing, with_request, need_at, need, 
 use Rattle.wc_machine.specs.Recorded.{its_definition, recorded_inputs, recorded_request, request_by}
 use Rattle.wc_refusal.specs.Refusals.{NoneHolds}
 use Rattle.wc_refusal.specs.declared.error.TurnError.TheVariants as error
-use Rattle.wc_core.specs.Asks.{task_at}
+use Rattle.wc_core.specs.Asks.{asks_of, task_at}
 use Rattle.wc_core.specs.Refusals.{RefusesNeed}
 
 -- where a process is at no task, it asks nothing
@@ -121,3 +127,26 @@ chain_answer w r a consistent found chain fit =
     let none : task_at r.state r.part ≡ None = no_task r.state r.part (subst (λ (k : ProcessKind). part_fits k r.state r.part ≡ true) chain stands.part) in
     let asks : need w r ≡ nothing = nothing_at r.state r.part (recorded_request w r) none in
     is_none a (subst (λ (n : Need). fits n a ≡ true) asks fit)
+
+-- ---- requests
+
+module _ (w : World) (r : ProcessRecord) (asked : IsSome (recorded_request w r)) where
+  by_definition : (o : Option Definition) → its_definition w r ≡ o → IsSome (request_by o (recorded_inputs w r.node))
+  by_definition o d = subst (λ (x : Option Definition). IsSome (request_by x (recorded_inputs w r.node))) d asked
+
+  pub runs_something : its_definition w r ≡ None → ⊥
+  runs_something d = let h = by_definition None d in absurd (cc)
+
+  pub runs_no_function : (f : Function) → its_definition w r ≡ Some (definition.Function f) → ⊥
+  runs_no_function f d = let h = by_definition (Some (definition.Function f)) d in absurd (cc)
+
+  pub runs_no_chain : (c : Chain) → its_definition w r ≡ Some (definition.Chain c) → ⊥
+  runs_no_chain c d = let h = by_definition (Some (definition.Chain c)) d in absurd (cc)
+
+-- what a job asks for at a task
+pub asks_so : (w : World) (r : ProcessRecord) (j : Job) (t : Task) (o : Outcome Request) → its_definition w r ≡ Some (definition.Job (bare_job j))
+    → request j (recorded_inputs w r.node) ≡ o → asks_of (with_request t (Some o)) ≡ asks_of (with_request t (recorded_request w r))
+asks_so w r j t o d e =
+    let is : recorded_request w r ≡ Some o
+    = ap (λ (x : Option Definition). request_by x (recorded_inputs w r.node)) d ∙ ap (λ (x : Outcome Request). Some x) (request_bare j (recorded_inputs w r.node) ∙ e) in
+    ap (λ (x : Option (Outcome Request)). asks_of (with_request t x)) (sym is)

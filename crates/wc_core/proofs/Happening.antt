@@ -1,5 +1,5 @@
 -- What follows of the changes of any event of a process.
-use Rattle.std.proofs.Common.{◌≡◌, ℕ, ◌+◌, ◌≤◌, List, [], ◌∷◌, length, refl, sym, subst, arith}
+use Rattle.std.proofs.Common.{◌≡◌, ℕ, ◌+◌, ◌≤◌, List, [], ◌∷◌, length, refl, sym, subst}
 use Rattle.std.specs.Prelude.{◌≢◌, All}
 use Rattle.std.proofs.lemmas.List.Elements.{All-head, All-tail}
 use Rattle.wc_world.specs.declared.change.Change.{Change}
@@ -7,9 +7,7 @@ use Rattle.wc_world.specs.declared.change.Change.TheVariants as change
 use Rattle.wc_world.specs.World.{World}
 use Rattle.wc_world.specs.Accepted.{IsReached}
 use Rattle.wc_world.specs.Applied.{applied}
-use Rattle.wc_world.specs.Consistent.{IsConsistent}
 use Rattle.wc_world.proofs.ReachedWorlds.{reached_is_consistent}
-use Rattle.wc_machine.specs.Continues.{Continues}
 use Rattle.wc_machine.specs.Laws.{HasPlaces}
 use Rattle.wc_machine.specs.Machine.{Event, Leads, after_changes}
 use Rattle.wc_machine.specs.Sound.{IsSound}

@@ -6,5 +6,6 @@ pub mod Leading
 pub mod Results
 pub mod Happening
 pub mod Asking
+pub mod Asked
 pub mod Turns
 pub mod Marking

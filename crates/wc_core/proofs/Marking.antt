@@ -1,5 +1,5 @@
 -- A pause, a play and a kill of a live process.
-use Rattle.std.proofs.Common.{◌≡◌, ℕ, ◌+◌, ◌≤◌, ◌<◌, Bool, true, false, List, [], ◌∷◌, ◌++◌, map, length, Some, None, refl, sym, ap, subst, ◌∙◌, arith}
+use Rattle.std.proofs.Common.{◌≡◌, ℕ, ◌+◌, ◌≤◌, ◌<◌, Bool, true, false, List, [], ◌∷◌, map, length, Some, None, refl, sym, ap, subst, ◌∙◌, arith}
 use Rattle.std.specs.Prelude.{◌≢◌, if◌then◌else◌}
 use Rattle.wc_graph.specs.declared.node.NodeKind.{NodeKind}
 use Rattle.wc_state.specs.declared.record.ProcessRecord.{ProcessRecord}
@@ -17,7 +17,6 @@ use Rattle.wc_machine.specs.Laws.{HasPlaces}
 use Rattle.wc_machine.specs.Machine.{Event, IsLive, Leads, after_changes, kill, kills, marked, pause, pauses, pause_changes, play, plays, play_changes, renewed}
 use Rattle.wc_machine.specs.Sound.{IsSound}
 use Rattle.wc_kills.proofs.KillOrder.{all_below, change_of, changes_are}
-use Rattle.wc_lists.proofs.NoChanges.{kill_some}
 use Rattle.wc_accepted.proofs.Calculations.{pause_accepted, play_accepted}
 use Rattle.wc_accepted.proofs.Kills.{kill_accepted}
 use Rattle.wc_refusal.specs.Refusals.{FullOfBatches, NoneHolds, RefusesLive}

@@ -1,5 +1,5 @@
 -- Too many nodes or batches, as refusals of submissions.
-use Rattle.std.proofs.Common.{◌≡◌, ℕ, ◌+◌, List, length, Some, None, true, refl, sym, subst}
+use Rattle.std.proofs.Common.{◌≡◌, ℕ, ◌+◌, List, length, Some, None, true, refl}
 use Rattle.wc_syntax.specs.Findings.{head_of, definition_named}
 use Rattle.wc_syntax.specs.declared.definition.Definition.{Definition}
 use Rattle.wc_calculation.specs.Rules.{Values}

@@ -1,6 +1,6 @@
 -- The turn of a ready process.
-use Rattle.std.proofs.Common.{◌≡◌, ℕ, ◌≤◌, Bool, true, false, List, [], length, Some, None, refl, sym, ap, subst, ◌∙◌}
-use Rattle.std.specs.Prelude.{◌≢◌, not, ◌&&◌, nat_le, IfSome}
+use Rattle.std.proofs.Common.{◌≡◌, ℕ, ◌≤◌, true, false, List, [], length, Some, refl, sym, ap, subst, ◌∙◌}
+use Rattle.std.specs.Prelude.{◌≢◌, IfSome}
 use Rattle.wc_syntax.specs.declared.definition.Chain.{Chain}
 use Rattle.wc_syntax.specs.declared.definition.Definition.{Definition}
 use Rattle.wc_state.specs.declared.environment.Env.{Env}
@@ -10,7 +10,7 @@ use Rattle.wc_world.specs.declared.change.Change.{Change}
 use Rattle.wc_world.specs.World.{World}
 use Rattle.wc_world.specs.Accepted.{IsAccepted, IsReached}
 use Rattle.wc_world.specs.Applied.{applied}
-use Rattle.wc_world.specs.Consistent.{IsConsistent, Stands}
+use Rattle.wc_world.specs.Consistent.{IsConsistent}
 use Rattle.wc_world.specs.Records.{find_record, has_ended}
 use Rattle.wc_world.proofs.ReachedWorlds.{reached_is_consistent}
 use Rattle.wc_world.proofs.SnapshotLists.{number_of_found}
@@ -20,8 +20,8 @@ use Rattle.wc_machine.specs.Asking.{fits, need}
 use Rattle.wc_machine.specs.Calling.{advanced}
 use Rattle.wc_machine.specs.Continues.{Continues}
 use Rattle.wc_machine.specs.Laws.{HasPlaces}
-use Rattle.wc_machine.specs.Machine.{Event, Leads, after_changes, submit, turn, pause, play, kill, submits as submission, turns, pauses, plays, kills}
-use Rattle.wc_machine.specs.Readiness.{is_ready, may_go, is_through}
+use Rattle.wc_machine.specs.Machine.{Leads, turn, turns}
+use Rattle.wc_machine.specs.Readiness.{is_ready}
 use Rattle.wc_machine.specs.Sound.{IsSound, OutputsAscend}
 use Rattle.wc_machine.specs.Turning.{TurnGives, calculates, clones, begins, excepts, gives_up, moves, parses, advances, binds}
 use Rattle.wc_lists.specs.Laws.{AreItsChanges}
@@ -35,7 +35,7 @@ use Rattle.wc_refusal.specs.declared.error.TurnError.{TurnError}
 use Rattle.wc_refusal.specs.declared.error.TurnError.TheVariants as error
 use Rattle.wc_refusal.proofs.Rooms.{none_full}
 use Rattle.wc_core.specs.Asks.{FitsAt}
-use Rattle.wc_core.specs.Ready.{is_ready_at, is_ready_by}
+use Rattle.wc_core.specs.Ready.{is_ready_by}
 use Rattle.wc_core.specs.Refusals.{RefusesTurn}
 use Rattle.wc_core.proofs.Happening.{after_some, its_changes, leaves_sound, places_for}
 

@@ -1,6 +1,7 @@
 //! What a process asks of the transport next.
 
 ghost use Rattle.std.specs.Prelude.{◌≡◌, Some, IfOk, IfErr, IsSome, OnOk};
+ghost use Rattle.wc_world.specs.Records.{find_record};
 ghost use Rattle.wc_machine.specs.Asking.{with_request};
 ghost use Rattle.wc_machine.specs.Recorded.{recorded_request};
 ghost use Rattle.wc_refusal.specs.Refusals.{NoneHolds};
@@ -8,11 +9,12 @@ ghost use Rattle.wc_core.specs.Asks.{asks_of, asks_task, task_at, IsNeedAt};
 ghost use Rattle.wc_core.specs.Refusals.{RefusesNeed};
 
 use std::alloc::{AllocError, Global};
-use wc_calculation_turns::{library_at, recorded_inputs};
+use wc_cache::{definition_of, recorded_inputs};
+use wc_calculation::request_of;
 use wc_expression::Outcome;
-use wc_job::request_of;
 use wc_refusal::TurnError;
 use wc_state::{Part, ProcessRecord, Task};
+use wc_syntax::Definition;
 use wc_value::{ProcessState, Request};
 use wc_world::{World, reached_worlds_are_consistent};
 
@@ -63,14 +65,19 @@ fn asks_with(
     process: &ProcessRecord,
     task: Task,
 ) -> Result<Asks, AllocError>
-    requires { IsSome (recorded_request world.now.world process.now) }
+    requires there { IsSome (find_record process.now.node world.now.world.records) }
+    requires asked { IsSome (recorded_request world.now.world process.now) }
     ensures { IfOk result (λ asks. asks ≡ asks_of (with_request task (recorded_request world.now.world process.now))) }
 {
-    let library = library_at(world, process.library).unwrap();
     let inputs = recorded_inputs(alloc, world, process.node)?;
-    match request_of(alloc, library, &process.definition, &inputs)? {
-        Outcome::Gives(request) => Ok(asks_task(task, request)),
-        Outcome::Faults(_) => Ok(Asks::Nothing),
+    match definition_of(world, process) {
+        Some(Definition::Job(job)) => match request_of(alloc, job, &inputs)? {
+            Outcome::Gives(request) => Ok(asks_task(task, request)),
+            Outcome::Faults(_) => Ok(Asks::Nothing),
+        },
+        Some(Definition::Function(_)) => unreachable!(),
+        Some(Definition::Chain(_)) => unreachable!(),
+        None => unreachable!(),
     }
 }
 

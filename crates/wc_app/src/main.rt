@@ -1,4 +1,4 @@
-//! The program: its words, files, standard output and store are handed to `serve`, whose status is the program's.
+//! The program: its words, files, standard output, store, jobs and clock are handed to `serve`, whose status is the program's.
 #![tactic(auto)]
 
 use std::alloc::AllocError;
@@ -6,7 +6,8 @@ use std::process::ExitCode;
 use std::{env, io};
 use wc_disk::FileDisk;
 use wc_engine::{Status, serve};
-use wc_io::{FileShelf, StdoutSink};
+use wc_io::{ClockPacer, FileShelf, StdoutSink};
+use wc_local::LocalTransport;
 use wc_value::{List, Text, Words};
 
 /// The words of the command line, without the program's name.
@@ -35,6 +36,11 @@ fn main(rt: HostRuntime) -> ExitCode {
     let (Ok(mut one), Ok(mut two)) = (disk(rt, "wc.store/one"), disk(rt, "wc.store/two")) else {
         return ExitCode::from(Status::OutOfMemory.code());
     };
+    let Ok(work) = Text::of_str(rt.alloc(), "wc.work") else {
+        return ExitCode::from(Status::OutOfMemory.code());
+    };
+    let mut transport = LocalTransport::new(rt, rt.alloc(), work);
+    let mut pacer = ClockPacer::new(rt);
     let status = serve(
         rt.alloc(),
         &words,
@@ -42,6 +48,8 @@ fn main(rt: HostRuntime) -> ExitCode {
         &mut sink,
         &mut one,
         &mut two,
+        &mut transport,
+        &mut pacer,
     );
     ExitCode::from(status.code())
 }

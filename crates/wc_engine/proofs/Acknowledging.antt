@@ -85,8 +85,7 @@ work_acknowledged law (work.Event (asked.Submit s)) ready before w after r held 
   (submitted_number w s.inputs, ap (λ (x : Reply). x.text) e.reply, has_process w s e.changes (law before.0 before.1 w held) ready e.submits),
 )
 work_acknowledged law (work.Event (asked.Submit s)) ready before w after r held ok (inr full) = absurd (not_full full.what full.count full.limit r full.reply ok)
-work_acknowledged law work.Run ready before w after r held ok (inl later) = absurd (not_refused (cause.Later later.first.definition) r later.reply ok)
-work_acknowledged law work.Run ready before w after r held ok (inr runs) = (runs.1.later, runs.1.held, tt)
+work_acknowledged law work.Run ready before w after r held ok runs = (runs.later, runs.held, tt)
 work_acknowledged law work.Pack ready before w after r held ok packs = (w, packs.0, tt)
 
 row_acknowledged : HeldIsReached → (d : Deed) → IsReadyDeed d → (before : Images) (s : Standing) (after : Images) (r : Reply) → Hold before s → r.status ≡ status.Ok

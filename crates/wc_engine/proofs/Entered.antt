@@ -64,8 +64,7 @@ module _ (w : World) (h : IsConsistent w) (s : Submission) (ready : IsReady s) (
   is_there = record {
     process = process;
     found = found;
-    function =
-        ap kind_of_definition (same_definition (definition_named s.name s.library) d (definition.Function ready.function) there ready.named);
+    kind = λ e named. ap kind_of_definition (same_definition (definition_named s.name s.library) d e there named);
     first = refl;
     library = its_library;
     name = refl;

@@ -21,9 +21,9 @@ use Rattle.wc_machine.specs.Continues.{Continues}
 use Rattle.wc_machine.specs.Sound.{IsSound}
 use Rattle.wc_machine.specs.Submitting.{data_change, links_from, Submits, submitted_number}
 use Rattle.wc_state.specs.Ranges.{AreLimits}
-use Rattle.wc_core.specs.Refusals.{HasRoom}
-use Rattle.wc_core.specs.declared.error.TurnError.{TurnError}
-use Rattle.wc_core.specs.declared.error.TurnError.TheVariants as turn_error
+use Rattle.wc_refusal.specs.Refusals.{HasRoom}
+use Rattle.wc_refusal.specs.declared.error.TurnError.{TurnError}
+use Rattle.wc_refusal.specs.declared.error.TurnError.TheVariants as turn_error
 use Rattle.wc_store.specs.Refusals.{byte_limit, committed_bytes, RefusesCommit, IsUnchanged, is_live_after}
 use Rattle.wc_store.specs.declared.error.StoreError.{StoreError}
 use Rattle.wc_store.specs.declared.error.StoreError.TheVariants as error
@@ -103,10 +103,10 @@ room_or_memory (asked.Submit s) w (turn_error.Full what count limit) ready refus
 room_or_memory (asked.Submit s) w turn_error.UnknownProcess ready refused = refused
 room_or_memory (asked.Submit s) w (turn_error.Ended state) ready refused = refused
 room_or_memory (asked.Submit s) w turn_error.UnknownName ready refused =
-    let both : Some (definition.Function ready.function) ≡ None = sym ready.named ∙ refused in absurd (cc)
+    let both : Some (ready.defined) ≡ None = sym ready.named ∙ refused in absurd (cc)
 room_or_memory (asked.Submit s) w (turn_error.BadInputs port) ready refused =
-    let found : Some refused.0 ≡ Some (definition.Function ready.function) = sym refused.1 ∙ ready.named in
-    let same : refused.0 ≡ definition.Function ready.function = cc in
+    let found : Some refused.0 ≡ Some (ready.defined) = sym refused.1 ∙ ready.named in
+    let same : refused.0 ≡ ready.defined = cc in
     let both : None ≡ Some port = sym ready.fits ∙ ap (λ (d : Definition). bad_input (head_of d).inputs s.inputs) (sym same) ∙ refused.2 in
     absurd (cc)
 room_or_memory (asked.Submit s) w turn_error.OutOfMemory ready refused = tt

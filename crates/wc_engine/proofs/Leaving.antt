@@ -6,7 +6,6 @@ use Rattle.wc_disk.proofs.Runs.{no_call, both_runs}
 use Rattle.wc_state.specs.declared.record.Limits.{Limits}
 use Rattle.wc_world.specs.World.{World}
 use Rattle.wc_world.specs.Accepted.{IsReached}
-use Rattle.wc_machine.specs.Laws.{OnlyFunctions}
 use Rattle.wc_store.specs.declared.error.StoreError.{StoreError}
 use Rattle.wc_store.specs.declared.store.Store.{Store}
 use Rattle.wc_store.specs.Held.{Standing, IsHeld, a_world}
@@ -18,8 +17,10 @@ use Rattle.wc_store.proofs.Parts.{then_none, then_commit, then_pack, then_worlds
 use Rattle.wc_store.specs.Laws.{HeldIsReached}
 use Rattle.wc_runner.specs.Laws.{TurnsKeepSound, WorldsContinueThemselves}
 use Rattle.wc_runner.specs.Leaves.{LeavesWorlds, SomeTurns}
+use Rattle.wc_runner.specs.Outside.{Outside}
 use Rattle.wc_engine.specs.Crashes.{Keeps, HoldsKeeping, Kept, WritesOne, LeavesPairs, LeavesKept}
-use Rattle.wc_engine.specs.Running.{usual_turns}
+use Rattle.wc_engine.specs.Running.{usual_turns, widest}
+use Rattle.wc_engine.proofs.Widening.{some_turns}
 use Rattle.wc_engine.specs.Rows.{Stays, TakesSome}
 use Rattle.wc_engine.specs.Stored.{usual_limits}
 
@@ -87,25 +88,22 @@ module _ {D : Type 0} (g : disk.Ghosts D) (at_now : (d : D) (image : List ℕ) �
         (then_pack g at_now one two one two (none_asked one) (none_asked two) stands.durable_one stands.durable_two store.place store.world.world one_new two_new leaves)
         (λ a b held. (store.world.world, held, refl, keeps_itself same_law store.world.world reached)) (other_writes store.place one two one_new two_new leaves.untouched)
 
-    -- turns
-    turned : TurnsKeepSound → OnlyFunctions store.world.world → (one_new two_new : D)
-        → LeavesWorlds g store.place (SomeTurns usual_limits usual_turns store.world.world) one two one_new two_new
+    -- turns and rests, within the usual limits
+    pub taken : (o : Outside) → TurnsKeepSound o → o.limits ≡ usual_limits → (one_new two_new : D)
+        → LeavesWorlds g store.place (SomeTurns o usual_turns store.world.world) one two one_new two_new
         → LeavesPairs g one two one_new two_new (HoldsKeeping TakesSome store.world.world)
-    turned turns_law only one_new two_new leaves =
-        let P : World → Type 0 = SomeTurns usual_limits usual_turns store.world.world in
+    taken o law usual one_new two_new leaves =
+        let w = store.world.world in
+        let P : World → Type 0 = SomeTurns o usual_turns w in
         with_one TakesSome (λ a b. (v : World) × P v × IsHeld a b (a_world v)) one_new two_new
         (then_worlds g at_now one two one two (none_asked one) (none_asked two) stands.durable_one stands.durable_two store.place P one_new two_new leaves.untouched leaves.each)
-        (λ a b held.
-        (held.0, held.2, inr (only, held.1), λ sound. turns_law usual_limits.poll_ms held.1.0.count store.world.world held.0 reached sound held.1.0.turns))
+        (λ a b held. (
+          held.0,
+          held.2,
+          inr (subst (λ (l : Limits). SomeTurns (widest l) usual_turns w held.0) usual (some_turns o usual_turns w held.0 held.1)),
+          λ sound. law held.1.0.count held.1.0.rests w held.0 reached sound held.1.0.turns,
+        ))
         (own_writes store.place one two one_new two_new leaves.untouched)
-
-    -- turns within the usual limits
-    pub taken : TurnsKeepSound → OnlyFunctions store.world.world → (limits : Limits) (one_new two_new : D) → limits ≡ usual_limits
-        → LeavesWorlds g store.place (SomeTurns limits usual_turns store.world.world) one two one_new two_new
-        → LeavesPairs g one two one_new two_new (HoldsKeeping TakesSome store.world.world)
-    taken turns_law only limits one_new two_new usual leaves =
-        turned turns_law only one_new two_new
-        (subst (λ (l : Limits). LeavesWorlds g store.place (SomeTurns l usual_turns store.world.world) one two one_new two_new) usual leaves)
 
   -- ---- whole calls
 

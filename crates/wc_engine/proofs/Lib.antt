@@ -6,6 +6,7 @@ pub mod Asking
 pub mod Entries
 pub mod Entered
 pub mod Submitted
+pub mod Widening
 pub mod Turns
 pub mod Undone
 pub mod Unwriting

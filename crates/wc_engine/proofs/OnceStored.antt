@@ -14,7 +14,7 @@ use Rattle.wc_world.specs.declared.change.Change.{Change}
 use Rattle.wc_machine.specs.Machine.{submits}
 use Rattle.wc_machine.specs.Submitting.{Submits, submission}
 use Rattle.wc_machine.proofs.Submitted.{submission_gives}
-use Rattle.wc_core.specs.Refusals.{AreTooMany, HasRoom}
+use Rattle.wc_refusal.specs.Refusals.{AreTooMany, HasRoom}
 use Rattle.wc_store.specs.declared.error.StoreError.TheVariants.{Full}
 use Rattle.wc_store.specs.Choosing.{on}
 use Rattle.wc_store.specs.Held.{Standing, nothing, damage, a_world}

@@ -4,9 +4,9 @@ use Rattle.wc_journal.specs.declared.journal.Journal.{Journal}
 use Rattle.wc_world.specs.declared.change.Change.{Change}
 use Rattle.wc_world.specs.World.{World}
 use Rattle.wc_world.specs.Applied.{applied}
-use Rattle.wc_core.specs.Refusals.{HasRoom}
-use Rattle.wc_core.specs.declared.error.TurnError.{TurnError}
-use Rattle.wc_core.specs.declared.error.TurnError.TheVariants as turn_error
+use Rattle.wc_refusal.specs.Refusals.{HasRoom}
+use Rattle.wc_refusal.specs.declared.error.TurnError.{TurnError}
+use Rattle.wc_refusal.specs.declared.error.TurnError.TheVariants as turn_error
 use Rattle.wc_store.specs.declared.error.StoreError.{StoreError}
 use Rattle.wc_store.specs.declared.error.StoreError.TheVariants as error
 use Rattle.wc_store.specs.Held.{Standing}

@@ -13,7 +13,7 @@ use Rattle.wc_value.specs.declared.value.Value.{Value, out-Value}
 use Rattle.wc_value.specs.declared.value.Value.TheVariants as value
 use Rattle.wc_value.proofs.Puts.{ascends_put, same_name}
 use Rattle.wc_syntax.specs.Bare.{bare_port, bare_definition, bare_library}
-use Rattle.wc_syntax.specs.Findings.{definition_named}
+use Rattle.wc_syntax.specs.Findings.{definition_named, head_of}
 use Rattle.wc_syntax.specs.declared.definition.Definition.{Definition}
 use Rattle.wc_syntax.specs.declared.definition.Definition.TheVariants as definition
 use Rattle.wc_syntax.specs.declared.definition.Port.{Port}
@@ -38,12 +38,15 @@ with_bare : (bad : Option (List ℕ)) (ports : List Port) (given : List (List �
 with_bare None ports given = ap Ok (fields_bare ports given [])
 with_bare (Some port) ports given = refl
 
+ports_bare : (ports : List Port) (given : List (List ℕ × List ℕ)) → inputs_of (bad_given (map bare_port ports) given) (map bare_port ports) given ≡ inputs_of (bad_given ports given) ports given
+ports_bare ports given =
+    ap (λ (bad : Option (List ℕ)). inputs_of bad (map bare_port ports) given) (bad_given_bare ports given) ∙ with_bare (bad_given ports given) ports given
+
 definition_bare : (d : Option Definition) (name : List ℕ) (given : List (List ℕ × List ℕ)) → inputs_for (option_map bare_definition d) name given ≡ inputs_for d name given
 definition_bare None name given = refl
-definition_bare (Some (definition.Function f)) name given =
-    ap (λ (bad : Option (List ℕ)). inputs_of bad (map bare_port f.head.inputs) given) (bad_given_bare f.head.inputs given) ∙ with_bare (bad_given f.head.inputs given) f.head.inputs given
-definition_bare (Some (definition.Job j)) name given = refl
-definition_bare (Some (definition.Chain c)) name given = refl
+definition_bare (Some (definition.Function f)) name given = ports_bare f.head.inputs given
+definition_bare (Some (definition.Job j)) name given = ports_bare j.head.inputs given
+definition_bare (Some (definition.Chain c)) name given = ports_bare c.head.inputs given
 
 pub inputs_bare : (ds : List Definition) (name : List ℕ) (given : List (List ℕ × List ℕ)) → inputs_for (definition_named name (bare_library ds)) name given ≡ inputs_for (definition_named name ds) name given
 inputs_bare ds name given = ap (λ (d : Option Definition). inputs_for d name given) (named_bare name ds) ∙ definition_bare (definition_named name ds) name given
@@ -270,21 +273,22 @@ given_fits ports given h =
 inputs_ready : (library : List Definition) (name : List ℕ) (given : List (List ℕ × List ℕ)) (d : Option Definition) → definition_named name library ≡ d
     → SubmitsReady (prepared_with library name (inputs_for d name given))
 inputs_ready library name given None p = tt
-inputs_ready library name given (Some (definition.Function f)) p = at (bad_given f.head.inputs given) refl
+inputs_ready library name given (Some d) p = at (bad_given ports given) refl
   where
-    at : (bad : Option (List ℕ)) → bad_given f.head.inputs given ≡ bad → SubmitsReady (prepared_with library name (inputs_of bad f.head.inputs given))
+    ports : List Port
+    ports = (head_of d).inputs
+
+    at : (bad : Option (List ℕ)) → bad_given ports given ≡ bad → SubmitsReady (prepared_with library name (inputs_of bad ports given))
     at (Some port) q = tt
     at None q =
-        let held = fields_hold f.head.inputs given [] (tt, none_ascends) in
+        let held = fields_hold ports given [] (tt, none_ascends) in
         record {
-          function = f;
+          defined = d;
           named = p;
-          fits = given_fits f.head.inputs given q;
+          fits = given_fits ports given q;
           ascends = held.1;
-          within = all_within f.head.inputs (fields_of f.head.inputs given []) held.0;
+          within = all_within ports (fields_of ports given []) held.0;
         }
-inputs_ready library name given (Some (definition.Job j)) p = tt
-inputs_ready library name given (Some (definition.Chain c)) p = tt
 
 read_ready : (name : List ℕ) (given : List (List ℕ × List ℕ)) (r : Read) → SubmitsReady (prepared_of name given r)
 read_ready name given (read.Refused c) = tt

@@ -1,11 +1,10 @@
 -- What turns make of a store.
-use Rattle.std.proofs.Common.{◌≡◌, ◌⊎◌, ◌<◌, ◌+◌, inl, inr, refl, ℕ, not, Some, None, sym, ◌∙◌}
-use Rattle.std.specs.List.{find}
+use Rattle.std.proofs.Common.{◌≡◌, ◌⊎◌, inl, inr, ℕ, sym, subst, ◌∙◌}
 use Rattle.wc_disk.specs.declared.disk.Disk as disk
 use Rattle.wc_journal.specs.declared.journal.Journal.{Journal}
 use Rattle.wc_journal.specs.Journals.{IsSettled}
 use Rattle.wc_journal.specs.Reading.{Placed, holds, journal_of, batches_of}
-use Rattle.wc_state.specs.declared.record.ProcessRecord.{ProcessRecord}
+use Rattle.wc_state.specs.declared.record.Limits.{Limits}
 use Rattle.wc_state.specs.declared.record.What.{What}
 use Rattle.wc_world.specs.World.{World}
 use Rattle.wc_store.specs.declared.store.Store.{Store}
@@ -15,15 +14,15 @@ use Rattle.wc_store.specs.Stores.{StandsFor}
 use Rattle.wc_runner.specs.declared.error.RunError.TheVariants.{Full}
 use Rattle.wc_runner.specs.declared.running.RunEnd.{RunEnd}
 use Rattle.wc_runner.specs.declared.running.RunEnd.TheVariants.{AllEnded, Spent, Resting}
-use Rattle.wc_runner.specs.Functions.{is_plain}
-use Rattle.wc_runner.specs.Refusals.{IsFullAt}
-use Rattle.wc_runner.specs.Running.{TakesTurns, FitsAfter, EndsAs}
+use Rattle.wc_runner.specs.Outside.{Outside}
+use Rattle.wc_runner.specs.Refusals.{IsFullAt, RefusesStep}
+use Rattle.wc_runner.specs.Running.{TakesTurns, TakesFewer, FitsAfter}
 use Rattle.wc_engine.specs.declared.reply.Reply.{Reply}
-use Rattle.wc_engine.specs.declared.status.Cause.TheVariants as cause
-use Rattle.wc_engine.specs.Replies.{refuses, IsReplied}
-use Rattle.wc_engine.specs.Running.{status_of, usual_turns, has_run, Runs}
+use Rattle.wc_engine.specs.Replies.{IsReplied}
+use Rattle.wc_engine.specs.Running.{status_of, usual_turns, widest, has_run, EndsSo, FillsAt, Runs, TakesFewer as FewerTaken}
 use Rattle.wc_engine.specs.Undone.{IsBeforeTurns}
 use Rattle.wc_engine.proofs.Doing.{journal_held}
+use Rattle.wc_engine.proofs.Widening.{refuses_step, takes_fewer}
 use Rattle.wc_engine.specs.Stored.{HasJournal, GoesOn, usual_limits, Fits, is_full}
 
 pub run_replied : (e : RunEnd) → IsReplied (status_of e)
@@ -62,55 +61,51 @@ module _ {D : Type 0} (g : disk.Ghosts D) where
       inr (record { nodes = fits.0; journal = new.journal; kept = journal_held g new one two stands; bytes = fits.1 })
 
   module _ (store new : Store) (one two one_new two_new : D) (r : Reply) where
-    -- a process is for later
-    pub for_later : (p : ProcessRecord) → find (λ p. not (is_plain p)) store.world.world.records ≡ Some p → r ≡ refuses (cause.Later p.definition)
-        → Runs (g.seen one, g.seen two) store.world.world (g.seen one, g.seen two) r
-    for_later p found reply = inl (record { first = p; found = found; still = refl; reply = reply })
-
     -- a run came to its end
-    pub has_come : (end : RunEnd) → find (λ p. not (is_plain p)) store.world.world.records ≡ None → StandsFor g new one_new two_new
-        → TakesTurns usual_limits.poll_ms usual_turns store.world.world new.world.world → FitsAfter usual_limits store.world.world new → GoesOn (g.seen one, g.seen two) (g.seen one_new, g.seen two_new) store.journal new.journal → EndsAs usual_limits.poll_ms usual_turns store.world.world new.world.world end
-        → r ≡ has_run end store.world.world new.world.world
+    pub has_come : (end : RunEnd) → StandsFor g new one_new two_new → TakesTurns (widest usual_limits) usual_turns store.world.world new.world.world
+        → FitsAfter usual_limits store.world.world new → GoesOn (g.seen one, g.seen two) (g.seen one_new, g.seen two_new) store.journal new.journal
+        → EndsSo usual_limits store.world.world new.world.world end → r ≡ has_run end store.world.world new.world.world
         → Runs (g.seen one, g.seen two) store.world.world (g.seen one_new, g.seen two_new) r
-    has_come end none stands takes fits goes ends reply = inr (
-      none,
-      record {
-        later = new.world.world;
-        takes = takes;
-        held = stands.held;
-        fits = within store.world.world new one_new two_new stands fits;
-        journal = store.journal;
-        next = new.journal;
-        goes = goes;
-        ends = inl (record { end = end; ends = ends; reply = reply });
-      },
-    )
+    has_come end stands takes fits goes ends reply = record {
+      later = new.world.world;
+      takes = takes;
+      held = stands.held;
+      fits = within store.world.world new one_new two_new stands fits;
+      journal = store.journal;
+      next = new.journal;
+      goes = goes;
+      ends = inl (record { end = end; ends = ends; reply = reply });
+    }
 
     -- or found the store full
-    pub has_filled : (told : Type 0) (what : What) (count limit : ℕ) → told → find (λ p. not (is_plain p)) store.world.world.records ≡ None → StandsFor g new one_new two_new
-        → TakesTurns usual_limits.poll_ms usual_turns store.world.world new.world.world → FitsAfter usual_limits store.world.world new → GoesOn (g.seen one, g.seen two) (g.seen one_new, g.seen two_new) store.journal new.journal → IsFullAt g told usual_limits new one_new two_new (Full what count limit)
-        → new.world.world.batches < store.world.world.batches + usual_turns → r ≡ is_full what count limit → Runs (g.seen one, g.seen two) store.world.world (g.seen one_new, g.seen two_new) r
-    has_filled told what count limit here none stands takes fits goes full left reply = inr (
-      none,
-      record {
-        later = new.world.world;
-        takes = takes;
-        held = stands.held;
-        fits = within store.world.world new one_new two_new stands fits;
-        journal = store.journal;
-        next = new.journal;
-        goes = goes;
-        ends = inr (record {
-          left = left;
-          what = what;
-          count = count;
-          limit = limit;
-          pid = full.pid;
-          ready = full.ready;
-          journal = full.journal;
-          kept = journal_at new full.journal one_new two_new stands (full.settled here);
-          refused = full.refused;
-          reply = reply;
-        });
-      },
-    )
+    pub has_filled : (journal : Journal) → StandsFor g new one_new two_new → IsSettled g journal (its new.place one_new two_new)
+        → TakesTurns (widest usual_limits) usual_turns store.world.world new.world.world → FitsAfter usual_limits store.world.world new
+        → GoesOn (g.seen one, g.seen two) (g.seen one_new, g.seen two_new) store.journal new.journal → FillsAt store.world.world new.world.world journal r
+        → Runs (g.seen one, g.seen two) store.world.world (g.seen one_new, g.seen two_new) r
+    has_filled journal stands settled takes fits goes full = record {
+      later = new.world.world;
+      takes = takes;
+      held = stands.held;
+      fits = within store.world.world new one_new two_new stands fits;
+      journal = store.journal;
+      next = new.journal;
+      goes = goes;
+      ends = inr (journal, journal_at new journal one_new two_new stands settled, full);
+    }
+
+-- why a run found the store full
+pub fills_at : {D : Type 0} (g : disk.Ghosts D) (told : Type 0) (o : Outside) (w : World) (store : Store) (one two : D) (begun now : ℕ) (what : What) (count limit : ℕ) (r : Reply)
+    → o.limits ≡ usual_limits → (full : IsFullAt g told o store one two (Full what count limit)) → TakesFewer o usual_turns w store.world.world begun now
+    → r ≡ is_full what count limit → FillsAt w store.world.world full.journal r
+fills_at g told o w store one two begun now what count limit r usual full left reply =
+    let v = store.world.world in
+    let e = Full what count limit in
+    record {
+      left = subst (λ (l : Limits). FewerTaken l usual_turns w v) usual (takes_fewer o usual_turns w v begun now left);
+      what = what;
+      count = count;
+      limit = limit;
+      pid = full.pid;
+      refused = subst (λ (l : Limits). RefusesStep (widest l) full.journal v full.pid e) usual (refuses_step o full.journal v full.pid e full.refused);
+      reply = reply;
+    }

@@ -8,9 +8,9 @@ use Rattle.wc_world.specs.Accepted.{IsAccepted}
 use Rattle.wc_world.specs.Applied.{applied}
 use Rattle.wc_machine.specs.Machine.{Event, Leads, submit}
 use Rattle.wc_machine.specs.Submitting.{submitted_number}
-use Rattle.wc_core.specs.Refusals.{HasRoom, RefusesSubmission}
-use Rattle.wc_core.specs.declared.error.TurnError.{TurnError}
-use Rattle.wc_core.specs.declared.error.TurnError.TheVariants as turn_error
+use Rattle.wc_refusal.specs.Refusals.{HasRoom, RefusesSubmission}
+use Rattle.wc_refusal.specs.declared.error.TurnError.{TurnError}
+use Rattle.wc_refusal.specs.declared.error.TurnError.TheVariants as turn_error
 use Rattle.wc_store.specs.declared.error.StoreError.TheVariants as store_error
 use Rattle.wc_store.specs.Held.{a_world}
 use Rattle.wc_store.specs.Refusals.{committed_bytes, RefusesCommit}

@@ -2,7 +2,6 @@
 use Rattle.std.specs.Prelude.{◌≡◌, ◌⊎◌, ◌+◌, ℕ, List}
 use Rattle.wc_state.specs.declared.record.What.{What}
 use Rattle.wc_world.specs.World.{World}
-use Rattle.wc_machine.specs.Laws.{OnlyFunctions}
 use Rattle.wc_runner.specs.Leaves.{SomeTurns}
 use Rattle.wc_store.specs.Held.{Standing}
 use Rattle.wc_store.specs.Preparing.{HasGeneration}
@@ -25,7 +24,7 @@ use Rattle.wc_engine.specs.Acknowledged.{HasProcess}
 use Rattle.wc_engine.specs.Events.{MayHappen, MayEnter, Enters}
 use Rattle.wc_engine.specs.Opening.{NoWorld, TellsDamage}
 use Rattle.wc_engine.specs.Replies.{refuses, prints}
-use Rattle.wc_engine.specs.Running.{usual_turns, MayRun, Runs}
+use Rattle.wc_engine.specs.Running.{usual_turns, widest, MayRun, Runs}
 use Rattle.wc_engine.specs.Stored.{Images, usual_limits, is_full, InitAt, AtStore, Packs}
 use Rattle.wc_engine.specs.Undone.{IsBeforeStoring, IsBeforeTurns, IsBeforePacking}
 use Rattle.wc_engine.specs.Views.{Shows, ShowsStill}
@@ -74,9 +73,9 @@ event_row a = record {
   acknowledges = HasHappened a;
 }
 
--- the same world, or, of a world of functions, what at most as many turns as a run takes make of it, within the limits
+-- the same world, or what at most as many turns and rests as a run takes make of it, within the limits
 abbrev pub TakesSome : World → World → Type 0
-TakesSome w v = (v ≡ w) ⊎ (OnlyFunctions w × SomeTurns usual_limits usual_turns w v)
+TakesSome w v = (v ≡ w) ⊎ SomeTurns (widest usual_limits) usual_turns w v
 
 -- any ready process may be the one for which the store is too full, so that its reply isn't certain
 abbrev pub run_row : WorkRow

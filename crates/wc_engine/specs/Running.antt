@@ -1,27 +1,25 @@
 -- What `run` does to a store.
-use Rattle.std.specs.Prelude.{◌≡◌, ◌⊎◌, ◌<◌, ℕ, ◌+◌, ◌-◌, true, not, Some, None}
-use Rattle.std.specs.List.{find}
+use Rattle.std.specs.Prelude.{◌≡◌, ◌⊎◌, ◌<◌, ℕ, ◌+◌, ◌-◌, true, false}
 use Rattle.wc_journal.specs.declared.journal.Journal.{Journal}
-use Rattle.wc_state.specs.declared.record.ProcessRecord.{ProcessRecord}
+use Rattle.wc_state.specs.declared.record.Limits.{Limits}
 use Rattle.wc_state.specs.declared.record.What.{What}
 use Rattle.wc_world.specs.World.{World}
-use Rattle.wc_core.specs.Ready.{is_ready_at}
 use Rattle.wc_store.specs.Held.{a_world}
+use Rattle.wc_next.specs.Standing.{is_any_live, is_resting}
 use Rattle.wc_runner.specs.declared.error.RunError.TheVariants.{Full}
 use Rattle.wc_runner.specs.declared.running.RunEnd.{RunEnd}
 use Rattle.wc_runner.specs.declared.running.RunEnd.TheVariants.{AllEnded, Spent, Resting}
-use Rattle.wc_runner.specs.Functions.{is_plain}
+use Rattle.wc_runner.specs.Outside.{Outside}
 use Rattle.wc_runner.specs.Refusals.{RefusesStep}
-use Rattle.wc_runner.specs.Running.{TakesTurns, EndsAs}
+use Rattle.wc_runner.specs.Running.{TakesTurns}
+use Rattle.wc_runner.specs.Trips.{Turns}
 use Rattle.wc_report.specs.Lines.{committed_text, live_count, paused_count}
 use Rattle.wc_engine.specs.declared.reply.Reply.{Reply}
-use Rattle.wc_engine.specs.declared.status.Cause.TheVariants as cause
 use Rattle.wc_engine.specs.declared.status.Status.{Status}
 use Rattle.wc_engine.specs.declared.status.Status.TheVariants as status
-use Rattle.wc_engine.specs.Replies.{refuses}
 use Rattle.wc_engine.specs.Stored.{Images, Hold, HasJournal, GoesOn, usual_limits, Fits, is_full}
 
--- how many turns a run takes at most, where nothing is said
+-- how many turns and rests a run takes at most, where nothing is said
 abbrev pub usual_turns : ℕ
 usual_turns = 1000000
 
@@ -34,30 +32,63 @@ status_of Resting = status.Resting
 abbrev pub has_run : RunEnd → World → World → Reply
 has_run end w v = record { status = status_of end; text = committed_text (v.batches - w.batches) (live_count v.records) (paused_count v.records) }
 
+-- ---- the outside
+
+-- any moment may be said, and any reply given, under these limits
+abbrev pub widest : Limits → Outside
+widest limits = record {
+  said = λ moment. Unit {0};
+  gave = λ dir t q reply. Unit {0};
+  brings = λ q result. Unit {0};
+  failed = Unit {0};
+  limits = limits;
+}
+
+-- so many turns and rests in all lead from one world to the other
+pub record TakesJust (limits : Limits) (all : ℕ) (w v : World) : Type 0 where
+  pub count : ℕ
+  pub rests : ℕ
+  pub all_of_them : count + rests ≡ all
+  pub turns : Turns (widest limits) count rests w v
+  pub batches : v.batches ≡ w.batches + count
+
+-- fewer than so many do
+abbrev pub TakesFewer : Limits → (most : ℕ) → World → World → Type 0
+TakesFewer limits most w v = (all : ℕ) × (all < most) × TakesJust limits all w v
+
+-- ---- how a run ends
+
+-- no process is live, or else each live one is held up, or else all turns and rests were taken
+abbrev pub EndsSo : Limits → World → World → RunEnd → Type 0
+EndsSo limits w v AllEnded = is_any_live v ≡ false
+EndsSo limits w v Spent = (is_any_live v ≡ true) × (is_resting v ≡ false) × TakesJust limits usual_turns w v
+EndsSo limits w v Resting = (is_any_live v ≡ true) × (is_resting v ≡ true)
+
 -- The run came to its end.
 pub record HasRun (w v : World) (r : Reply) : Type 0 where
   pub end : RunEnd
-  pub ends : EndsAs usual_limits.poll_ms usual_turns w v end
+  pub ends : EndsSo usual_limits w v end
   pub reply : r ≡ has_run end w v
 
--- Before all turns were taken, the store would be too full with the turn of a ready process.
-pub record IsRunFull (w v : World) (after : Images) (r : Reply) : Type 0 where
-  pub left : v.batches < w.batches + usual_turns
+-- Before all turns and rests were taken, the store would be too full with the turn of a process, by this journal.
+pub record FillsAt (w v : World) (journal : Journal) (r : Reply) : Type 0 where
+  pub left : TakesFewer usual_limits usual_turns w v
   pub what : What
   pub count : ℕ
   pub limit : ℕ
   pub pid : ℕ
-  pub ready : is_ready_at v pid 0 ≡ true
-  pub journal : Journal
-  pub kept : HasJournal after journal
-  pub refused : RefusesStep journal usual_limits v pid (Full what count limit)
+  pub refused : RefusesStep (widest usual_limits) journal v pid (Full what count limit)
   pub reply : r ≡ is_full what count limit
 
--- Turns lead from the world to the one that the disks hold then, which is within the limits where any turn was taken; the
+-- by the journal that the disks hold then
+abbrev pub IsRunFull : World → World → Images → Reply → Type 0
+IsRunFull w v after r = (journal : Journal) × HasJournal after journal × FillsAt w v journal r
+
+-- Turns and rests lead from the world to the one that the disks hold then, which is within the limits where any turn was taken; the
 -- journal goes on.
-pub record RunsTo (before : Images) (w : World) (after : Images) (r : Reply) : Type 0 where
+pub record Runs (before : Images) (w : World) (after : Images) (r : Reply) : Type 0 where
   pub later : World
-  pub takes : TakesTurns usual_limits.poll_ms usual_turns w later
+  pub takes : TakesTurns (widest usual_limits) usual_turns w later
   pub held : Hold after (a_world later)
   pub fits : (later ≡ w) ⊎ Fits after later
   pub journal : Journal
@@ -65,31 +96,6 @@ pub record RunsTo (before : Images) (w : World) (after : Images) (r : Reply) : T
   pub goes : GoesOn before after journal next
   pub ends : HasRun w later r ⊎ IsRunFull w later after r
 
--- The definition of the first process that is no function, or may take another's outcome, is told.
-pub record IsForLater (before : Images) (w : World) (after : Images) (r : Reply) : Type 0 where
-  pub first : ProcessRecord
-  pub found : find (λ p. not (is_plain p)) w.records ≡ Some first
-  pub still : after ≡ before
-  pub reply : r ≡ refuses (cause.Later first.definition)
-
--- `run`
-abbrev pub Runs : Images → World → Images → Reply → Type 0
-Runs before w after r = IsForLater before w after r ⊎ ((find (λ p. not (is_plain p)) w.records ≡ None) × RunsTo before w after r)
-
--- Turns led from some world to another, where the store would be too full with the turn of a ready process, by some journal.
-pub record HasFilled (w v : World) (r : Reply) : Type 0 where
-  pub left : v.batches < w.batches + usual_turns
-  pub what : What
-  pub count : ℕ
-  pub limit : ℕ
-  pub pid : ℕ
-  pub ready : is_ready_at v pid 0 ≡ true
-  pub journal : Journal
-  pub refused : RefusesStep journal usual_limits v pid (Full what count limit)
-  pub reply : r ≡ is_full what count limit
-
--- what is replied at a world: the first process that is no function, or may take another's outcome, is told, or turns led to another world
+-- what is replied at a world: turns and rests led to another one, where the run came to its end, or the store would be too full by some journal
 abbrev pub MayRun : Reply → Type 0
-MayRun r = (w : World) × (
-    ((first : ProcessRecord) × (find (λ p. not (is_plain p)) w.records ≡ Some first) × (r ≡ refuses (cause.Later first.definition)))
-    ⊎ ((v : World) × TakesTurns usual_limits.poll_ms usual_turns w v × (HasRun w v r ⊎ HasFilled w v r)))
+MayRun r = (w : World) × (v : World) × TakesTurns (widest usual_limits) usual_turns w v × (HasRun w v r ⊎ ((journal : Journal) × FillsAt w v journal r))

@@ -4,10 +4,8 @@ use Rattle.std.specs.List.{AllByRecursion}
 use Rattle.wc_value.specs.Ascending.{Ascends}
 use Rattle.wc_value.specs.Spelling.{spelling, depth}
 use Rattle.wc_value.specs.declared.value.Value.{Value}
-use Rattle.wc_syntax.specs.Findings.{definition_named}
+use Rattle.wc_syntax.specs.Findings.{definition_named, head_of}
 use Rattle.wc_syntax.specs.declared.definition.Definition.{Definition}
-use Rattle.wc_syntax.specs.declared.definition.Definition.TheVariants as definition
-use Rattle.wc_syntax.specs.declared.definition.Function.{Function}
 use Rattle.wc_syntax.specs.declared.definition.Port.{Port}
 use Rattle.wc_meaning.specs.Inputs.{bad_input}
 use Rattle.wc_engine.specs.declared.reading.Read.{Read}
@@ -25,12 +23,10 @@ abbrev pub inputs_of : Option (List ℕ) → List Port → List (List ℕ × Lis
 inputs_of None ports given = Ok (fields_of ports given [])
 inputs_of (Some port) ports given = Err (cause.BadInput port)
 
--- the inputs that are given for a definition of this name; it is to be a function
+-- the inputs that are given for a definition of this name
 abbrev pub inputs_for : Option Definition → List ℕ → List (List ℕ × List ℕ) → Result (List (List ℕ × Value)) Cause
 inputs_for None name given = Err (cause.Name name)
-inputs_for (Some (definition.Function f)) name given = inputs_of (bad_given f.head.inputs given) f.head.inputs given
-inputs_for (Some (definition.Job j)) name given = Err (cause.Later name)
-inputs_for (Some (definition.Chain c)) name given = Err (cause.Later name)
+inputs_for (Some d) name given = inputs_of (bad_given (head_of d).inputs given) (head_of d).inputs given
 
 abbrev pub prepared_with : List Definition → List ℕ → Result (List (List ℕ × Value)) Cause → Prepared
 prepared_with library name (Ok inputs) = prepared.Submits (record { library = library; name = name; inputs = inputs })
@@ -53,11 +49,11 @@ PreparesFrom told file name given p = (content : Option (List ℕ)) × IfSome to
 abbrev pub IsWithinLimits : List ℕ × Value → Type 0
 IsWithinLimits i = (length (spelling i.1) ≤ 4194304) × (depth i.1 ≤ 32)
 
--- the definition is a function, and its ports take the inputs, which are in order and within the limits
+-- the library has the definition, and its ports take the inputs, which are in order and within the limits
 pub record IsReady (s : Submission) : Type 0 where
-  pub function : Function
-  pub named : definition_named s.name s.library ≡ Some (definition.Function function)
-  pub fits : bad_input function.head.inputs s.inputs ≡ None
+  pub defined : Definition
+  pub named : definition_named s.name s.library ≡ Some defined
+  pub fits : bad_input (head_of defined).inputs s.inputs ≡ None
   pub ascends : Ascends s.inputs
   pub within : AllByRecursion IsWithinLimits s.inputs
 

@@ -54,7 +54,6 @@ cause_text (cause.Name name) = codes "unknown name " ++ name
 cause_text (cause.BadInput port) = codes "bad input " ++ port
 cause_text (cause.NoAnswer program) = codes "no answer " ++ program
 cause_text cause.Fuel = codes "fuel"
-cause_text (cause.Later name) = codes "later " ++ name
 cause_text cause.NoStore = codes "no store"
 cause_text cause.StoreExists = codes "store exists"
 cause_text (cause.UnknownProcess pid) = codes "unknown process " ++ decimal pid

@@ -1,4 +1,4 @@
-//! What a deed does with two disks. No shelf is in scope.
+//! What a deed does with two disks, a transport and a clock. No shelf is in scope.
 
 ghost use Rattle.std.specs.Prelude.{◌≡◌, true, IsTrue, IfOk};
 ghost use Rattle.wc_store.specs.Stores.{StandsFor};
@@ -23,15 +23,19 @@ use crate::running::run_reply;
 use crate::views::view_reply;
 use std::alloc::Global;
 use wc_disk::Disk;
+use wc_io::Pacer;
 use wc_store::Store;
+use wc_transport::Transport;
 
 /// The reply of what is done on a store.
-fn worked<D: Disk>(
+fn worked<D: Disk, T: Transport, P: Pacer>(
     alloc: Global,
     store: Store,
     work: Work,
     one: &mut D,
     two: &mut D,
+    transport: &mut T,
+    pacer: &mut P,
 ) -> Result<Reply, ActError>
     requires ready { IsReadyWork work }
     requires live { store.live ≡ true }
@@ -49,17 +53,19 @@ fn worked<D: Disk>(
     match work {
         Work::View(view) => Ok(view_reply(alloc, store.world(), view)?),
         Work::Event(asked) => event_reply(alloc, store, asked, one, two),
-        Work::Run => run_reply(alloc, store, one, two),
+        Work::Run => run_reply(alloc, store, one, two, transport, pacer),
         Work::Pack => pack_reply(alloc, store, one, two),
     }
 }
 
 /// The reply of what is done on the store that the disks hold, if they hold one.
-fn work_reply<D: Disk>(
+fn work_reply<D: Disk, T: Transport, P: Pacer>(
     alloc: Global,
     work: Work,
     one: &mut D,
     two: &mut D,
+    transport: &mut T,
+    pacer: &mut P,
 ) -> Result<Reply, ActError>
     requires ready { IsReadyWork work }
     ensures does { IfOk result (λ r. OwedDeed (visit D.Disk one.old two.old one.new two.new) (OnStore work) r) }
@@ -71,12 +77,19 @@ fn work_reply<D: Disk>(
 {
     match open_store(alloc, one, two)? {
         Opened::Told(reply) => Ok(reply),
-        Opened::Held(store) => worked(alloc, store, work, one, two),
+        Opened::Held(store) => worked(alloc, store, work, one, two, transport, pacer),
     }
 }
 
 /// The reply of a deed.
-pub fn act<D: Disk>(alloc: Global, deed: Deed, one: &mut D, two: &mut D) -> Result<Reply, ActError>
+pub fn act<D: Disk, T: Transport, P: Pacer>(
+    alloc: Global,
+    deed: Deed,
+    one: &mut D,
+    two: &mut D,
+    transport: &mut T,
+    pacer: &mut P,
+) -> Result<Reply, ActError>
     requires ready { IsReadyDeed deed }
     ensures does { IfOk result (λ r. OwedDeed (visit D.Disk one.old two.old one.new two.new) deed r) }
     ensures kept { IsTrue (D.tells one.old) → IsTrue (D.tells two.old) → LeavesKept D.Disk (row deed).begins (row deed).makes one.old two.old one.new two.new }
@@ -87,6 +100,6 @@ pub fn act<D: Disk>(alloc: Global, deed: Deed, one: &mut D, two: &mut D) -> Resu
 {
     match deed {
         Deed::Begin(Begin::Init) => init_reply(alloc, one, two),
-        Deed::Work(work) => work_reply(alloc, work, one, two),
+        Deed::Work(work) => work_reply(alloc, work, one, two, transport, pacer),
     }
 }

@@ -3,7 +3,7 @@
 ghost use Rattle.std.specs.Prelude.{◌≡◌, ◌≤◌, ℕ, true, None, Some, IsSome, IsTrue, IfOk, IfErr, IfSome};
 ghost use Rattle.wc_world.specs.Accepted.{IsAccepted};
 ghost use Rattle.wc_world.specs.Applied.{applied};
-ghost use Rattle.wc_core.specs.Refusals.{HasRoom};
+ghost use Rattle.wc_refusal.specs.Refusals.{HasRoom};
 ghost use Rattle.wc_store.specs.Held.{is_plain};
 ghost use Rattle.wc_machine.specs.Submitting.{submitted_number};
 ghost use Rattle.wc_runner.specs.Turning.{IsRoomOrMemory};

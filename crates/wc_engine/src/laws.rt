@@ -4,7 +4,7 @@ ghost use Rattle.std.specs.Prelude.{◌≡◌, ℕ, List, [], Option, IsSome};
 ghost use Rattle.wc_store.specs.Held.{IsHeld, nothing};
 ghost use Rattle.wc_store.specs.Laws.{HeldIsOne, HeldIsReached};
 ghost use Rattle.wc_machine.specs.Laws.{EmptyIsSound};
-ghost use Rattle.wc_runner.specs.Laws.{TurnsKeepSound, WorldsContinueThemselves};
+ghost use Rattle.wc_runner.specs.Laws.{WorldsContinueThemselves};
 ghost use Rattle.wc_engine.specs.Crashes.{HoldsSound};
 ghost use Rattle.wc_engine.specs.Files.{Reads, ReadsFrom};
 ghost use Rattle.wc_engine.specs.Submits.{Prepares};
@@ -12,7 +12,7 @@ ghost use Rattle.wc_engine.specs.declared.reading.Read.{Read};
 ghost use Rattle.wc_engine.specs.declared.submission.Prepared.{Prepared};
 
 use wc_machine::the_empty_world_is_sound;
-use wc_runner::{turns_keep_sound, worlds_continue_themselves};
+use wc_runner::worlds_continue_themselves;
 use wc_store::{held_worlds_are_reached, images_hold_one_thing};
 
 /// A file of one content is read as one thing, also where a shelf tells the content, and `submit` makes one thing of it.
@@ -36,11 +36,9 @@ pub(crate) fn worlds_are_kept()
     ensures reached { HeldIsReached }
     ensures empty { EmptyIsSound }
     ensures same { WorldsContinueThemselves }
-    ensures turns { TurnsKeepSound }
 {
     images_hold_one_thing();
     held_worlds_are_reached();
     the_empty_world_is_sound();
     worlds_continue_themselves();
-    turns_keep_sound();
 }

@@ -13,17 +13,18 @@ use crate::error::ActError;
 use crate::events::usual_limits;
 use crate::laws::worlds_are_kept;
 use crate::opening::full;
-use crate::reply::{Reply, refuse};
-use crate::status::{Cause, Status};
+use crate::reply::Reply;
+use crate::status::Status;
 use std::alloc::{AllocError, Global};
 use wc_disk::Disk;
+use wc_io::Pacer;
 use wc_report::{committed_text, live_count, paused_count};
-use wc_runner::{RunEnd, RunError, first_other, run};
+use wc_runner::{RunEnd, RunError, run, turns_keep_sound};
 use wc_store::Store;
-use wc_value::Duplicate;
+use wc_transport::Transport;
 use wc_world::World;
 
-/// How many turns a run takes at most, where nothing is said.
+/// How many turns and rests a run takes at most, where nothing is said.
 const USUAL_TURNS: u64 = 1_000_000;
 
 /// The status of a run that ended so.
@@ -50,11 +51,13 @@ fn has_run(alloc: Global, end: RunEnd, begun: u32, world: &World) -> Result<Repl
 }
 
 /// The reply of `run` on a store.
-pub(crate) fn run_reply<D: Disk>(
+pub(crate) fn run_reply<D: Disk, T: Transport, P: Pacer>(
     alloc: Global,
     mut store: Store,
     one: &mut D,
     two: &mut D,
+    transport: &mut T,
+    pacer: &mut P,
 ) -> Result<Reply, ActError>
     requires live { store.live ≡ true }
     requires stands { IsTrue (D.tells one.old) → IsTrue (D.tells two.old) → StandsFor D.Disk store one.old two.old }
@@ -68,11 +71,19 @@ pub(crate) fn run_reply<D: Disk>(
     ensures cause { CountsDisks result (D.faults one.old) (D.faults one.new) (D.faults two.old) (D.faults two.new) }
 {
     worlds_are_kept();
-    if let Some(process) = first_other(store.world()) {
-        return Ok(refuse(alloc, Cause::Later(process.definition.copy()?))?);
-    }
+    turns_keep_sound::<T, P>();
     let begun = store.world().batches();
-    match run(alloc, &mut store, one, two, &usual_limits(), USUAL_TURNS) {
+    match run(
+        alloc,
+        &mut store,
+        one,
+        two,
+        transport,
+        pacer,
+        &usual_limits(),
+        USUAL_TURNS,
+        0,
+    ) {
         Ok(end) => Ok(has_run(alloc, end, begun, store.world())?),
         Err(RunError::DiskFault) => Err(ActError::DiskFault),
         Err(RunError::Full(what, count, limit)) => Ok(full(alloc, what, count, limit)?),

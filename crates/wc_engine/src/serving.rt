@@ -22,16 +22,19 @@ use crate::reply::{Reply, finish};
 use crate::status::Status;
 use std::alloc::Global;
 use wc_disk::Disk;
-use wc_io::{Shelf, Sink};
+use wc_io::{Pacer, Shelf, Sink};
+use wc_transport::Transport;
 use wc_value::Words;
 
 /// The reply that is owed for the words, as the shelf's file and the disks make it.
-fn answer<R: Shelf, D: Disk>(
+fn answer<R: Shelf, D: Disk, T: Transport, P: Pacer>(
     alloc: Global,
     words: &Words,
     shelf: &mut R,
     one: &mut D,
     two: &mut D,
+    transport: &mut T,
+    pacer: &mut P,
 ) -> Result<Reply, ReplyError>
     ensures owed { IfOk result (λ r. IsOwed (R.contents shelf.old) (visit D.Disk one.old two.old one.new two.new) words.now r) }
     ensures counts { CountsReply result (R.faults shelf.old) (R.faults shelf.new) (D.faults one.old) (D.faults one.new) (D.faults two.old) (D.faults two.new)
@@ -47,26 +50,28 @@ fn answer<R: Shelf, D: Disk>(
 {
     match plan(alloc, words, shelf)? {
         Plan::Told(reply) => Ok(reply),
-        Plan::On(deed) => Ok(act(alloc, deed, one, two)?),
+        Plan::On(deed) => Ok(act(alloc, deed, one, two, transport, pacer)?),
     }
 }
 
-/// Does what the words say, with the files of the shelf and a store on two disks, and writes one text to the sink.
+/// Does what the words say, with the files of the shelf, a store on two disks, the transport of its jobs and a clock, and writes one text
+/// to the sink.
 ///
 /// What comes first of these is the status, where the shelf and the disks tell and neither memory runs out nor a file, a disk or
 /// the sink fails: the words are no command; the file isn't there, isn't UTF-8, stands for no library, or its library breaks a
-/// rule; the library doesn't define the name; for `submit`: the definition is none that it takes yet; a port is given badly, of
+/// rule; the library doesn't define the name; a port is given badly, of
 /// which the least is named; for `dry`: no result is known of a job, or the fuel doesn't suffice; for a command of a store: a disk
-/// is damaged; there is no store, or for `init` there is one; there is no such process; for `run`, a process is there that it
-/// doesn't run yet; the store would be too full. Else the text of the command is written, also where `run` took as many turns as it
+/// is damaged; there is no store, or for `init` there is one; there is no such process; the store would be too full. Else the text of the command is written, also where `run` took as many turns as it
 /// may, or where each live process rests.
-pub fn serve<R: Shelf, W: Sink, D: Disk>(
+pub fn serve<R: Shelf, W: Sink, D: Disk, T: Transport, P: Pacer>(
     alloc: Global,
     words: &Words,
     shelf: &mut R,
     sink: &mut W,
     one: &mut D,
     two: &mut D,
+    transport: &mut T,
+    pacer: &mut P,
 ) -> Status
     // The text that is owed was written whole, be it that of the command or a refusal, and this is its status.
     ensures replied { IsReplied result → (r : AReply) × IsOwed (R.contents shelf.old) (visit D.Disk one.old two.old one.new two.new) words.now r
@@ -78,8 +83,8 @@ pub fn serve<R: Shelf, W: Sink, D: Disk>(
     // At any moment of the call one of the disks has only images that a crash at entry might have left. Each image of the other, beside each
     // that the first may leave at exit, is such a pair, or holds what the words make of what the disks read as at entry: of nothing, where they
     // begin a store, nothing or the empty world; of a world, the same world, or what a deed that they plan makes of it, which for `submit` is
-    // the one submission as which its words are prepared, and for `run` what turns make of a world of functions, within the limits. What is
-    // made of a sound world is sound, and continues it.
+    // the one submission as which its words are prepared, and for `run` what turns and rests make, within the limits, whatever the transport
+    // replies. What is made of a sound world is sound, and continues it.
     ensures crash { IsTrue (D.tells one.old) → IsTrue (D.tells two.old) → LeavesMade D.Disk (R.contents shelf.old) words.now one.old two.old one.new two.new }
     // Once a deed was done, or found the store too full, nothing is pending, and each pair of images holds what the disks then read as.
     ensures durable { NeedDisks (R.contents shelf.old) words.now → IsDoneOrFull result → IsTrue (D.tells one.old) → IsTrue (D.tells two.old) → AreDurable D.Disk one.new two.new
@@ -122,7 +127,7 @@ pub fn serve<R: Shelf, W: Sink, D: Disk>(
     ensures tells { (D.tells one.new ≡ D.tells one.old) × (D.tells two.new ≡ D.tells two.old) }
 {
     worlds_are_kept();
-    match answer(alloc, words, shelf, one, two) {
+    match answer(alloc, words, shelf, one, two, transport, pacer) {
         Ok(reply) => finish(sink, reply),
         Err(ReplyError::OutOfMemory) => Status::OutOfMemory,
         Err(ReplyError::ReadFault) => Status::ReadFault,

@@ -27,8 +27,6 @@ pub enum Cause {
     NoAnswer(Text),
     /// The fuel doesn't suffice.
     Fuel,
-    /// Processes of this definition are neither submitted nor run yet: it is no function, or one may take another's outcome.
-    Later(Text),
     /// There is no store.
     NoStore,
     /// There is a store already.

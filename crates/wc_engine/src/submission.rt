@@ -10,16 +10,16 @@ use crate::reading::{Read, read_content};
 use crate::status::Cause;
 use std::alloc::{AllocError, Global};
 use wc_cli::Given;
-use wc_meaning::find_definition;
-use wc_syntax::{Checked, Definition, Port};
+use wc_meaning::{find_definition, head};
+use wc_syntax::{Checked, Port};
 use wc_value::{Bytes, Duplicate, Fields, Text};
 
-/// A process that is to be made of a function.
+/// A process that is to be made of a definition.
 #[derive(Drop)]
 pub struct Submission {
     /// The library.
     pub library: Checked,
-    /// The function's name.
+    /// The definition's name.
     pub name: Text,
     /// The inputs.
     pub inputs: Fields,
@@ -48,7 +48,7 @@ fn inputs_of(
     }
 }
 
-/// The inputs given for the function of this name, or why there are none.
+/// The inputs given for the definition of this name, or why there are none.
 #[tactic(auto, using(crate::proofs::Submitted::inputs_bare))]
 fn inputs_for(
     alloc: Global,
@@ -60,10 +60,7 @@ fn inputs_for(
 {
     match find_definition(library.library(), name) {
         None => Ok(Err(Cause::Name(name.copy()?))),
-        Some(Definition::Function(function)) => {
-            inputs_of(alloc, function.head.inputs.as_slice(), given)
-        }
-        Some(_) => Ok(Err(Cause::Later(name.copy()?))),
+        Some(definition) => inputs_of(alloc, head(definition).inputs.as_slice(), given),
     }
 }
 
@@ -105,7 +102,7 @@ fn prepare_read(
 
 /// What the words `submit FILE NAME [PORT=VALUE]...` submit, where this is the content of the file, none where there is no such
 /// file. What comes first of these is the cause of a refusal: what the file is refused for; the library doesn't define the
-/// name; the definition is no function; a port is given badly, of which the least is named.
+/// name; a port is given badly, of which the least is named.
 pub fn prepare(
     alloc: Global,
     file: &Text,
@@ -114,7 +111,7 @@ pub fn prepare(
     content: Option<Bytes>,
 ) -> Result<Prepared, AllocError>
     ensures exact { IfOk result (λ p. Prepares file.now content name.now given.now p) }
-    // The function's ports take what is submitted, and it is within the limits.
+    // The definition's ports take what is submitted, and it is within the limits.
     ensures ready { IfOk result (λ p. SubmitsReady p) }
 {
     let read = read_content(alloc, file, content)?;

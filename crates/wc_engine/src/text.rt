@@ -89,7 +89,6 @@ fn cause_name(alloc: Global, cause: &Cause) -> Result<String, AllocError>
         Cause::BadInput(port) => format!(in alloc; "bad input {}", port.as_str()),
         Cause::NoAnswer(program) => format!(in alloc; "no answer {}", program.as_str()),
         Cause::Fuel => String::from_str(alloc, "fuel"),
-        Cause::Later(name) => format!(in alloc; "later {}", name.as_str()),
         Cause::NoStore => String::from_str(alloc, "no store"),
         Cause::StoreExists => String::from_str(alloc, "store exists"),
         Cause::UnknownProcess(pid) => format!(in alloc; "unknown process {pid}"),

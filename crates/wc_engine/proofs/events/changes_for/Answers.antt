@@ -1,6 +1,6 @@
 use Rattle.std.proofs.Common.{List, ℕ, [], IfOk, IfErr, ap, sym, subst}
 use Rattle.wc_state.specs.Ranges.{AreLimits}
-use Rattle.wc_core.specs.Refusals.{HasRoom, RefusesSubmission}
+use Rattle.wc_refusal.specs.Refusals.{HasRoom, RefusesSubmission}
 use Rattle.wc_machine.specs.Submitting.{Submits}
 use Rattle.wc_state.specs.declared.record.Limits.{Limits}
 use Rattle.wc_world.specs.Applied.{applied}

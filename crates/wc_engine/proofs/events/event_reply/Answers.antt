@@ -1,5 +1,5 @@
 use Rattle.std.proofs.Common.{◌≡◌, ◌≤◌, inl, inr, length, IsTrue, refl, ap, subst, ◌∙◌}
-use Rattle.wc_core.specs.Refusals.{HasRoom}
+use Rattle.wc_refusal.specs.Refusals.{HasRoom}
 use Rattle.wc_state.specs.declared.record.Limits.{Limits}
 use Rattle.wc_world.specs.World.{World}
 use Rattle.wc_world.specs.Accepted.{IsAccepted}

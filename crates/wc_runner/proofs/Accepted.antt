@@ -1,105 +1,145 @@
--- What ends a ready function, and why a turn is refused.
-use Rattle.std.proofs.Common.{◌≡◌, ℕ, suc, ◌+◌, true, false, Option, Some, None, List, [], ◌∷◌, ◌++◌, length, refl, sym, ap, subst, ◌∙◌}
-use Rattle.std.specs.Prelude.{IfSome}
-use Rattle.wc_value.specs.declared.process.ProcessState.{ProcessState}
-use Rattle.wc_value.specs.declared.process.ProcessState.TheVariants as state
-use Rattle.wc_calculation.specs.Rules.{Values}
+-- What the turn of a ready process makes, and how it is refused.
+use Rattle.std.proofs.Common.{◌≡◌, ◌⊎◌, inl, inr, ⊎_elim, ℕ, ◌+◌, ◌≤◌, true, false, List, [], ◌∷◌, length, Result, Ok, Err, refl, sym, ap, subst, ◌∙◌}
+use Rattle.std.specs.Prelude.{All, IfErr, OnErr, OnOk}
+use Rattle.std.proofs.lemmas.List.Elements.{All-head, All-tail}
 use Rattle.wc_journal.specs.declared.journal.Journal.{Journal}
 use Rattle.wc_state.specs.declared.record.Limits.{Limits}
-use Rattle.wc_state.specs.declared.record.Part.{Part}
-use Rattle.wc_state.specs.declared.record.ProcessKind.{ProcessKind}
-use Rattle.wc_state.specs.declared.record.ProcessKind.TheVariants as kind
 use Rattle.wc_state.specs.declared.record.ProcessRecord.{ProcessRecord}
 use Rattle.wc_world.specs.declared.change.Change.{Change}
+use Rattle.wc_world.specs.declared.change.Change.TheVariants as change
 use Rattle.wc_world.specs.World.{World}
-use Rattle.wc_world.specs.Accepted.{IsAccepted, IsReached}
 use Rattle.wc_world.specs.Applied.{applied}
-use Rattle.wc_world.specs.Consistent.{Stands}
-use Rattle.wc_world.specs.Fits.{part_fits}
-use Rattle.wc_world.specs.Records.{find_record}
-use Rattle.wc_world.proofs.FoundRecords.{found_holds}
-use Rattle.wc_world.proofs.ReachedWorlds.{reached_is_consistent}
-use Rattle.wc_machine.specs.declared.answer.TaskAnswer.TheVariants.{Nothing}
-use Rattle.wc_machine.specs.Asking.{Need, nothing, need_at, need, fits}
-use Rattle.wc_machine.specs.Ending.{creations}
-use Rattle.wc_machine.specs.Laws.{OnlyFunctions, calculated_for}
+use Rattle.wc_machine.specs.declared.answer.TaskAnswer.{TaskAnswer}
 use Rattle.wc_machine.specs.Machine.{Leads, turn}
-use Rattle.wc_machine.specs.Recorded.{recorded_request}
-use Rattle.wc_refusal.specs.Refusals.{HasRoom}
+use Rattle.wc_accepted.specs.Laws.{IsPlain}
+use Rattle.wc_accepted.proofs.Parts.{events_are_plain}
+use Rattle.wc_refusal.specs.Refusals.{FullOf}
 use Rattle.wc_refusal.specs.declared.error.TurnError.{TurnError}
 use Rattle.wc_refusal.specs.declared.error.TurnError.TheVariants as turn_error
-use Rattle.wc_core.specs.Asks.{FitsAt}
 use Rattle.wc_core.specs.Ready.{is_ready_at}
 use Rattle.wc_core.specs.Refusals.{RefusesTurn}
 use Rattle.wc_store.specs.Held.{is_plain}
 use Rattle.wc_store.specs.Refusals.{RefusesCommit}
 use Rattle.wc_store.specs.declared.error.StoreError.{StoreError}
 use Rattle.wc_store.specs.declared.error.StoreError.TheVariants as store_error
-use Rattle.wc_runner.specs.Ended.{EndsFunction}
+use Rattle.wc_runner.specs.declared.error.RunError.{RunError}
+use Rattle.wc_runner.specs.declared.error.RunError.TheVariants.{DiskFault, Full, OutOfMemory}
 use Rattle.wc_runner.specs.Leaves.{IsTurnWithin}
-use Rattle.wc_runner.specs.Turning.{IsTurnOf, IsRoomOrMemory, IsOfCommit, RefusesChanges, of_turn}
-use Rattle.wc_runner.specs.Trips.{TurnOf}
-use Rattle.wc_runner.proofs.FunctionTurns.{IsPlain, ends_function, ends_one, batches_after, functions_after}
+use Rattle.wc_runner.specs.Outside.{Answers, Outside}
+use Rattle.wc_runner.specs.Refusals.{Counts, IsUnchanged, RefusesPrepared, RefusesStep, RefusesStored, is_live_after}
+use Rattle.wc_runner.specs.Trips.{IsTurn, TurnOf}
+use Rattle.wc_runner.specs.Turning.{IsOfCommit, IsPrepared, IsReady, IsRoomOrMemory, RefusesChanges, of_turn}
+use Rattle.wc_runner.proofs.ManyTurns.{one_batch}
 
-plain_creations : (next pid : ℕ) (os : Values) (rest : List Change) → is_plain rest ≡ true → is_plain (creations next pid os ++ rest) ≡ true
-plain_creations next pid [] rest h = h
-plain_creations next pid (o ∷ os) rest h = plain_creations (suc next) pid os rest h
+-- changes of which none is a Count or a Kept may be committed
+plain : (cs : List Change) → All IsPlain cs → is_plain cs ≡ true
+plain [] all = refl
+plain (change.Library l names ∷ cs) all = plain cs (All-tail IsPlain (change.Library l names) cs all)
+plain (change.Data v ∷ cs) all = plain cs (All-tail IsPlain (change.Data v) cs all)
+plain (change.Process n ∷ cs) all = plain cs (All-tail IsPlain (change.Process n) cs all)
+plain (change.Link l ∷ cs) all = plain cs (All-tail IsPlain (change.Link l) cs all)
+plain (change.Set s ∷ cs) all = plain cs (All-tail IsPlain (change.Set s) cs all)
+plain (change.Count n ∷ cs) all = absurd (All-head IsPlain (change.Count n) cs all)
+plain (change.Kept k ∷ cs) all = absurd (All-head IsPlain (change.Kept k) cs all)
 
--- what a function ends with are plain changes
-pub its_turn : (poll pid : ℕ) (w : World) (cs : List Change) → IsReached w → OnlyFunctions w → Leads poll w (turn pid Nothing 0) cs → IsAccepted w cs → IsTurnOf poll w pid cs
-its_turn poll pid w cs reached only leads accepted =
-    let e : EndsFunction w pid 0 cs = ends_function poll pid w cs reached only leads in
-    record {
-      ends = e;
-      leads = leads;
-      accepted = accepted;
-      plain = ap is_plain e.changes ∙ plain_creations (length w.nodes + 1) e.process.node (calculated_for w e.process e.function).outputs _ refl;
-      reached = reached;
-    }
+pub turn_is_plain : (poll : ℕ) (w : World) (pid now : ℕ) (a : TaskAnswer) (cs : List Change) → Leads poll w (turn pid a now) cs → is_plain cs ≡ true
+turn_is_plain poll w pid now a cs leads = plain cs (events_are_plain poll w (turn pid a now) cs leads)
 
--- ---- what the changes make
+-- ---- what a turn makes
 
-module _ (poll : ℕ) (w : World) (pid : ℕ) (cs : List Change) (t : IsTurnOf poll w pid cs) where
-  pub one_turn : TurnOf poll pid w (applied w cs)
-  one_turn = record { changes = cs; leads = t.leads; accepted = t.accepted; after = refl }
-
-  pub one_batch : OnlyFunctions w → (applied w cs).batches ≡ w.batches + 1
-  one_batch only = batches_after w (applied w cs) (ends_one poll w (applied w cs) t.reached only (pid, one_turn))
-
-  pub still_functions : OnlyFunctions w → OnlyFunctions (applied w cs)
-  still_functions only = functions_after w (applied w cs) only (ends_one poll w (applied w cs) t.reached only (pid, one_turn))
-
--- the turn, by one batch and within the limit of nodes
-pub turn_within : (limits : Limits) (w : World) (pid : ℕ) (cs : List Change) → IsTurnOf limits.poll_ms w pid cs → OnlyFunctions w
-    → HasRoom limits.max_nodes (applied w cs) → IsTurnWithin limits pid w (applied w cs)
-turn_within limits w pid cs t only room = record {
-  turn = one_turn limits.poll_ms w pid cs t;
-  nodes = room.0;
-  batch = one_batch limits.poll_ms w pid cs t only;
+pub prepares : (o : Outside) (w : World) (pid now : ℕ) (a : TaskAnswer) → o.said now → Answers o w pid a → (cs : List Change) → IsReady o.limits w pid a now cs → IsPrepared o pid w cs
+prepares o w pid now a said answered cs r = record {
+  turn = record { moment = now; said = said; answer = a; answered = answered; leads = r.leads };
+  accepted = r.accepted;
+  plain = r.plain;
+  room = r.room;
 }
+
+pub prepares_none : (o : Outside) (w : World) (pid now : ℕ) (a : TaskAnswer) → o.said now → Answers o w pid a → (e : RunError) → RefusesChanges o.limits w pid a now e
+    → RefusesPrepared o pid w e
+prepares_none o w pid now a said answered DiskFault h = h
+prepares_none o w pid now a said answered (Full what count limit) h =
+    (h.0, record { moment = now; said = said; answer = a; answered = answered; leads = h.1 }, h.2)
+prepares_none o w pid now a said answered OutOfMemory h = tt
+
+module _ (o : Outside) (pid : ℕ) (w : World) (cs : List Change) (p : IsPrepared o pid w cs) where
+  pub turn_made : TurnOf o pid w (applied w cs)
+  turn_made = record { changes = cs; turn = p.turn; accepted = p.accepted; after = refl }
+
+  pub turn_counted : (applied w cs).batches ≡ w.batches + 1
+  turn_counted = one_batch o pid w cs p.turn
+
+  -- the turn, by one batch and within the limit of nodes
+  pub turn_within : IsTurnWithin o pid w (applied w cs)
+  turn_within = record { turn = turn_made; nodes = p.room.0; batch = turn_counted }
+
+  pub commit_refused : (journal : Journal) (e : RunError) → RefusesStored journal o.limits w cs e → RefusesStep o journal w pid e
+  commit_refused journal DiskFault h = (cs, p.turn, h)
+  commit_refused journal (Full what count limit) h = inr (cs, p.turn, h)
+  commit_refused journal OutOfMemory h = tt
 
 -- ---- refusals
 
--- why the turn of a ready process is refused
-pub refused_turn : (poll : ℕ) (w : World) (pid most : ℕ) (e : TurnError) → is_ready_at w pid 0 ≡ true → RefusesTurn poll w pid Nothing 0 most e → IsRoomOrMemory e
-refused_turn poll w pid most turn_error.NotReady ready refused = let both : true ≡ false = sym ready ∙ refused in absurd (cc)
-refused_turn poll w pid most (turn_error.Full what count limit) ready refused = tt
-refused_turn poll w pid most turn_error.UnknownProcess ready refused = refused
-refused_turn poll w pid most (turn_error.Ended state) ready refused = refused
-refused_turn poll w pid most turn_error.UnknownName ready refused = refused
-refused_turn poll w pid most (turn_error.BadInputs port) ready refused = refused
-refused_turn poll w pid most turn_error.OutOfMemory ready refused = tt
+pub step_refused : (o : Outside) (journal : Journal) (w : World) (pid : ℕ) (e : RunError) → RefusesPrepared o pid w e → RefusesStep o journal w pid e
+step_refused o journal w pid DiskFault h = absurd h
+step_refused o journal w pid (Full what count limit) h = inl h
+step_refused o journal w pid OutOfMemory h = tt
 
-pub refused_changes : (poll : ℕ) (w : World) (pid most : ℕ) (e : TurnError) → IsReached w → OnlyFunctions w → is_ready_at w pid 0 ≡ true → RefusesTurn poll w pid Nothing 0 most e
-    → RefusesChanges w pid most (of_turn e)
-refused_changes poll w pid most turn_error.NotReady reached only ready refused = tt
-refused_changes poll w pid most (turn_error.Full what count limit) reached only ready refused =
-    (refused.0, ends_function poll pid w refused.0 reached only refused.1, refused.2)
-refused_changes poll w pid most turn_error.UnknownProcess reached only ready refused = tt
-refused_changes poll w pid most (turn_error.Ended state) reached only ready refused = tt
-refused_changes poll w pid most turn_error.UnknownName reached only ready refused = tt
-refused_changes poll w pid most (turn_error.BadInputs port) reached only ready refused = tt
-refused_changes poll w pid most turn_error.OutOfMemory reached only ready refused = tt
+pub still_live : (o : Outside) (w : World) (pid : ℕ) (e : RunError) → RefusesPrepared o pid w e → is_live_after {T = Unit {0}} (Err e) ≡ true
+still_live o w pid DiskFault h = absurd h
+still_live o w pid (Full what count limit) h = refl
+still_live o w pid OutOfMemory h = refl
+
+pub counts_none : (o : Outside) (w : World) (pid : ℕ) (e : RunError) (one two : ℕ) → RefusesPrepared o pid w e → Counts {T = Unit {0}} (Err e) one one two two
+counts_none o w pid DiskFault one two h = absurd h
+counts_none o w pid (Full what count limit) one two h = (refl, refl)
+counts_none o w pid OutOfMemory one two h = (refl, refl)
+
+pub unchanged : {S : Type 0} (e : RunError) (s : S) → IsUnchanged {T = Unit {0}} (Err e) s s
+unchanged DiskFault s = tt
+unchanged (Full what count limit) s = refl
+unchanged OutOfMemory s = refl
+
+pub turn_refuses : (limits : Limits) (w : World) (pid : ℕ) (a : TaskAnswer) (now : ℕ) (e : TurnError) → RefusesTurn limits.poll_ms w pid a now limits.max_nodes e
+    → RefusesChanges limits w pid a now (of_turn e)
+turn_refuses limits w pid a now turn_error.NotReady h = tt
+turn_refuses limits w pid a now (turn_error.Full what count limit) h = h
+turn_refuses limits w pid a now turn_error.UnknownProcess h = tt
+turn_refuses limits w pid a now (turn_error.Ended state) h = tt
+turn_refuses limits w pid a now turn_error.UnknownName h = tt
+turn_refuses limits w pid a now (turn_error.BadInputs port) h = tt
+turn_refuses limits w pid a now turn_error.OutOfMemory h = tt
+
+-- ---- results
+
+pub on_ok : {A E : Type 0} (r : Result A E) (P Q : Type 0) → (P → Q) → OnOk r P → OnOk r Q
+on_ok (Ok a) P Q more h = more h
+on_ok (Err e) P Q more h = tt
+
+pub if_err : {A E : Type 0} (r : Result A E) (P Q : E → Type 0) → ((e : E) → P e → Q e) → IfErr r P → IfErr r Q
+if_err (Ok a) P Q more h = tt
+if_err (Err e) P Q more h = more e h
+
+pub err_any : {A E : Type 0} (r : Result A E) (P : Type 0) → P → OnErr r P
+err_any (Ok a) P h = tt
+err_any (Err e) P h = h
+
+pub one_or_other : {A E : Type 0} (r : Result A E) (P Q : Type 0) → OnOk r P → OnErr r Q → P ⊎ Q
+one_or_other (Ok a) P Q h k = inl h
+one_or_other (Err e) P Q h k = inr k
+
+-- ---- why a turn is refused, and a commit
+
+-- why the turn of a ready process is refused
+pub refused_turn : (poll : ℕ) (w : World) (pid : ℕ) (a : TaskAnswer) (now most : ℕ) (e : TurnError) → is_ready_at w pid now ≡ true → RefusesTurn poll w pid a now most e
+    → IsRoomOrMemory e
+refused_turn poll w pid a now most turn_error.NotReady ready refused = let both : true ≡ false = sym ready ∙ refused in absurd (cc)
+refused_turn poll w pid a now most (turn_error.Full what count limit) ready refused = tt
+refused_turn poll w pid a now most turn_error.UnknownProcess ready refused = refused
+refused_turn poll w pid a now most (turn_error.Ended state) ready refused = refused
+refused_turn poll w pid a now most turn_error.UnknownName ready refused = refused
+refused_turn poll w pid a now most (turn_error.BadInputs port) ready refused = refused
+refused_turn poll w pid a now most turn_error.OutOfMemory ready refused = tt
 
 -- why a commit is
 pub refused_commit : (journal : Journal) (limits : Limits) (w : World) (cs : List Change) (e : StoreError) → RefusesCommit journal limits w cs e → IsOfCommit e
@@ -108,24 +148,3 @@ refused_commit journal limits w cs (store_error.Damaged disk at found) refused =
 refused_commit journal limits w cs (store_error.Full what count limit) refused = tt
 refused_commit journal limits w cs store_error.AlreadyThere refused = refused
 refused_commit journal limits w cs store_error.OutOfMemory refused = tt
-
--- a function asks nothing
-asks_nothing : (s : ProcessState) (p : Part) (asked : _) → part_fits kind.Function s p ≡ true → need_at s p asked ≡ nothing
-asks_nothing state.Created p asked h = refl
-asks_nothing state.Running p asked h = refl
-asks_nothing state.Waiting p asked h = absurd (cc)
-asks_nothing (state.Finished n) p asked h = refl
-asks_nothing (state.Excepted r) p asked h = refl
-asks_nothing state.Killed p asked h = refl
-
--- so nothing is an answer to it
-pub fits_nothing : (w : World) (pid : ℕ) → IsReached w → OnlyFunctions w → FitsAt w pid Nothing
-fits_nothing w pid reached only = at (find_record pid w.records) refl
-  where
-    at : (o : Option ProcessRecord) → find_record pid w.records ≡ o → IfSome o (λ r. fits (need w r) Nothing ≡ true)
-    at None e = tt
-    at (Some r) e =
-        let plain : IsPlain r = found_holds IsPlain pid w.records r only e in
-        let stands : Stands w r = found_holds (Stands w) pid w.records r (reached_is_consistent w reached).records e in
-        ap (λ (n : Need). fits n Nothing)
-        (asks_nothing r.state r.part (recorded_request w r) (subst (λ (k : ProcessKind). part_fits k r.state r.part ≡ true) plain.0 stands.part))

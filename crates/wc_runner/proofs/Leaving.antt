@@ -11,8 +11,10 @@ use Rattle.wc_store.specs.declared.store.Store.{Store}
 use Rattle.wc_store.specs.Places.{its}
 use Rattle.wc_store.specs.Held.{Standing, a_world, IsHeld}
 use Rattle.wc_store.specs.Stores.{other, HoldsAs, HoldsEither, StandsFor, CommitLeaves}
-use Rattle.wc_runner.specs.Leaves.{HoldsSome, LeavesWorlds, IsTurnWithin, IsOrTurnOf, SomeTurns}
+use Rattle.wc_runner.specs.Leaves.{HoldsSome, LeavesNow, LeavesWorlds, IsTurnWithin, IsOrTurnOf, SomeTurns}
+use Rattle.wc_runner.specs.Outside.{Outside}
 use Rattle.wc_runner.specs.Trips.{Turns, one_more}
+use Rattle.wc_runner.proofs.Widened.{Widens, turns_widened, turn_of_widened}
 
 module _ {D : Type 0} (g : disk.Ghosts D) where
   held_as : (place : Place) (one two : D) (s : Standing) → IsHeld (g.seen one) (g.seen two) s → HoldsAs place (g.seen (its place one two)) (g.seen (other place one two)) s
@@ -37,37 +39,67 @@ module _ {D : Type 0} (g : disk.Ghosts D) where
             (store.world.world, here, subst (λ (i : List ℕ). HoldsAs store.place i (g.seen (other store.place one two)) (a_world store.world.world)) (sym (only image (only_now own image left))) held));
       }
 
+  -- and so do those that a crash now may leave
+  pub stands_now : (store : Store) (P : World → Type 0) (one two : D) → StandsFor g store one two → P store.world.world → LeavesNow g store.place P one two
+  stands_now store P one two stands here = λ image left.
+      let own : D = its store.place one two in
+      let only : Only (g.seen own) (g.may_leave own) = own_durable store.place one two stands.durable_one stands.durable_two in
+      let held : HoldsAs store.place (g.seen own) (g.seen (other store.place one two)) (a_world store.world.world) = held_as store.place one two (a_world store.world.world) stands.held in
+      (store.world.world, here, subst (λ (i : List ℕ). HoldsAs store.place i (g.seen (other store.place one two)) (a_world store.world.world)) (sym (only image left)) held)
+
+  -- what is left at each moment is left now
+  pub leaves_now : (place : Place) (P : World → Type 0) (one two one_new two_new : D) → ((d : D) (t : ℕ) (image : List ℕ) → t ≤ g.moment d → g.may_leave d image → g.left_since d t image)
+      → LeavesWorlds g place P one two one_new two_new → LeavesNow g place P one_new two_new
+  leaves_now place P one two one_new two_new counts leaves = λ image left.
+      subst (λ (rest : List ℕ). HoldsSome place P rest image) (sym (ap g.seen leaves.untouched))
+      (leaves.each.each image (counts (its place one_new two_new) (g.moment (its place one two)) image leaves.each.later left))
+
+  -- what has P has R
+  pub weaker_leaves : (place : Place) (P R : World → Type 0) (one two one_new two_new : D) → ((v : World) → P v → R v) → LeavesWorlds g place P one two one_new two_new
+      → LeavesWorlds g place R one two one_new two_new
+  weaker_leaves place P R one two one_new two_new weaker leaves = record {
+    untouched = leaves.untouched;
+    each = weaker_run g (its place one two) (its place one_new two_new) _ _ leaves.each (λ image h. (h.0, weaker h.0 h.1, h.2));
+  }
+
   -- a commit of a turn leaves the world before or the one after
-  pub commit_leaves : (limits : Limits) (pid : ℕ) (place : Place) (w v : World) (one two one_new two_new : D) → IsTurnWithin limits pid w v
-      → CommitLeaves g place w v one two one_new two_new → LeavesWorlds g place (IsOrTurnOf limits pid w) one two one_new two_new
-  commit_leaves limits pid place w v one two one_new two_new t leaves = record {
+  pub commit_leaves : (o : Outside) (pid : ℕ) (place : Place) (w v : World) (one two one_new two_new : D) → IsTurnWithin o pid w v
+      → CommitLeaves g place w v one two one_new two_new → LeavesWorlds g place (IsOrTurnOf o pid w) one two one_new two_new
+  commit_leaves o pid place w v one two one_new two_new t leaves = record {
     untouched = leaves.untouched;
     each = weaker_run g (its place one two) (its place one_new two_new) _ _ leaves.each either;
   }
     where
-      either : (image : List ℕ) → HoldsEither place w v (g.seen (other place one two)) image → HoldsSome place (IsOrTurnOf limits pid w) (g.seen (other place one two)) image
+      either : (image : List ℕ) → HoldsEither place w v (g.seen (other place one two)) image → HoldsSome place (IsOrTurnOf o pid w) (g.seen (other place one two)) image
       either image (inl before) = (w, inl refl, before)
       either image (inr after) = (v, inr t, after)
 
-  -- ---- one turn more
+-- ---- one turn more
 
-  more_turns : (limits : Limits) (pid most n : ℕ) (u w v : World) → n < most → Turns limits.poll_ms n u w → w.batches ≡ u.batches + n
-      → (w ≡ u) ⊎ (length w.nodes ≤ limits.max_nodes) → IsOrTurnOf limits pid w v → SomeTurns limits most u v
-  more_turns limits pid most n u w v less ts batches fits (inl same) =
-      subst (λ (x : World). SomeTurns limits most u x) (sym same) (record { count = n; few = omega (arith, less); turns = ts; batches = batches }, fits)
-  more_turns limits pid most n u w v less ts batches fits (inr t) =
-      let more : v.batches ≡ u.batches + suc n = omega (arith, t.batch, batches) in
-      (record { count = suc n; few = omega (arith, less); turns = one_more n u w v ts (pid, t.turn); batches = more }, inr t.nodes)
+-- what some turns make by what was known is made so by what is known later
+pub some_widened : (o p : Outside) (most : ℕ) (u v : World) → Widens o p → SomeTurns o most u v → SomeTurns p most u v
+some_widened o p most u v wide s = (
+  record { count = s.0.count; rests = s.0.rests; few = s.0.few; turns = turns_widened o p wide s.0.count s.0.rests u v s.0.turns; batches = s.0.batches },
+  subst (λ (l : Limits). (v ≡ u) ⊎ (length v.nodes ≤ l.max_nodes)) wide.limits s.1,
+)
 
-  pub leaves_on : (limits : Limits) (pid most n : ℕ) (place : Place) (u w : World) (one two one_mid two_mid one_new two_new : D) → n < most → Turns limits.poll_ms n u w
-      → w.batches ≡ u.batches + n → (w ≡ u) ⊎ (length w.nodes ≤ limits.max_nodes) → LeavesWorlds g place (SomeTurns limits most u) one two one_mid two_mid
-      → LeavesWorlds g place (IsOrTurnOf limits pid w) one_mid two_mid one_new two_new → LeavesWorlds g place (SomeTurns limits most u) one two one_new two_new
-  leaves_on limits pid most n place u w one two one_mid two_mid one_new two_new less ts batches fits first second =
+pub more_turns : (o : Outside) (pid most n m : ℕ) (u w v : World) → n + m < most → Turns o n m u w → w.batches ≡ u.batches + n
+    → (w ≡ u) ⊎ (length w.nodes ≤ o.limits.max_nodes) → IsOrTurnOf o pid w v → SomeTurns o most u v
+more_turns o pid most n m u w v less ts batches fits (inl same) =
+    subst (λ (x : World). SomeTurns o most u x) (sym same) (record { count = n; rests = m; few = omega (arith, less); turns = ts; batches = batches }, fits)
+more_turns o pid most n m u w v less ts batches fits (inr t) =
+    let more : v.batches ≡ u.batches + suc n = omega (arith, t.batch, batches) in
+    (record { count = suc n; rests = m; few = omega (arith, less); turns = one_more n m u w v ts (pid, t.turn); batches = more }, inr t.nodes)
+
+module _ {D : Type 0} (g : disk.Ghosts D) where
+  -- one run after another, where the second began at a world which the first may have left
+  pub leaves_on : (place : Place) (P Q R : World → Type 0) (one two one_mid two_mid one_new two_new : D) → ((v : World) → P v → R v) → ((v : World) → Q v → R v)
+      → LeavesWorlds g place P one two one_mid two_mid → LeavesWorlds g place Q one_mid two_mid one_new two_new → LeavesWorlds g place R one two one_new two_new
+  leaves_on place P Q R one two one_mid two_mid one_new two_new from_first from_second first second =
       let beside : g.seen (other place one_mid two_mid) ≡ g.seen (other place one two) = ap g.seen first.untouched in
       record {
         untouched = second.untouched ∙ first.untouched;
         each = both_runs g (its place one two) (its place one_mid two_mid) (its place one_new two_new) _ _
-            (HoldsSome place (SomeTurns limits most u) (g.seen (other place one two))) first.each second.each (λ image h. h)
-            (λ image h.
-            (h.0, more_turns limits pid most n u w h.0 less ts batches fits h.1, subst (λ (rest : List ℕ). HoldsAs place image rest (a_world h.0)) beside h.2));
+            (HoldsSome place R (g.seen (other place one two))) first.each second.each (λ image h. (h.0, from_first h.0 h.1, h.2))
+            (λ image h. (h.0, from_second h.0 h.1, subst (λ (rest : List ℕ). HoldsAs place image rest (a_world h.0)) beside h.2));
       }

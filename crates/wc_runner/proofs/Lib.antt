@@ -1,8 +1,11 @@
-mod Continuing
-mod FunctionTurns
-mod ManyTurns
+pub mod Continuing
+pub mod Widened
+pub mod ManyTurns
+mod Answered
+pub mod Marked
+mod Taken
+mod Needed
 mod Accepted
 mod Leaving
-mod ReadyFunctions
+mod Placed
 mod UnderWay
-mod PlainProcesses

@@ -2,12 +2,12 @@
 use Rattle.std.specs.Prelude.{◌≡◌, ◌⊎◌, ◌≤◌, ◌+◌, ℕ, List, length}
 use Rattle.wc_disk.specs.declared.disk.Disk as disk
 use Rattle.wc_disk.specs.Images.{LeavesOnly}
-use Rattle.wc_state.specs.declared.record.Limits.{Limits}
 use Rattle.wc_world.specs.World.{World}
 use Rattle.wc_store.specs.declared.place.Place.{Place}
 use Rattle.wc_store.specs.Places.{its}
 use Rattle.wc_store.specs.Held.{a_world}
 use Rattle.wc_store.specs.Stores.{other, HoldsAs}
+use Rattle.wc_runner.specs.Outside.{Outside}
 use Rattle.wc_runner.specs.Trips.{TurnOf}
 use Rattle.wc_runner.specs.Running.{TakesTurns}
 
@@ -21,15 +21,19 @@ pub record LeavesWorlds {D : Type 0} (g : disk.Ghosts D) (place : Place) (P : Wo
   pub each : LeavesOnly g (its place one two) (its place one_new two_new) (HoldsSome place P (g.seen (other place one two)))
 
 -- One world is what the turn of this process makes of another, by one batch and within the limit of nodes.
-pub record IsTurnWithin (limits : Limits) (pid : ℕ) (w v : World) : Type 0 where
-  pub turn : TurnOf limits.poll_ms pid w v
-  pub nodes : length v.nodes ≤ limits.max_nodes
+pub record IsTurnWithin (o : Outside) (pid : ℕ) (w v : World) : Type 0 where
+  pub turn : TurnOf o pid w v
+  pub nodes : length v.nodes ≤ o.limits.max_nodes
   pub batch : v.batches ≡ w.batches + 1
 
 -- the world, or what the turn of this process makes of it
-abbrev pub IsOrTurnOf : Limits → (pid : ℕ) → World → World → Type 0
-IsOrTurnOf limits pid w v = (v ≡ w) ⊎ IsTurnWithin limits pid w v
+abbrev pub IsOrTurnOf : Outside → (pid : ℕ) → World → World → Type 0
+IsOrTurnOf o pid w v = (v ≡ w) ⊎ IsTurnWithin o pid w v
 
--- what at most so many turns make of the world, within the limit of nodes where any was taken
-abbrev pub SomeTurns : Limits → (most : ℕ) → World → World → Type 0
-SomeTurns limits most w v = TakesTurns limits.poll_ms most w v × ((v ≡ w) ⊎ (length v.nodes ≤ limits.max_nodes))
+-- what at most so many turns and rests make of the world, within the limit of nodes where any turn was taken
+abbrev pub SomeTurns : Outside → (most : ℕ) → World → World → Type 0
+SomeTurns o most w v = TakesTurns o most w v × ((v ≡ w) ⊎ (length v.nodes ≤ o.limits.max_nodes))
+
+-- each image that a crash now may leave of the disk that the store is on holds a world of which P holds
+abbrev pub LeavesNow : {D : Type 0} → disk.Ghosts D → Place → (World → Type 0) → (one two : D) → Type 0
+LeavesNow g place P one two = (image : List ℕ) → g.may_leave (its place one two) image → HoldsSome place P (g.seen (other place one two)) image

@@ -1,9 +1,9 @@
-pub mod Ended
+pub mod Outside
 pub mod Trips
 pub mod Laws
 pub mod Refusals
 pub mod Leaves
 pub mod Turning
-pub mod Next
+pub mod Asked
 pub mod Running
-pub mod Functions
+pub mod Marks

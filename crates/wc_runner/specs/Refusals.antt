@@ -7,45 +7,58 @@ use Rattle.wc_journal.specs.Journals.{IsSettled}
 use Rattle.wc_state.specs.declared.record.Limits.{Limits}
 use Rattle.wc_world.specs.declared.change.Change.{Change}
 use Rattle.wc_world.specs.World.{World}
-use Rattle.wc_core.specs.Ready.{is_ready_at}
+use Rattle.wc_refusal.specs.Refusals.{FullOf}
+use Rattle.wc_refusal.specs.declared.error.TurnError.TheVariants as turn_error
 use Rattle.wc_store.specs.Places.{its}
 use Rattle.wc_store.specs.Refusals.{RefusesCommit}
 use Rattle.wc_store.specs.declared.error.StoreError.{StoreError}
 use Rattle.wc_store.specs.declared.error.StoreError.TheVariants as store_error
 use Rattle.wc_store.specs.declared.store.Store.{Store}
-use Rattle.wc_runner.specs.Ended.{EndsFunction, IsFullBy}
+use Rattle.wc_runner.specs.Outside.{Outside}
+use Rattle.wc_runner.specs.Trips.{IsTurn}
 use Rattle.wc_runner.specs.declared.error.RunError.{RunError}
 use Rattle.wc_runner.specs.declared.error.RunError.TheVariants.{DiskFault, Full, OutOfMemory}
 
 -- ---- one turn
 
 -- the changes of the process's turn can't be committed, for this reason
-abbrev pub RefusesItsCommit : Journal → Limits → World → (pid : ℕ) → StoreError → Type 0
-RefusesItsCommit journal limits w pid e = (cs : List Change) × EndsFunction w pid 0 cs × RefusesCommit journal limits w cs e
+abbrev pub RefusesItsCommit : Outside → Journal → World → (pid : ℕ) → StoreError → Type 0
+RefusesItsCommit o journal w pid e = (cs : List Change) × IsTurn o pid w cs × RefusesCommit journal o.limits w cs e
 
 -- The turn of the process is refused as one on the world alone, or its changes can't be committed. Want of memory may come at any time.
-abbrev pub RefusesStep : Journal → Limits → World → (pid : ℕ) → RunError → Type 0
-RefusesStep journal limits w pid DiskFault = RefusesItsCommit journal limits w pid store_error.DiskFault
-RefusesStep journal limits w pid (Full what count limit) =
-    IsFullBy w pid 0 limits.max_nodes what count limit ⊎ RefusesItsCommit journal limits w pid (store_error.Full what count limit)
-RefusesStep journal limits w pid OutOfMemory = Unit {0}
+abbrev pub RefusesStep : Outside → Journal → World → (pid : ℕ) → RunError → Type 0
+RefusesStep o journal w pid DiskFault = RefusesItsCommit o journal w pid store_error.DiskFault
+RefusesStep o journal w pid (Full what count limit) =
+    FullOf (IsTurn o pid w) o.limits.max_nodes w (turn_error.Full what count limit) ⊎ RefusesItsCommit o journal w pid (store_error.Full what count limit)
+RefusesStep o journal w pid OutOfMemory = Unit {0}
+
+-- the turn is refused before any disk is called
+abbrev pub RefusesPrepared : Outside → (pid : ℕ) → World → RunError → Type 0
+RefusesPrepared o pid w DiskFault = ⊥
+RefusesPrepared o pid w (Full what count limit) = FullOf (IsTurn o pid w) o.limits.max_nodes w (turn_error.Full what count limit)
+RefusesPrepared o pid w OutOfMemory = Unit {0}
+
+-- the changes can't be committed
+abbrev pub RefusesStored : Journal → Limits → World → List Change → RunError → Type 0
+RefusesStored journal limits w cs DiskFault = RefusesCommit journal limits w cs store_error.DiskFault
+RefusesStored journal limits w cs (Full what count limit) = RefusesCommit journal limits w cs (store_error.Full what count limit)
+RefusesStored journal limits w cs OutOfMemory = Unit {0}
 
 -- ---- a run
 
 -- The world is full at the turn of a ready process, by a journal that stands for the store's disk, where the disks tell their bytes.
-pub record IsFullAt {D : Type 0} (g : disk.Ghosts D) (told : Type 0) (limits : Limits) (store : Store) (one two : D) (e : RunError) : Type 0 where
+pub record IsFullAt {D : Type 0} (g : disk.Ghosts D) (told : Type 0) (o : Outside) (store : Store) (one two : D) (e : RunError) : Type 0 where
   pub pid : ℕ
-  pub ready : is_ready_at store.world.world pid 0 ≡ true
   pub journal : Journal
   pub version : journal.version ≡ store.journal.version
   pub settled : told → IsSettled g journal (its store.place one two)
-  pub refused : RefusesStep journal limits store.world.world pid e
+  pub refused : RefusesStep o journal store.world.world pid e
 
 -- a run is full at the world that it has come to, and otherwise breaks off for a fault or want of memory alone
-abbrev pub RefusesRun : {D : Type 0} → disk.Ghosts D → Type 0 → Limits → Store → D → D → RunError → Type 0
-RefusesRun g told limits store one two DiskFault = Unit {0}
-RefusesRun g told limits store one two (Full what count limit) = IsFullAt g told limits store one two (Full what count limit)
-RefusesRun g told limits store one two OutOfMemory = Unit {0}
+abbrev pub RefusesRun : {D : Type 0} → disk.Ghosts D → Type 0 → Outside → Store → D → D → RunError → Type 0
+RefusesRun g told o store one two DiskFault = Unit {0}
+RefusesRun g told o store one two (Full what count limit) = IsFullAt g told o store one two (Full what count limit)
+RefusesRun g told o store one two OutOfMemory = Unit {0}
 
 -- ---- what is counted
 

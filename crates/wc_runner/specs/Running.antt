@@ -1,25 +1,50 @@
 -- What a run has done, and how it ends.
-use Rattle.std.specs.Prelude.{◌≡◌, ◌⊎◌, ◌≤◌, ◌+◌, ℕ, true, false, length}
+use Rattle.std.specs.Prelude.{◌≡◌, ◌⊎◌, ◌<◌, ◌≤◌, ◌+◌, ◌^◌, ℕ, true, false, length}
 use Rattle.wc_state.specs.declared.record.Limits.{Limits}
 use Rattle.wc_world.specs.World.{World}
 use Rattle.wc_store.specs.Refusals.{byte_limit}
 use Rattle.wc_store.specs.declared.store.Store.{Store}
-use Rattle.wc_runner.specs.Trips.{Turns, is_any_live, is_resting}
+use Rattle.wc_next.specs.Standing.{is_any_live, is_resting}
+use Rattle.wc_runner.specs.Outside.{Outside}
+use Rattle.wc_runner.specs.Trips.{Turns}
 use Rattle.wc_runner.specs.declared.running.RunEnd.{RunEnd}
 use Rattle.wc_runner.specs.declared.running.RunEnd.TheVariants.{AllEnded, Spent, Resting}
 
--- At most so many turns, each of which is one batch, lead from one world to the other.
-pub record TakesTurns (poll most : ℕ) (w v : World) : Type 0 where
+-- At most so many turns and rests, of which each turn is one batch, lead from one world to the other.
+pub record TakesTurns (o : Outside) (most : ℕ) (w v : World) : Type 0 where
   pub count : ℕ
-  pub few : count ≤ most
-  pub turns : Turns poll count w v
+  pub rests : ℕ
+  pub few : count + rests ≤ most
+  pub turns : Turns o count rests w v
   pub batches : v.batches ≡ w.batches + count
 
--- A run of at most so many turns ends so: no process is live, else each live one is held up, else all the turns were taken.
-abbrev pub EndsAs : (poll most : ℕ) → World → World → RunEnd → Type 0
-EndsAs poll most w v AllEnded = is_any_live v ≡ false
-EndsAs poll most w v Spent = (is_any_live v ≡ true) × (is_resting v ≡ false) × Turns poll most w v × (v.batches ≡ w.batches + most)
-EndsAs poll most w v Resting = (is_any_live v ≡ true) × (is_resting v ≡ true)
+-- a count has risen by so many, where it stays below its end
+pub record RisesBy (n old new : ℕ) : Type 0 where
+  pub later : old ≤ new
+  pub by_each : old + n < 2 ^ 64 → new ≡ old + n
+
+-- So many turns and rests in all lead from one world to the other, where the pacer counted each rest.
+pub record TakesAll (o : Outside) (all : ℕ) (w v : World) (begun now : ℕ) : Type 0 where
+  pub count : ℕ
+  pub rests : ℕ
+  pub all_of_them : count + rests ≡ all
+  pub turns : Turns o count rests w v
+  pub batches : v.batches ≡ w.batches + count
+  pub rested : RisesBy rests begun now
+
+-- at most so many were taken, with their counts
+abbrev pub TakesUpTo : Outside → (most : ℕ) → World → World → (begun now : ℕ) → Type 0
+TakesUpTo o most w v begun now = (all : ℕ) × (all ≤ most) × TakesAll o all w v begun now
+
+-- fewer than so many were taken
+abbrev pub TakesFewer : Outside → (most : ℕ) → World → World → (begun now : ℕ) → Type 0
+TakesFewer o most w v begun now = (all : ℕ) × (all < most) × TakesAll o all w v begun now
+
+-- A run of at most so many turns and rests ends so: no process is live, else each live one is held up, else all were taken.
+abbrev pub EndsAs : Outside → (most : ℕ) → World → World → (begun now : ℕ) → RunEnd → Type 0
+EndsAs o most w v begun now AllEnded = is_any_live v ≡ false
+EndsAs o most w v begun now Spent = (is_any_live v ≡ true) × (is_resting v ≡ false) × TakesAll o most w v begun now
+EndsAs o most w v begun now Resting = (is_any_live v ≡ true) × (is_resting v ≡ true)
 
 -- where any turn was taken, the store is within the limits of nodes and of bytes
 abbrev pub FitsAfter : Limits → World → Store → Type 0

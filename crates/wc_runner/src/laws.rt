@@ -1,15 +1,23 @@
 //! Laws of turns. Each is the contract of a function that does nothing.
 
+ghost use Rattle.std.specs.Prelude.{ℕ};
+ghost use Rattle.wc_state.specs.declared.record.Limits.{Limits};
 ghost use Rattle.wc_runner.specs.Laws.{ContinuingGoesOn, TurnsAreBatches, TurnsKeepSound, WorldsContinueThemselves};
+ghost use Rattle.wc_runner.specs.Outside.{in_run, in_turn};
+
+use wc_io::Pacer;
+use wc_transport::Transport;
 
 /// Turns keep a sound world sound, and lose nothing that it held.
-pub fn turns_keep_sound()
-    ensures { TurnsKeepSound }
+pub fn turns_keep_sound<T: Transport, P: Pacer>()
+    ensures in_turn { (limits : Limits) (now : ℕ) (old new : T) → TurnsKeepSound (in_turn T.Transport limits now old new) }
+    ensures in_run { (limits : Limits) (old new : T) (clock : P) → TurnsKeepSound (in_run T.Transport P.Pacer limits old new clock) }
 {}
 
 /// Each turn is one batch.
-pub fn turns_are_batches()
-    ensures { TurnsAreBatches }
+pub fn turns_are_batches<T: Transport, P: Pacer>()
+    ensures in_turn { (limits : Limits) (now : ℕ) (old new : T) → TurnsAreBatches (in_turn T.Transport limits now old new) }
+    ensures in_run { (limits : Limits) (old new : T) (clock : P) → TurnsAreBatches (in_run T.Transport P.Pacer limits old new clock) }
 {}
 
 /// Each world that accepted changes make continues itself.

@@ -1,15 +1,13 @@
 //! Turns of processes on a store, one after another.
 #![tactic(auto)]
 
+mod asking;
 mod error;
-mod functions;
 mod laws;
 mod running;
-mod standing;
 mod turning;
 
 pub use error::RunError;
-pub use functions::first_other;
 pub use laws::{
     continuing_goes_on, turns_are_batches, turns_keep_sound, worlds_continue_themselves,
 };

@@ -1,5 +1,9 @@
+use Rattle.wc_runner.specs.Outside.{in_run, in_turn}
 use Rattle.wc_runner.proofs.ManyTurns.{turns_counted}
 use Rattle.wc_runner.proofs.laws.turns_are_batches.Goals as goal
 
 pub returns : goal.returns
-returns c = turns_counted
+returns g c = record {
+  in_turn = λ limits now old new. turns_counted (in_turn g.T.Transport limits now old new);
+  in_run = λ limits old new clock. turns_counted (in_run g.T.Transport g.P.Pacer limits old new clock);
+}

@@ -1,39 +1,284 @@
-use Rattle.std.proofs.Common.{◌≡◌, ◌<◌, true, ap, subst, arith}
+use Rattle.std.proofs.Common.{◌≡◌, ◌<◌, ◌≤◌, suc, true, Result, Ok, Err, ap, subst, sym, arith}
 use Rattle.wc_world.specs.Room.{Holding}
-use Rattle.wc_world.specs.World.{World}
+use Rattle.wc_machine.specs.Asking.{need}
 use Rattle.wc_core.specs.Ready.{is_ready_at}
-use Rattle.wc_runner.proofs.UnderWay.{begins, leaves_more, goes_on, fits_still, refuses}
+use Rattle.wc_next.specs.Next.{ComesNext}
+use Rattle.wc_next.specs.declared.next.Next.TheVariants.{Turn, Rest}
+use Rattle.wc_runner.specs.Asked.{AsksOnce, IsAsked}
+use Rattle.wc_runner.specs.declared.error.RunError.{RunError}
+use Rattle.wc_runner.proofs.Accepted.{err_any}
+use Rattle.wc_runner.proofs.UnderWay.{asks, begins, breaks, directories_kept, directories_left, goes_on, moment_told, no_worse, refuses, rests_on, up_to}
+use Rattle.wc_runner.proofs.Taken.{ready_there, what_it_needs}
 use Rattle.wc_runner.proofs.running.run.Goals as goal
 
 pub trip-init : goal.trip-init
-trip-init g c =
-    begins g.D.Disk c.args.limits.now c.args.turns c.args.store.now c.args.one.now c.args.two.now g.met.D.Disk.only_now c.requires.live c.requires.functions
-    c.requires.stands
+trip-init g c = begins g.D.Disk g.T.Transport g.P.Pacer c.args.limits.now c.args.turns c.args.store.now c.args.one.now c.args.two.now c.args.transport.now c.args.pacer.now g.met.D.Disk.only_now c.requires.live c.requires.stands
 
-pub trip-preserved : goal.trip-preserved
-trip-preserved g c =
-    let e = c.in-Ok.ensures in
-    let less : c.trip.taken < c.args.turns = let few = c.trip.invariant.few in let not_all = c.if-taken-turns.false in omega arith in
-    goes_on g.D.Disk c.args.limits.now c.args.turns c.args.store.now c.args.one.now c.args.two.now c.trip.taken c.trip.store c.trip.one c.trip.two c.trip.invariant
-    c.turn_one.new.store c.turn_one.new.one c.turn_one.new.two c.in-Turn.pid less e.live e.ok e.batches e.fits e.functions (e.still e.live) e.place e.any_moment e.tells e.cause
+pub returns-in-AllEnded-clause-takes : goal.returns-in-AllEnded-clause-takes
+returns-in-AllEnded-clause-takes g c =
+    up_to g.D.Disk g.T.Transport g.P.Pacer c.args.limits.now c.args.turns c.args.store.now c.args.one.now c.args.two.now c.args.transport.now c.args.pacer.now c.trip.taken c.trip.taken c.trip.store c.trip.one c.trip.two c.trip.transport c.trip.pacer (c.trip.invariant).way
 
-pub returns-in-Err-clause-refused : goal.returns-in-Err-clause-refused
-returns-in-Err-clause-refused g c =
+pub returns-in-AllEnded-clause-any_moment : goal.returns-in-AllEnded-clause-any_moment
+returns-in-AllEnded-clause-any_moment g c =
+    (c.trip.invariant).way.any_moment
+
+pub returns-in-AllEnded-clause-directories : goal.returns-in-AllEnded-clause-directories
+returns-in-AllEnded-clause-directories g c =
+    directories_kept g.D.Disk g.T.Transport g.P.Pacer c.args.limits.now c.args.turns c.args.store.now c.args.one.now c.args.two.now c.args.transport.now c.args.pacer.now c.trip.taken c.trip.store c.trip.one c.trip.two c.trip.transport c.trip.pacer (c.trip.invariant)
+
+pub returns-in-AllEnded-clause-processes : goal.returns-in-AllEnded-clause-processes
+returns-in-AllEnded-clause-processes g c =
+    (c.trip.invariant).way.processes
+
+pub returns-in-AllEnded-clause-marks : goal.returns-in-AllEnded-clause-marks
+returns-in-AllEnded-clause-marks g c =
+    no_worse g.D.Disk g.T.Transport g.P.Pacer c.args.limits.now c.args.turns c.args.store.now c.args.one.now c.args.two.now c.args.transport.now c.args.pacer.now c.trip.taken c.trip.taken c.trip.store c.trip.one c.trip.two c.trip.transport c.trip.pacer (c.trip.invariant).way
+
+pub returns-in-AllEnded-clause-asked : goal.returns-in-AllEnded-clause-asked
+returns-in-AllEnded-clause-asked g c =
+    asks g.D.Disk g.T.Transport g.P.Pacer c.args.limits.now c.args.turns c.args.store.now c.args.one.now c.args.two.now c.args.transport.now c.args.pacer.now c.trip.taken c.trip.taken c.trip.store c.trip.one c.trip.two c.trip.transport c.trip.pacer (c.trip.invariant).way (c.trip.invariant).way.few
+
+pub returns-in-Resting-clause-takes : goal.returns-in-Resting-clause-takes
+returns-in-Resting-clause-takes g c =
+    up_to g.D.Disk g.T.Transport g.P.Pacer c.args.limits.now c.args.turns c.args.store.now c.args.one.now c.args.two.now c.args.transport.now c.args.pacer.now c.trip.taken c.trip.taken c.trip.store c.trip.one c.trip.two c.trip.transport c.trip.pacer (c.trip.invariant).way
+
+pub returns-in-Resting-clause-any_moment : goal.returns-in-Resting-clause-any_moment
+returns-in-Resting-clause-any_moment g c =
+    (c.trip.invariant).way.any_moment
+
+pub returns-in-Resting-clause-directories : goal.returns-in-Resting-clause-directories
+returns-in-Resting-clause-directories g c =
+    directories_kept g.D.Disk g.T.Transport g.P.Pacer c.args.limits.now c.args.turns c.args.store.now c.args.one.now c.args.two.now c.args.transport.now c.args.pacer.now c.trip.taken c.trip.store c.trip.one c.trip.two c.trip.transport c.trip.pacer (c.trip.invariant)
+
+pub returns-in-Resting-clause-processes : goal.returns-in-Resting-clause-processes
+returns-in-Resting-clause-processes g c =
+    (c.trip.invariant).way.processes
+
+pub returns-in-Resting-clause-marks : goal.returns-in-Resting-clause-marks
+returns-in-Resting-clause-marks g c =
+    no_worse g.D.Disk g.T.Transport g.P.Pacer c.args.limits.now c.args.turns c.args.store.now c.args.one.now c.args.two.now c.args.transport.now c.args.pacer.now c.trip.taken c.trip.taken c.trip.store c.trip.one c.trip.two c.trip.transport c.trip.pacer (c.trip.invariant).way
+
+pub returns-in-Resting-clause-asked : goal.returns-in-Resting-clause-asked
+returns-in-Resting-clause-asked g c =
+    asks g.D.Disk g.T.Transport g.P.Pacer c.args.limits.now c.args.turns c.args.store.now c.args.one.now c.args.two.now c.args.transport.now c.args.pacer.now c.trip.taken c.trip.taken c.trip.store c.trip.one c.trip.two c.trip.transport c.trip.pacer (c.trip.invariant).way (c.trip.invariant).way.few
+
+pub returns-then-taken-turns-clause-takes : goal.returns-then-taken-turns-clause-takes
+returns-then-taken-turns-clause-takes g c =
+    up_to g.D.Disk g.T.Transport g.P.Pacer c.args.limits.now c.args.turns c.args.store.now c.args.one.now c.args.two.now c.args.transport.now c.args.pacer.now c.trip.taken c.trip.taken c.trip.store c.trip.one c.trip.two c.trip.transport c.trip.pacer (c.trip.invariant).way
+
+pub returns-then-taken-turns-clause-any_moment : goal.returns-then-taken-turns-clause-any_moment
+returns-then-taken-turns-clause-any_moment g c =
+    (c.trip.invariant).way.any_moment
+
+pub returns-then-taken-turns-clause-directories : goal.returns-then-taken-turns-clause-directories
+returns-then-taken-turns-clause-directories g c =
+    directories_kept g.D.Disk g.T.Transport g.P.Pacer c.args.limits.now c.args.turns c.args.store.now c.args.one.now c.args.two.now c.args.transport.now c.args.pacer.now c.trip.taken c.trip.store c.trip.one c.trip.two c.trip.transport c.trip.pacer (c.trip.invariant)
+
+pub returns-then-taken-turns-clause-processes : goal.returns-then-taken-turns-clause-processes
+returns-then-taken-turns-clause-processes g c =
+    (c.trip.invariant).way.processes
+
+pub returns-then-taken-turns-clause-marks : goal.returns-then-taken-turns-clause-marks
+returns-then-taken-turns-clause-marks g c =
+    no_worse g.D.Disk g.T.Transport g.P.Pacer c.args.limits.now c.args.turns c.args.store.now c.args.one.now c.args.two.now c.args.transport.now c.args.pacer.now c.trip.taken c.trip.taken c.trip.store c.trip.one c.trip.two c.trip.transport c.trip.pacer (c.trip.invariant).way
+
+pub returns-then-taken-turns-clause-asked : goal.returns-then-taken-turns-clause-asked
+returns-then-taken-turns-clause-asked g c =
+    asks g.D.Disk g.T.Transport g.P.Pacer c.args.limits.now c.args.turns c.args.store.now c.args.one.now c.args.two.now c.args.transport.now c.args.pacer.now c.trip.taken c.trip.taken c.trip.store c.trip.one c.trip.two c.trip.transport c.trip.pacer (c.trip.invariant).way (c.trip.invariant).way.few
+
+pub returns-in_err-next-clause-takes : goal.returns-in_err-next-clause-takes
+returns-in_err-next-clause-takes g c =
+    up_to g.D.Disk g.T.Transport g.P.Pacer c.args.limits.now c.args.turns c.args.store.now c.args.one.now c.args.two.now c.args.transport.now c.args.pacer.now c.trip.taken c.trip.taken c.trip.store c.trip.one c.trip.two c.trip.transport c.now-now.new.self (moment_told g.D.Disk g.T.Transport g.P.Pacer c.args.limits.now c.args.turns c.args.store.now c.args.one.now c.args.two.now c.args.transport.now c.args.pacer.now c.trip.taken c.trip.store c.trip.one c.trip.two c.trip.transport c.trip.pacer c.trip.invariant c.now-now.new.self c.now-now.ensures.keeps c.now-now.ensures.rests).way
+
+pub returns-in_err-next-clause-any_moment : goal.returns-in_err-next-clause-any_moment
+returns-in_err-next-clause-any_moment g c =
+    (moment_told g.D.Disk g.T.Transport g.P.Pacer c.args.limits.now c.args.turns c.args.store.now c.args.one.now c.args.two.now c.args.transport.now c.args.pacer.now c.trip.taken c.trip.store c.trip.one c.trip.two c.trip.transport c.trip.pacer c.trip.invariant c.now-now.new.self c.now-now.ensures.keeps c.now-now.ensures.rests).way.any_moment
+
+pub returns-in_err-next-clause-directories : goal.returns-in_err-next-clause-directories
+returns-in_err-next-clause-directories g c =
+    directories_kept g.D.Disk g.T.Transport g.P.Pacer c.args.limits.now c.args.turns c.args.store.now c.args.one.now c.args.two.now c.args.transport.now c.args.pacer.now c.trip.taken c.trip.store c.trip.one c.trip.two c.trip.transport c.now-now.new.self (moment_told g.D.Disk g.T.Transport g.P.Pacer c.args.limits.now c.args.turns c.args.store.now c.args.one.now c.args.two.now c.args.transport.now c.args.pacer.now c.trip.taken c.trip.store c.trip.one c.trip.two c.trip.transport c.trip.pacer c.trip.invariant c.now-now.new.self c.now-now.ensures.keeps c.now-now.ensures.rests)
+
+pub returns-in_err-next-clause-processes : goal.returns-in_err-next-clause-processes
+returns-in_err-next-clause-processes g c =
+    (moment_told g.D.Disk g.T.Transport g.P.Pacer c.args.limits.now c.args.turns c.args.store.now c.args.one.now c.args.two.now c.args.transport.now c.args.pacer.now c.trip.taken c.trip.store c.trip.one c.trip.two c.trip.transport c.trip.pacer c.trip.invariant c.now-now.new.self c.now-now.ensures.keeps c.now-now.ensures.rests).way.processes
+
+pub returns-in_err-next-clause-marks : goal.returns-in_err-next-clause-marks
+returns-in_err-next-clause-marks g c =
+    no_worse g.D.Disk g.T.Transport g.P.Pacer c.args.limits.now c.args.turns c.args.store.now c.args.one.now c.args.two.now c.args.transport.now c.args.pacer.now c.trip.taken c.trip.taken c.trip.store c.trip.one c.trip.two c.trip.transport c.now-now.new.self (moment_told g.D.Disk g.T.Transport g.P.Pacer c.args.limits.now c.args.turns c.args.store.now c.args.one.now c.args.two.now c.args.transport.now c.args.pacer.now c.trip.taken c.trip.store c.trip.one c.trip.two c.trip.transport c.trip.pacer c.trip.invariant c.now-now.new.self c.now-now.ensures.keeps c.now-now.ensures.rests).way
+
+pub returns-in_err-next-clause-asked : goal.returns-in_err-next-clause-asked
+returns-in_err-next-clause-asked g c =
+    asks g.D.Disk g.T.Transport g.P.Pacer c.args.limits.now c.args.turns c.args.store.now c.args.one.now c.args.two.now c.args.transport.now c.args.pacer.now c.trip.taken c.trip.taken c.trip.store c.trip.one c.trip.two c.trip.transport c.now-now.new.self (moment_told g.D.Disk g.T.Transport g.P.Pacer c.args.limits.now c.args.turns c.args.store.now c.args.one.now c.args.two.now c.args.transport.now c.args.pacer.now c.trip.taken c.trip.store c.trip.one c.trip.two c.trip.transport c.trip.pacer c.trip.invariant c.now-now.new.self c.now-now.ensures.keeps c.now-now.ensures.rests).way (moment_told g.D.Disk g.T.Transport g.P.Pacer c.args.limits.now c.args.turns c.args.store.now c.args.one.now c.args.two.now c.args.transport.now c.args.pacer.now c.trip.taken c.trip.store c.trip.one c.trip.two c.trip.transport c.trip.pacer c.trip.invariant c.now-now.new.self c.now-now.ensures.keeps c.now-now.ensures.rests).way.few
+
+pub returns-in_err-next-clause-early : goal.returns-in_err-next-clause-early
+returns-in_err-next-clause-early g c =
+    let less : c.trip.taken < c.args.turns = let few = c.trip.invariant.way.few in let not_all = c.if-taken-turns.false in omega arith in
+    err_any c.from_residual.result _ (c.trip.taken, less, (moment_told g.D.Disk g.T.Transport g.P.Pacer c.args.limits.now c.args.turns c.args.store.now c.args.one.now c.args.two.now c.args.transport.now c.args.pacer.now c.trip.taken c.trip.store c.trip.one c.trip.two c.trip.transport c.trip.pacer c.trip.invariant c.now-now.new.self c.now-now.ensures.keeps c.now-now.ensures.rests).way.takes)
+
+pub returns-in-Err-clause-takes : goal.returns-in-Err-clause-takes
+returns-in-Err-clause-takes g c =
+    let less : c.trip.taken < c.args.turns = let few = c.trip.invariant.way.few in let not_all = c.if-taken-turns.false in omega arith in
+    let u = moment_told g.D.Disk g.T.Transport g.P.Pacer c.args.limits.now c.args.turns c.args.store.now c.args.one.now c.args.two.now c.args.transport.now c.args.pacer.now c.trip.taken c.trip.store c.trip.one c.trip.two c.trip.transport c.trip.pacer c.trip.invariant c.now-now.new.self c.now-now.ensures.keeps c.now-now.ensures.rests in
+    let s = c.trip.store in
+    let comes : ComesNext c.world-in-trip.result.now.world c.now-now.result (Turn c.in-Turn.pid)
+    = subst (ComesNext c.world-in-trip.result.now.world c.now-now.result) c.in-Turn.is c.in_ok-next.ensures.comes in
+    let ready : is_ready_at s.world.world c.in-Turn.pid c.now-now.result ≡ true
+    = subst (λ (h : Holding). is_ready_at h.world c.in-Turn.pid c.now-now.result ≡ true) c.world-in-trip.ensures comes in
+    let there = ready_there s.world.world c.in-Turn.pid c.now-now.result ready in
     let e = c.in-Err.ensures in
-    let world : c.world.result.now.world ≡ c.trip.store.world.world = ap (λ (h : Holding). h.world) c.world.ensures in
-    let ready : is_ready_at c.trip.store.world.world c.in-Turn.pid 0 ≡ true
-    = subst (λ (w : World). is_ready_at w c.in-Turn.pid 0 ≡ true) world c.in-Turn.ensures.2 in
-    refuses g.D.Disk c.args.limits.now c.args.turns c.args.store.now c.args.one.now c.args.two.now c.trip.taken c.trip.store c.trip.one c.trip.two c.trip.invariant
-    c.turn_one.new.store c.turn_one.new.one c.turn_one.new.two c.in-Turn.pid (Unit {0}) c.in-Err.error ready e.same e.refused e.untouched_one e.untouched_two e.place
+    let failed : Result (Unit {0}) RunError = Err c.in-Err.error in
+    let stays = what_it_needs s.world.world c.in-Turn.pid (λ n. IsAsked g.T.Transport c.in-Turn.pid n c.trip.transport c.turn_one.new.transport) there.0 there.1 e.stays in
+    let way = breaks g.D.Disk g.T.Transport g.P.Pacer c.args.limits.now c.args.turns c.args.store.now c.args.one.now c.args.two.now c.args.transport.now c.args.pacer.now c.trip.taken c.trip.store c.trip.one c.trip.two c.trip.transport c.now-now.new.self u c.in-Turn.pid c.now-now.result c.now-now.ensures.said c.turn_one.new.store c.turn_one.new.one c.turn_one.new.two c.turn_one.new.transport (need s.world.world there.0) stays failed less e.same e.kept e.place e.any_moment e.processes (what_it_needs s.world.world c.in-Turn.pid (AsksOnce failed g.T.Transport.asked c.trip.transport c.turn_one.new.transport) there.0 there.1 e.asks) in
+    up_to g.D.Disk g.T.Transport g.P.Pacer c.args.limits.now c.args.turns c.args.store.now c.args.one.now c.args.two.now c.args.transport.now c.args.pacer.now c.trip.taken (suc c.trip.taken) c.turn_one.new.store c.turn_one.new.one c.turn_one.new.two c.turn_one.new.transport c.now-now.new.self way
 
-pub returns-in-Err-clause-any_moment : goal.returns-in-Err-clause-any_moment
-returns-in-Err-clause-any_moment g c =
-    let less : c.trip.taken < c.args.turns = let few = c.trip.invariant.few in let not_all = c.if-taken-turns.false in omega arith in
-    leaves_more g.D.Disk c.args.limits.now c.args.turns c.args.store.now c.args.one.now c.args.two.now c.trip.taken c.trip.store c.trip.one c.trip.two c.trip.invariant
-    c.turn_one.new.store c.turn_one.new.one c.turn_one.new.two c.in-Turn.pid less c.in-Err.ensures.any_moment
+pub returns-in-Err-clause-early : goal.returns-in-Err-clause-early
+returns-in-Err-clause-early g c =
+    let less : c.trip.taken < c.args.turns = let few = c.trip.invariant.way.few in let not_all = c.if-taken-turns.false in omega arith in
+    let u = moment_told g.D.Disk g.T.Transport g.P.Pacer c.args.limits.now c.args.turns c.args.store.now c.args.one.now c.args.two.now c.args.transport.now c.args.pacer.now c.trip.taken c.trip.store c.trip.one c.trip.two c.trip.transport c.trip.pacer c.trip.invariant c.now-now.new.self c.now-now.ensures.keeps c.now-now.ensures.rests in
+    let s = c.trip.store in
+    let comes : ComesNext c.world-in-trip.result.now.world c.now-now.result (Turn c.in-Turn.pid)
+    = subst (ComesNext c.world-in-trip.result.now.world c.now-now.result) c.in-Turn.is c.in_ok-next.ensures.comes in
+    let ready : is_ready_at s.world.world c.in-Turn.pid c.now-now.result ≡ true
+    = subst (λ (h : Holding). is_ready_at h.world c.in-Turn.pid c.now-now.result ≡ true) c.world-in-trip.ensures comes in
+    let there = ready_there s.world.world c.in-Turn.pid c.now-now.result ready in
+    let e = c.in-Err.ensures in
+    let failed : Result (Unit {0}) RunError = Err c.in-Err.error in
+    let stays = what_it_needs s.world.world c.in-Turn.pid (λ n. IsAsked g.T.Transport c.in-Turn.pid n c.trip.transport c.turn_one.new.transport) there.0 there.1 e.stays in
+    let way = breaks g.D.Disk g.T.Transport g.P.Pacer c.args.limits.now c.args.turns c.args.store.now c.args.one.now c.args.two.now c.args.transport.now c.args.pacer.now c.trip.taken c.trip.store c.trip.one c.trip.two c.trip.transport c.now-now.new.self u c.in-Turn.pid c.now-now.result c.now-now.ensures.said c.turn_one.new.store c.turn_one.new.one c.turn_one.new.two c.turn_one.new.transport (need s.world.world there.0) stays failed less e.same e.kept e.place e.any_moment e.processes (what_it_needs s.world.world c.in-Turn.pid (AsksOnce failed g.T.Transport.asked c.trip.transport c.turn_one.new.transport) there.0 there.1 e.asks) in
+    (c.trip.taken, less, way.takes)
 
 pub returns-in-Err-clause-fits : goal.returns-in-Err-clause-fits
 returns-in-Err-clause-fits g c =
+    let less : c.trip.taken < c.args.turns = let few = c.trip.invariant.way.few in let not_all = c.if-taken-turns.false in omega arith in
+    let u = moment_told g.D.Disk g.T.Transport g.P.Pacer c.args.limits.now c.args.turns c.args.store.now c.args.one.now c.args.two.now c.args.transport.now c.args.pacer.now c.trip.taken c.trip.store c.trip.one c.trip.two c.trip.transport c.trip.pacer c.trip.invariant c.now-now.new.self c.now-now.ensures.keeps c.now-now.ensures.rests in
+    let s = c.trip.store in
+    let comes : ComesNext c.world-in-trip.result.now.world c.now-now.result (Turn c.in-Turn.pid)
+    = subst (ComesNext c.world-in-trip.result.now.world c.now-now.result) c.in-Turn.is c.in_ok-next.ensures.comes in
+    let ready : is_ready_at s.world.world c.in-Turn.pid c.now-now.result ≡ true
+    = subst (λ (h : Holding). is_ready_at h.world c.in-Turn.pid c.now-now.result ≡ true) c.world-in-trip.ensures comes in
+    let there = ready_there s.world.world c.in-Turn.pid c.now-now.result ready in
     let e = c.in-Err.ensures in
-    fits_still g.D.Disk c.args.limits.now c.args.turns c.args.store.now c.args.one.now c.args.two.now c.trip.taken c.trip.store c.trip.one c.trip.two c.trip.invariant
-    c.turn_one.new.store c.turn_one.new.one c.turn_one.new.two c.in-Turn.pid e.same e.kept e.place.2
+    let failed : Result (Unit {0}) RunError = Err c.in-Err.error in
+    let stays = what_it_needs s.world.world c.in-Turn.pid (λ n. IsAsked g.T.Transport c.in-Turn.pid n c.trip.transport c.turn_one.new.transport) there.0 there.1 e.stays in
+    let way = breaks g.D.Disk g.T.Transport g.P.Pacer c.args.limits.now c.args.turns c.args.store.now c.args.one.now c.args.two.now c.args.transport.now c.args.pacer.now c.trip.taken c.trip.store c.trip.one c.trip.two c.trip.transport c.now-now.new.self u c.in-Turn.pid c.now-now.result c.now-now.ensures.said c.turn_one.new.store c.turn_one.new.one c.turn_one.new.two c.turn_one.new.transport (need s.world.world there.0) stays failed less e.same e.kept e.place e.any_moment e.processes (what_it_needs s.world.world c.in-Turn.pid (AsksOnce failed g.T.Transport.asked c.trip.transport c.turn_one.new.transport) there.0 there.1 e.asks) in
+    way.fits
+
+pub returns-in-Err-clause-any_moment : goal.returns-in-Err-clause-any_moment
+returns-in-Err-clause-any_moment g c =
+    let less : c.trip.taken < c.args.turns = let few = c.trip.invariant.way.few in let not_all = c.if-taken-turns.false in omega arith in
+    let u = moment_told g.D.Disk g.T.Transport g.P.Pacer c.args.limits.now c.args.turns c.args.store.now c.args.one.now c.args.two.now c.args.transport.now c.args.pacer.now c.trip.taken c.trip.store c.trip.one c.trip.two c.trip.transport c.trip.pacer c.trip.invariant c.now-now.new.self c.now-now.ensures.keeps c.now-now.ensures.rests in
+    let s = c.trip.store in
+    let comes : ComesNext c.world-in-trip.result.now.world c.now-now.result (Turn c.in-Turn.pid)
+    = subst (ComesNext c.world-in-trip.result.now.world c.now-now.result) c.in-Turn.is c.in_ok-next.ensures.comes in
+    let ready : is_ready_at s.world.world c.in-Turn.pid c.now-now.result ≡ true
+    = subst (λ (h : Holding). is_ready_at h.world c.in-Turn.pid c.now-now.result ≡ true) c.world-in-trip.ensures comes in
+    let there = ready_there s.world.world c.in-Turn.pid c.now-now.result ready in
+    let e = c.in-Err.ensures in
+    let failed : Result (Unit {0}) RunError = Err c.in-Err.error in
+    let stays = what_it_needs s.world.world c.in-Turn.pid (λ n. IsAsked g.T.Transport c.in-Turn.pid n c.trip.transport c.turn_one.new.transport) there.0 there.1 e.stays in
+    let way = breaks g.D.Disk g.T.Transport g.P.Pacer c.args.limits.now c.args.turns c.args.store.now c.args.one.now c.args.two.now c.args.transport.now c.args.pacer.now c.trip.taken c.trip.store c.trip.one c.trip.two c.trip.transport c.now-now.new.self u c.in-Turn.pid c.now-now.result c.now-now.ensures.said c.turn_one.new.store c.turn_one.new.one c.turn_one.new.two c.turn_one.new.transport (need s.world.world there.0) stays failed less e.same e.kept e.place e.any_moment e.processes (what_it_needs s.world.world c.in-Turn.pid (AsksOnce failed g.T.Transport.asked c.trip.transport c.turn_one.new.transport) there.0 there.1 e.asks) in
+    way.any_moment
+
+pub returns-in-Err-clause-processes : goal.returns-in-Err-clause-processes
+returns-in-Err-clause-processes g c =
+    let less : c.trip.taken < c.args.turns = let few = c.trip.invariant.way.few in let not_all = c.if-taken-turns.false in omega arith in
+    let u = moment_told g.D.Disk g.T.Transport g.P.Pacer c.args.limits.now c.args.turns c.args.store.now c.args.one.now c.args.two.now c.args.transport.now c.args.pacer.now c.trip.taken c.trip.store c.trip.one c.trip.two c.trip.transport c.trip.pacer c.trip.invariant c.now-now.new.self c.now-now.ensures.keeps c.now-now.ensures.rests in
+    let s = c.trip.store in
+    let comes : ComesNext c.world-in-trip.result.now.world c.now-now.result (Turn c.in-Turn.pid)
+    = subst (ComesNext c.world-in-trip.result.now.world c.now-now.result) c.in-Turn.is c.in_ok-next.ensures.comes in
+    let ready : is_ready_at s.world.world c.in-Turn.pid c.now-now.result ≡ true
+    = subst (λ (h : Holding). is_ready_at h.world c.in-Turn.pid c.now-now.result ≡ true) c.world-in-trip.ensures comes in
+    let there = ready_there s.world.world c.in-Turn.pid c.now-now.result ready in
+    let e = c.in-Err.ensures in
+    let failed : Result (Unit {0}) RunError = Err c.in-Err.error in
+    let stays = what_it_needs s.world.world c.in-Turn.pid (λ n. IsAsked g.T.Transport c.in-Turn.pid n c.trip.transport c.turn_one.new.transport) there.0 there.1 e.stays in
+    let way = breaks g.D.Disk g.T.Transport g.P.Pacer c.args.limits.now c.args.turns c.args.store.now c.args.one.now c.args.two.now c.args.transport.now c.args.pacer.now c.trip.taken c.trip.store c.trip.one c.trip.two c.trip.transport c.now-now.new.self u c.in-Turn.pid c.now-now.result c.now-now.ensures.said c.turn_one.new.store c.turn_one.new.one c.turn_one.new.two c.turn_one.new.transport (need s.world.world there.0) stays failed less e.same e.kept e.place e.any_moment e.processes (what_it_needs s.world.world c.in-Turn.pid (AsksOnce failed g.T.Transport.asked c.trip.transport c.turn_one.new.transport) there.0 there.1 e.asks) in
+    way.processes
+
+pub returns-in-Err-clause-marks : goal.returns-in-Err-clause-marks
+returns-in-Err-clause-marks g c =
+    let less : c.trip.taken < c.args.turns = let few = c.trip.invariant.way.few in let not_all = c.if-taken-turns.false in omega arith in
+    let u = moment_told g.D.Disk g.T.Transport g.P.Pacer c.args.limits.now c.args.turns c.args.store.now c.args.one.now c.args.two.now c.args.transport.now c.args.pacer.now c.trip.taken c.trip.store c.trip.one c.trip.two c.trip.transport c.trip.pacer c.trip.invariant c.now-now.new.self c.now-now.ensures.keeps c.now-now.ensures.rests in
+    let s = c.trip.store in
+    let comes : ComesNext c.world-in-trip.result.now.world c.now-now.result (Turn c.in-Turn.pid)
+    = subst (ComesNext c.world-in-trip.result.now.world c.now-now.result) c.in-Turn.is c.in_ok-next.ensures.comes in
+    let ready : is_ready_at s.world.world c.in-Turn.pid c.now-now.result ≡ true
+    = subst (λ (h : Holding). is_ready_at h.world c.in-Turn.pid c.now-now.result ≡ true) c.world-in-trip.ensures comes in
+    let there = ready_there s.world.world c.in-Turn.pid c.now-now.result ready in
+    let e = c.in-Err.ensures in
+    let failed : Result (Unit {0}) RunError = Err c.in-Err.error in
+    let stays = what_it_needs s.world.world c.in-Turn.pid (λ n. IsAsked g.T.Transport c.in-Turn.pid n c.trip.transport c.turn_one.new.transport) there.0 there.1 e.stays in
+    let way = breaks g.D.Disk g.T.Transport g.P.Pacer c.args.limits.now c.args.turns c.args.store.now c.args.one.now c.args.two.now c.args.transport.now c.args.pacer.now c.trip.taken c.trip.store c.trip.one c.trip.two c.trip.transport c.now-now.new.self u c.in-Turn.pid c.now-now.result c.now-now.ensures.said c.turn_one.new.store c.turn_one.new.one c.turn_one.new.two c.turn_one.new.transport (need s.world.world there.0) stays failed less e.same e.kept e.place e.any_moment e.processes (what_it_needs s.world.world c.in-Turn.pid (AsksOnce failed g.T.Transport.asked c.trip.transport c.turn_one.new.transport) there.0 there.1 e.asks) in
+    no_worse g.D.Disk g.T.Transport g.P.Pacer c.args.limits.now c.args.turns c.args.store.now c.args.one.now c.args.two.now c.args.transport.now c.args.pacer.now c.trip.taken (suc c.trip.taken) c.turn_one.new.store c.turn_one.new.one c.turn_one.new.two c.turn_one.new.transport c.now-now.new.self way
+
+pub returns-in-Err-clause-asked : goal.returns-in-Err-clause-asked
+returns-in-Err-clause-asked g c =
+    let less : c.trip.taken < c.args.turns = let few = c.trip.invariant.way.few in let not_all = c.if-taken-turns.false in omega arith in
+    let u = moment_told g.D.Disk g.T.Transport g.P.Pacer c.args.limits.now c.args.turns c.args.store.now c.args.one.now c.args.two.now c.args.transport.now c.args.pacer.now c.trip.taken c.trip.store c.trip.one c.trip.two c.trip.transport c.trip.pacer c.trip.invariant c.now-now.new.self c.now-now.ensures.keeps c.now-now.ensures.rests in
+    let s = c.trip.store in
+    let comes : ComesNext c.world-in-trip.result.now.world c.now-now.result (Turn c.in-Turn.pid)
+    = subst (ComesNext c.world-in-trip.result.now.world c.now-now.result) c.in-Turn.is c.in_ok-next.ensures.comes in
+    let ready : is_ready_at s.world.world c.in-Turn.pid c.now-now.result ≡ true
+    = subst (λ (h : Holding). is_ready_at h.world c.in-Turn.pid c.now-now.result ≡ true) c.world-in-trip.ensures comes in
+    let there = ready_there s.world.world c.in-Turn.pid c.now-now.result ready in
+    let e = c.in-Err.ensures in
+    let failed : Result (Unit {0}) RunError = Err c.in-Err.error in
+    let stays = what_it_needs s.world.world c.in-Turn.pid (λ n. IsAsked g.T.Transport c.in-Turn.pid n c.trip.transport c.turn_one.new.transport) there.0 there.1 e.stays in
+    let way = breaks g.D.Disk g.T.Transport g.P.Pacer c.args.limits.now c.args.turns c.args.store.now c.args.one.now c.args.two.now c.args.transport.now c.args.pacer.now c.trip.taken c.trip.store c.trip.one c.trip.two c.trip.transport c.now-now.new.self u c.in-Turn.pid c.now-now.result c.now-now.ensures.said c.turn_one.new.store c.turn_one.new.one c.turn_one.new.two c.turn_one.new.transport (need s.world.world there.0) stays failed less e.same e.kept e.place e.any_moment e.processes (what_it_needs s.world.world c.in-Turn.pid (AsksOnce failed g.T.Transport.asked c.trip.transport c.turn_one.new.transport) there.0 there.1 e.asks) in
+    asks g.D.Disk g.T.Transport g.P.Pacer c.args.limits.now c.args.turns c.args.store.now c.args.one.now c.args.two.now c.args.transport.now c.args.pacer.now c.trip.taken (suc c.trip.taken) c.turn_one.new.store c.turn_one.new.one c.turn_one.new.two c.turn_one.new.transport c.now-now.new.self way less
+
+pub returns-in-Err-clause-directories : goal.returns-in-Err-clause-directories
+returns-in-Err-clause-directories g c =
+    let less : c.trip.taken < c.args.turns = let few = c.trip.invariant.way.few in let not_all = c.if-taken-turns.false in omega arith in
+    let u = moment_told g.D.Disk g.T.Transport g.P.Pacer c.args.limits.now c.args.turns c.args.store.now c.args.one.now c.args.two.now c.args.transport.now c.args.pacer.now c.trip.taken c.trip.store c.trip.one c.trip.two c.trip.transport c.trip.pacer c.trip.invariant c.now-now.new.self c.now-now.ensures.keeps c.now-now.ensures.rests in
+    let s = c.trip.store in
+    let comes : ComesNext c.world-in-trip.result.now.world c.now-now.result (Turn c.in-Turn.pid)
+    = subst (ComesNext c.world-in-trip.result.now.world c.now-now.result) c.in-Turn.is c.in_ok-next.ensures.comes in
+    let ready : is_ready_at s.world.world c.in-Turn.pid c.now-now.result ≡ true
+    = subst (λ (h : Holding). is_ready_at h.world c.in-Turn.pid c.now-now.result ≡ true) c.world-in-trip.ensures comes in
+    let there = ready_there s.world.world c.in-Turn.pid c.now-now.result ready in
+    let e = c.in-Err.ensures in
+    let failed : Result (Unit {0}) RunError = Err c.in-Err.error in
+    let stays = what_it_needs s.world.world c.in-Turn.pid (λ n. IsAsked g.T.Transport c.in-Turn.pid n c.trip.transport c.turn_one.new.transport) there.0 there.1 e.stays in
+    directories_left g.D.Disk g.T.Transport g.P.Pacer c.args.limits.now c.args.turns c.args.store.now c.args.one.now c.args.two.now c.args.transport.now c.args.pacer.now c.trip.taken c.trip.store c.trip.one c.trip.two c.trip.transport c.now-now.new.self u c.in-Turn.pid c.now-now.result c.now-now.ensures.said c.turn_one.new.store c.turn_one.new.one c.turn_one.new.two c.turn_one.new.transport (need s.world.world there.0) stays g.met.D.Disk.counts_now e.directories
+
+pub returns-in-Err-clause-refused : goal.returns-in-Err-clause-refused
+returns-in-Err-clause-refused g c =
+    let less : c.trip.taken < c.args.turns = let few = c.trip.invariant.way.few in let not_all = c.if-taken-turns.false in omega arith in
+    let u = moment_told g.D.Disk g.T.Transport g.P.Pacer c.args.limits.now c.args.turns c.args.store.now c.args.one.now c.args.two.now c.args.transport.now c.args.pacer.now c.trip.taken c.trip.store c.trip.one c.trip.two c.trip.transport c.trip.pacer c.trip.invariant c.now-now.new.self c.now-now.ensures.keeps c.now-now.ensures.rests in
+    let s = c.trip.store in
+    let comes : ComesNext c.world-in-trip.result.now.world c.now-now.result (Turn c.in-Turn.pid)
+    = subst (ComesNext c.world-in-trip.result.now.world c.now-now.result) c.in-Turn.is c.in_ok-next.ensures.comes in
+    let ready : is_ready_at s.world.world c.in-Turn.pid c.now-now.result ≡ true
+    = subst (λ (h : Holding). is_ready_at h.world c.in-Turn.pid c.now-now.result ≡ true) c.world-in-trip.ensures comes in
+    let there = ready_there s.world.world c.in-Turn.pid c.now-now.result ready in
+    let e = c.in-Err.ensures in
+    let failed : Result (Unit {0}) RunError = Err c.in-Err.error in
+    let stays = what_it_needs s.world.world c.in-Turn.pid (λ n. IsAsked g.T.Transport c.in-Turn.pid n c.trip.transport c.turn_one.new.transport) there.0 there.1 e.stays in
+    refuses g.D.Disk g.T.Transport g.P.Pacer c.args.limits.now c.args.turns c.args.store.now c.args.one.now c.args.two.now c.args.transport.now c.args.pacer.now c.trip.taken c.trip.store c.trip.one c.trip.two c.trip.transport c.now-now.new.self u c.in-Turn.pid c.now-now.result c.now-now.ensures.said c.turn_one.new.store c.turn_one.new.one c.turn_one.new.two c.turn_one.new.transport (need s.world.world there.0) stays (Unit {0}) c.in-Err.error e.same e.refused e.untouched_one e.untouched_two e.place
+
+pub trip-preserved : goal.trip-preserved
+trip-preserved g c =
+    let less : c.trip.taken < c.args.turns = let few = c.trip.invariant.way.few in let not_all = c.if-taken-turns.false in omega arith in
+    let u = moment_told g.D.Disk g.T.Transport g.P.Pacer c.args.limits.now c.args.turns c.args.store.now c.args.one.now c.args.two.now c.args.transport.now c.args.pacer.now c.trip.taken c.trip.store c.trip.one c.trip.two c.trip.transport c.trip.pacer c.trip.invariant c.now-now.new.self c.now-now.ensures.keeps c.now-now.ensures.rests in
+    let s = c.trip.store in
+    let comes : ComesNext c.world-in-trip.result.now.world c.now-now.result (Turn c.in-Turn.pid)
+    = subst (ComesNext c.world-in-trip.result.now.world c.now-now.result) c.in-Turn.is c.in_ok-next.ensures.comes in
+    let ready : is_ready_at s.world.world c.in-Turn.pid c.now-now.result ≡ true
+    = subst (λ (h : Holding). is_ready_at h.world c.in-Turn.pid c.now-now.result ≡ true) c.world-in-trip.ensures comes in
+    let there = ready_there s.world.world c.in-Turn.pid c.now-now.result ready in
+    let e = c.in-Ok.ensures in
+    let done : Result (Unit {0}) RunError = Ok tt in
+    let stays = what_it_needs s.world.world c.in-Turn.pid (λ n. IsAsked g.T.Transport c.in-Turn.pid n c.trip.transport c.turn_one.new.transport) there.0 there.1 e.stays in
+    goes_on g.D.Disk g.T.Transport g.P.Pacer c.args.limits.now c.args.turns c.args.store.now c.args.one.now c.args.two.now c.args.transport.now c.args.pacer.now c.trip.taken c.trip.store c.trip.one c.trip.two c.trip.transport c.now-now.new.self u c.in-Turn.pid c.now-now.result c.now-now.ensures.said c.turn_one.new.store c.turn_one.new.one c.turn_one.new.two c.turn_one.new.transport (need s.world.world there.0) stays done less e.live e.ok e.batches e.fits (e.still e.live) e.place e.any_moment e.processes
+    (what_it_needs s.world.world c.in-Turn.pid (AsksOnce done g.T.Transport.asked c.trip.transport c.turn_one.new.transport) there.0 there.1 e.asks) e.tells e.cause
+
+pub trip-preserved-in-Rest : goal.trip-preserved-in-Rest
+trip-preserved-in-Rest g c =
+    let less : c.trip.taken < c.args.turns = let few = c.trip.invariant.way.few in let not_all = c.if-taken-turns.false in omega arith in
+    let u = moment_told g.D.Disk g.T.Transport g.P.Pacer c.args.limits.now c.args.turns c.args.store.now c.args.one.now c.args.two.now c.args.transport.now c.args.pacer.now c.trip.taken c.trip.store c.trip.one c.trip.two c.trip.transport c.trip.pacer c.trip.invariant c.now-now.new.self c.now-now.ensures.keeps c.now-now.ensures.rests in
+    let comes : ComesNext c.world-in-trip.result.now.world c.now-now.result (Rest c.in-Rest.until)
+    = subst (ComesNext c.world-in-trip.result.now.world c.now-now.result) c.in-Rest.is c.in_ok-next.ensures.comes in
+    let rests : ComesNext c.trip.store.world.world c.now-now.result (Rest c.in-Rest.until)
+    = subst (λ (h : Holding). ComesNext h.world c.now-now.result (Rest c.in-Rest.until)) c.world-in-trip.ensures comes in
+    rests_on g.D.Disk g.T.Transport g.P.Pacer c.args.limits.now c.args.turns c.args.store.now c.args.one.now c.args.two.now c.args.transport.now c.args.pacer.now c.trip.taken c.trip.store c.trip.one c.trip.two c.trip.transport c.now-now.new.self u less c.now-now.result c.in-Rest.until c.now-now.ensures.said rests c.rest.new.self c.rest.ensures.keeps c.rest.ensures.rests

@@ -3,7 +3,8 @@ use Rattle.wc_runner.proofs.UnderWay.{UnderWay}
 use Rattle.wc_runner.proofs.running.run.Given as goal
 
 abbrev pub invariant-trip : goal.invariant-trip
-invariant-trip g l = UnderWay g.D.Disk l.fn.limits l.fn.turns l.fn.store l.fn.one l.fn.two l.taken l.store l.one l.two
+invariant-trip g l =
+    UnderWay g.D.Disk g.T.Transport g.P.Pacer l.fn.limits l.fn.turns l.fn.store l.fn.one l.fn.two l.fn.transport l.fn.pacer l.taken l.store l.one l.two l.transport l.pacer
 
 abbrev pub decreases-trip : goal.decreases-trip
 decreases-trip g l = l.turns - l.taken

@@ -1,7 +1,7 @@
 //! Trees of work chains, worked out by hand from the rules.
 
+use crate::bytes::bytes_of;
 use crate::files::FAN;
-use crate::session::bytes_of;
 use std::alloc::{AllocError, Global};
 use std::test::Fail;
 use wc_check::check;

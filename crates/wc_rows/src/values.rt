@@ -1,6 +1,6 @@
 //! Calls of the values that their own tests reach only from within others.
 
-use crate::session::bytes_of;
+use crate::bytes::bytes_of;
 use crate::wrong::Wrong;
 use std::alloc::{AllocError, Global};
 use wc_value::{Fields, List, Text, Value, Values, same_bytes, same_text, same_value, same_values};

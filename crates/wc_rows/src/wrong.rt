@@ -9,8 +9,6 @@ pub enum Wrong {
     OutOfMemory,
     /// This is not so.
     Not(&'static str),
-    /// What was found, and what it was found for.
-    Found(String),
 }
 
 impl From<AllocError> for Wrong {

@@ -43,9 +43,8 @@ work_replied : (w : Work) (r : Reply) → (work_row w).may r → IsReplied r.sta
 work_replied (work.View v) r p = is_replied r.status (view_shown v p.0 r p.1)
 work_replied (work.Event a) r (w, inl p) = same_replied r _ p.2 tt
 work_replied (work.Event a) r (w, inr f) = same_replied r _ f.4 tt
-work_replied work.Run r (w, inl p) = same_replied r _ p.2 tt
-work_replied work.Run r (w, inr (v, takes, inl h)) = same_replied r _ h.reply (run_replied h.end)
-work_replied work.Run r (w, inr (v, takes, inr f)) = same_replied r _ f.reply tt
+work_replied work.Run r (w, v, takes, inl h) = same_replied r _ h.reply (run_replied h.end)
+work_replied work.Run r (w, v, takes, inr f) = same_replied r _ f.1.reply tt
 work_replied work.Pack r (generation, w, inl p) = same_replied r _ p.1 tt
 work_replied work.Pack r (generation, w, inr f) = same_replied r _ f.4 tt
 

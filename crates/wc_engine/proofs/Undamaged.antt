@@ -63,9 +63,8 @@ work_tells : (k : Work) (before : Images) (w : World) (after : Images) (r : Repl
 work_tells (work.View v) before w after r shows = told_whole r.status (view_shown v w r shows.1)
 work_tells (work.Event a) before w after r (inl e) = same_tells r _ e.reply tt
 work_tells (work.Event a) before w after r (inr full) = same_tells r _ full.reply tt
-work_tells work.Run before w after r (inl later) = same_tells r _ later.reply tt
-work_tells work.Run before w after r (inr runs) =
-    ⊎_elim (λ has. same_tells r _ has.reply (run_tells has.end w runs.1.later)) (λ full. same_tells r _ full.reply tt) runs.1.ends
+work_tells work.Run before w after r runs =
+    ⊎_elim (λ has. same_tells r _ has.reply (run_tells has.end w runs.later)) (λ full. same_tells r _ full.2.reply tt) runs.ends
 work_tells work.Pack before w after r packs = ⊎_elim (λ packed. same_tells r _ packed.reply tt) (λ full. same_tells r _ full.1.reply tt) packs.1.2
 
 -- ---- where no disk is damaged

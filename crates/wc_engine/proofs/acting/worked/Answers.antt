@@ -57,3 +57,11 @@ returns-in-Event-clause-does g c =
     let w = c.args.store.world.world in
     let P : Work → Type 0 = λ k. IfOk c.event_reply.result (λ (r : Reply). IsTrue (g.D.Disk.tells c.args.one.now) → IsTrue (g.D.Disk.tells c.args.two.now) → (work_row k).does before w after r) in
     subst P (sym c.in-Event.is) c.event_reply.ensures.does
+
+pub returns-in-Run-clause-does : goal.returns-in-Run-clause-does
+returns-in-Run-clause-does g c =
+    let before : Images = (g.D.Disk.seen c.args.one.now, g.D.Disk.seen c.args.two.now) in
+    let after : Images = (g.D.Disk.seen c.run_reply.new.one, g.D.Disk.seen c.run_reply.new.two) in
+    let w = c.args.store.world.world in
+    let P : Work → Type 0 = λ k. IfOk c.run_reply.result (λ (r : Reply). IsTrue (g.D.Disk.tells c.args.one.now) → IsTrue (g.D.Disk.tells c.args.two.now) → (work_row k).does before w after r) in
+    subst P (sym c.in-Run.is) c.run_reply.ensures.does

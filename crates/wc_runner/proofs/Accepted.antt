@@ -1,10 +1,9 @@
 -- What the turn of a ready process makes, and how it is refused.
-use Rattle.std.proofs.Common.{◌≡◌, ◌⊎◌, inl, inr, ⊎_elim, ℕ, ◌+◌, ◌≤◌, true, false, List, [], ◌∷◌, length, Result, Ok, Err, refl, sym, ap, subst, ◌∙◌}
+use Rattle.std.proofs.Common.{◌≡◌, ◌⊎◌, inl, inr, ℕ, ◌+◌, true, false, List, [], ◌∷◌, Result, Ok, Err, refl, sym, ◌∙◌}
 use Rattle.std.specs.Prelude.{All, IfErr, OnErr, OnOk}
 use Rattle.std.proofs.lemmas.List.Elements.{All-head, All-tail}
 use Rattle.wc_journal.specs.declared.journal.Journal.{Journal}
 use Rattle.wc_state.specs.declared.record.Limits.{Limits}
-use Rattle.wc_state.specs.declared.record.ProcessRecord.{ProcessRecord}
 use Rattle.wc_world.specs.declared.change.Change.{Change}
 use Rattle.wc_world.specs.declared.change.Change.TheVariants as change
 use Rattle.wc_world.specs.World.{World}
@@ -13,7 +12,6 @@ use Rattle.wc_machine.specs.declared.answer.TaskAnswer.{TaskAnswer}
 use Rattle.wc_machine.specs.Machine.{Leads, turn}
 use Rattle.wc_accepted.specs.Laws.{IsPlain}
 use Rattle.wc_accepted.proofs.Parts.{events_are_plain}
-use Rattle.wc_refusal.specs.Refusals.{FullOf}
 use Rattle.wc_refusal.specs.declared.error.TurnError.{TurnError}
 use Rattle.wc_refusal.specs.declared.error.TurnError.TheVariants as turn_error
 use Rattle.wc_core.specs.Ready.{is_ready_at}
@@ -27,7 +25,7 @@ use Rattle.wc_runner.specs.declared.error.RunError.TheVariants.{DiskFault, Full,
 use Rattle.wc_runner.specs.Leaves.{IsTurnWithin}
 use Rattle.wc_runner.specs.Outside.{Answers, Outside}
 use Rattle.wc_runner.specs.Refusals.{Counts, IsUnchanged, RefusesPrepared, RefusesStep, RefusesStored, is_live_after}
-use Rattle.wc_runner.specs.Trips.{IsTurn, TurnOf}
+use Rattle.wc_runner.specs.Trips.{TurnOf}
 use Rattle.wc_runner.specs.Turning.{IsOfCommit, IsPrepared, IsReady, IsRoomOrMemory, RefusesChanges, of_turn}
 use Rattle.wc_runner.proofs.ManyTurns.{one_batch}
 

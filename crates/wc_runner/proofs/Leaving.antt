@@ -14,7 +14,7 @@ use Rattle.wc_store.specs.Stores.{other, HoldsAs, HoldsEither, StandsFor, Commit
 use Rattle.wc_runner.specs.Leaves.{HoldsSome, LeavesNow, LeavesWorlds, IsTurnWithin, IsOrTurnOf, SomeTurns}
 use Rattle.wc_runner.specs.Outside.{Outside}
 use Rattle.wc_runner.specs.Trips.{Turns, one_more}
-use Rattle.wc_runner.proofs.Widened.{Widens, turns_widened, turn_of_widened}
+use Rattle.wc_runner.proofs.Widened.{Widens, turns_widened}
 
 module _ {D : Type 0} (g : disk.Ghosts D) where
   held_as : (place : Place) (one two : D) (s : Standing) → IsHeld (g.seen one) (g.seen two) s → HoldsAs place (g.seen (its place one two)) (g.seen (other place one two)) s

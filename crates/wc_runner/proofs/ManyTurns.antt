@@ -5,7 +5,7 @@ use Rattle.std.proofs.lemmas.List.Elements.{All-head, All-tail}
 use Rattle.wc_world.specs.declared.change.Change.{Change}
 use Rattle.wc_world.specs.declared.change.Change.TheVariants as change
 use Rattle.wc_world.specs.World.{World}
-use Rattle.wc_world.specs.Accepted.{IsAccepted, IsReached, then_changes}
+use Rattle.wc_world.specs.Accepted.{IsReached, then_changes}
 use Rattle.wc_world.specs.Applied.{after_change, applied, begun, changed}
 use Rattle.wc_world.proofs.ReachedWorlds.{reached_is_consistent}
 use Rattle.wc_machine.specs.Continues.{Continues}
@@ -19,7 +19,7 @@ use Rattle.wc_sound_turns.specs.Laws.{LeavesSound}
 use Rattle.wc_sound_turns.proofs.Events.{events_keep_sound}
 use Rattle.wc_runner.specs.Laws.{StaysSound, TurnsKeepSound, TurnsAreBatches}
 use Rattle.wc_runner.specs.Outside.{Outside}
-use Rattle.wc_runner.specs.Trips.{IsTurn, TurnOf, Turns, none, one_more, one_rest}
+use Rattle.wc_runner.specs.Trips.{IsTurn, TurnOf, none, one_more, one_rest}
 use Rattle.wc_runner.proofs.Continuing.{continues_itself, continues_on}
 
 -- ---- batches

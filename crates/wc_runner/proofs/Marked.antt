@@ -1,5 +1,5 @@
 -- Where nothing failed, no process gets a pause mark and none has failed more often.
-use Rattle.std.proofs.Common.{◌≡◌, ℕ, ℤ, suc, ◌+◌, ◌≤◌, Bool, true, false, cond, List, [], ◌∷◌, ◌++◌, map, length, Option, Some, None, refl, sym, ap, subst, ◌∙◌, arith}
+use Rattle.std.proofs.Common.{◌≡◌, ℕ, ℤ, suc, ◌+◌, Bool, true, false, List, [], ◌∷◌, ◌++◌, map, length, Option, Some, None, refl, sym, subst, ◌∙◌, arith}
 use Rattle.std.specs.Prelude.{◌==◌, if◌then◌else◌, option_map, IfSome}
 use Rattle.std.specs.List.{AllByRecursion}
 use Rattle.wc_value.specs.declared.process.ProcessState.{ProcessState}
@@ -11,14 +11,13 @@ use Rattle.wc_calculation.specs.Rules.{Values}
 use Rattle.wc_calculation.specs.declared.outcomes.Parsed.{Parsed}
 use Rattle.wc_run.specs.Tables.{Label}
 use Rattle.wc_state.specs.declared.record.JobPart.{JobPart}
-use Rattle.wc_state.specs.declared.record.Part.{Part}
 use Rattle.wc_state.specs.declared.record.ProcessRecord.{ProcessRecord}
 use Rattle.wc_state.specs.declared.record.Task.{Task}
 use Rattle.wc_state.specs.declared.record.Task.TheVariants as task
 use Rattle.wc_world.specs.declared.change.Change.{Change}
 use Rattle.wc_world.specs.declared.change.Change.TheVariants as change
 use Rattle.wc_world.specs.World.{World}
-use Rattle.wc_world.specs.Applied.{after_change, applied, begun, changed, keep, made, next_number, set}
+use Rattle.wc_world.specs.Applied.{after_change, begun, changed, keep, made, next_number, set}
 use Rattle.wc_world.specs.Records.{find_record}
 use Rattle.wc_world.proofs.ReachedLists.{at_one, at_one_keeps, find_mapped}
 use Rattle.wc_machine.specs.declared.answer.TaskAnswer.{TaskAnswer}

@@ -1,23 +1,20 @@
 -- What a process needs, and what was asked for it.
-use Rattle.std.proofs.Common.{◌≡◌, ◌⊎◌, inl, inr, ℕ, true, Option, Some, None, Result, Ok, Err, refl, sym, ap, subst, ◌∙◌}
+use Rattle.std.proofs.Common.{◌≡◌, inl, inr, ℕ, true, Option, Some, None, Result, Ok, Err, refl, sym, ap, subst, ◌∙◌}
 use Rattle.std.specs.Prelude.{IfSome}
 use Rattle.wc_io.specs.Counts.{RisesByOne}
 use Rattle.wc_value.specs.declared.process.Request.{Request}
-use Rattle.wc_state.specs.declared.record.Limits.{Limits}
 use Rattle.wc_state.specs.declared.record.ProcessRecord.{ProcessRecord}
 use Rattle.wc_state.specs.declared.record.Task.{Task}
 use Rattle.wc_state.specs.declared.record.Task.TheVariants as task
 use Rattle.wc_transport.specs.declared.transport.Transport as transport
 use Rattle.wc_world.specs.World.{World}
 use Rattle.wc_world.specs.Records.{find_record}
-use Rattle.wc_machine.specs.declared.answer.TaskAnswer.{TaskAnswer}
 use Rattle.wc_machine.specs.Asking.{Need, nothing, performs, need}
 use Rattle.wc_refusal.specs.declared.error.TurnError.{TurnError}
 use Rattle.wc_refusal.specs.declared.error.TurnError.TheVariants as turn_error
 use Rattle.wc_core.specs.Asks.{asks_of, asks_task}
 use Rattle.wc_core.specs.Ready.{is_ready_at}
 use Rattle.wc_core.specs.Refusals.{RefusesNeed}
-use Rattle.wc_core.specs.declared.needs.Asks.{Asks}
 use Rattle.wc_core.specs.declared.needs.Asks.TheVariants as asks
 use Rattle.wc_runner.specs.Asked.{AsksOnce, CountsAsking, IsAsked, WhatItNeeds}
 use Rattle.wc_runner.specs.declared.error.RunError.{RunError}

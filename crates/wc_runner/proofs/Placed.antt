@@ -1,17 +1,16 @@
 -- Directories belong to processes, which stay.
-use Rattle.std.proofs.Common.{◌≡◌, ◌≢◌, ◌⊎◌, ◌+◌, inl, inr, ℕ, Bool, true, false, List, [], ◌∷◌, Option, Some, None, refl, sym, subst, eq-eqb}
-use Rattle.std.specs.Prelude.{◌==◌, IfSome, IsSome}
+use Rattle.std.proofs.Common.{◌≡◌, ◌≢◌, ◌⊎◌, ◌+◌, inl, inr, ℕ, true, List, [], ◌∷◌, Option, Some, None, refl, sym, subst, eq-eqb}
+use Rattle.std.specs.Prelude.{◌==◌, IsSome}
 use Rattle.std.proofs.lemmas.Bool.{cases_Bool, eqb-true}
 use Rattle.wc_value.specs.declared.process.Request.{Request}
 use Rattle.wc_state.specs.declared.record.ProcessRecord.{ProcessRecord}
-use Rattle.wc_state.specs.declared.record.Task.{Task}
 use Rattle.wc_transport.specs.Outside.{BothTold}
 use Rattle.wc_world.specs.declared.change.Change.{Change}
 use Rattle.wc_world.specs.World.{World}
 use Rattle.wc_world.specs.Applied.{after_change, applied, begun, changed}
 use Rattle.wc_world.specs.Records.{find_record}
 use Rattle.wc_world.proofs.ReachedGrown.{grows}
-use Rattle.wc_machine.specs.Asking.{Need, nothing, performs, need}
+use Rattle.wc_machine.specs.Asking.{Need, nothing, performs}
 use Rattle.wc_runner.specs.Asked.{AreOfProcesses, PlacesFor}
 use Rattle.wc_runner.specs.Leaves.{IsOrTurnOf}
 use Rattle.wc_runner.specs.Outside.{Outside}

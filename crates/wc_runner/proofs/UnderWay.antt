@@ -1,35 +1,31 @@
 -- A run that has taken some turns and rests.
-use Rattle.std.proofs.Common.{◌≡◌, ◌⊎◌, inl, inr, ⊎_elim, ℕ, suc, ◌+◌, ◌<◌, ◌≤◌, Bool, true, List, [], length, Some, Option, Result, Err, refl, sym, ap, subst, ◌∙◌, arith}
-use Rattle.std.specs.Prelude.{IsTrue, IsSome}
+use Rattle.std.proofs.Common.{◌≡◌, ◌⊎◌, inl, inr, ⊎_elim, ℕ, suc, ◌+◌, ◌<◌, ◌≤◌, Bool, true, List, [], length, Some, Result, Err, refl, sym, subst, ◌∙◌, arith}
+use Rattle.std.specs.Prelude.{IsTrue}
 use Rattle.wc_io.specs.Counts.{Rises, RisesByOne}
 use Rattle.wc_io.specs.declared.pacer.Pacer as pacer
 use Rattle.wc_disk.specs.declared.disk.Disk as disk
-use Rattle.wc_value.specs.declared.process.JobResult.{JobResult}
-use Rattle.wc_value.specs.declared.process.Request.{Request}
 use Rattle.wc_journal.specs.Journals.{IsSettled}
 use Rattle.wc_state.specs.declared.record.Limits.{Limits}
 use Rattle.wc_transport.specs.Outside.{IsRow, WhereTold}
 use Rattle.wc_transport.specs.declared.transport.Transport as transport
 use Rattle.wc_world.specs.World.{World}
-use Rattle.wc_world.specs.Records.{find_record}
 use Rattle.wc_machine.specs.Asking.{Need}
 use Rattle.wc_machine.specs.Readiness.{ready_at}
-use Rattle.wc_next.specs.Next.{ComesNext, IsLeastDue}
+use Rattle.wc_next.specs.Next.{IsLeastDue}
 use Rattle.wc_store.specs.declared.place.Place.{Place}
 use Rattle.wc_store.specs.declared.store.Store.{Store}
 use Rattle.wc_store.specs.Places.{its}
 use Rattle.wc_store.specs.Refusals.{byte_limit}
 use Rattle.wc_store.specs.Stores.{StandsFor}
-use Rattle.wc_refusal.specs.Refusals.{FullOf}
 use Rattle.wc_runner.specs.declared.error.RunError.{RunError}
 use Rattle.wc_runner.specs.declared.error.RunError.TheVariants.{DiskFault, Full, OutOfMemory}
 use Rattle.wc_runner.specs.Asked.{AreOfProcesses, AsksOnce, IsAsked, IsAskedFor}
 use Rattle.wc_runner.specs.Leaves.{LeavesNow, LeavesWorlds, IsOrTurnOf, SomeTurns}
 use Rattle.wc_runner.specs.Marks.{AreNoWorse}
-use Rattle.wc_runner.specs.Outside.{Outside, in_run, in_turn, is_told}
-use Rattle.wc_runner.specs.Refusals.{RefusesItsCommit, RefusesStep, RefusesRun, IsUnchanged}
-use Rattle.wc_runner.specs.Running.{FitsAfter, TakesAll, TakesFewer, TakesTurns, TakesUpTo}
-use Rattle.wc_runner.specs.Trips.{IsTurn, RestsAt, TurnOf, Turns, none, one_more, one_rest}
+use Rattle.wc_runner.specs.Outside.{Outside, in_run, in_turn}
+use Rattle.wc_runner.specs.Refusals.{RefusesStep, RefusesRun, IsUnchanged}
+use Rattle.wc_runner.specs.Running.{FitsAfter, TakesAll, TakesUpTo}
+use Rattle.wc_runner.specs.Trips.{RestsAt, TurnOf, none, one_more, one_rest}
 use Rattle.wc_runner.proofs.Leaving.{leaves_now, leaves_on, more_turns, some_widened, stands_leaves, stands_now, weaker_leaves}
 use Rattle.wc_runner.proofs.Marked.{turns_no_worse}
 use Rattle.wc_runner.proofs.Taken.{asked_none, asked_on, asked_up_to, risen_on, risen_since, rises_by_more, rises_by_none}

@@ -1,5 +1,5 @@
 -- What is known of the outside grows, and a turn by what was known is one by what is known later.
-use Rattle.std.proofs.Common.{◌≡◌, ℕ, suc, List, Option, Some, None, subst, sym}
+use Rattle.std.proofs.Common.{◌≡◌, ℕ, List, Option, Some, None, subst}
 use Rattle.std.specs.Prelude.{IfSome}
 use Rattle.wc_value.specs.declared.process.JobResult.{JobResult}
 use Rattle.wc_value.specs.declared.process.Request.{Request}
@@ -14,7 +14,7 @@ use Rattle.wc_machine.specs.declared.answer.TaskAnswer.{TaskAnswer}
 use Rattle.wc_machine.specs.declared.answer.TaskAnswer.TheVariants as answer
 use Rattle.wc_machine.specs.Asking.{Need, nothing, performs, need}
 use Rattle.wc_machine.specs.Machine.{Leads, turn}
-use Rattle.wc_runner.specs.Outside.{Outside, Answers, AnswersNeed, IsGiven, IsKnown}
+use Rattle.wc_runner.specs.Outside.{Outside, Answers, AnswersNeed, IsKnown}
 use Rattle.wc_runner.specs.Trips.{IsTurn, TurnOf, RestsAt, Turns, none, one_more, one_rest}
 
 -- All that is known of the one is known of the other.

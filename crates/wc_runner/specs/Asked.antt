@@ -1,5 +1,5 @@
 -- What a turn asks of the transport, and which directories there are after it.
-use Rattle.std.specs.Prelude.{◌≡◌, ◌≢◌, ◌⊎◌, ◌<◌, ◌≤◌, ◌+◌, ◌^◌, ℕ, List, Option, Some, None, Result, Ok, Err, IfSome, IsSome}
+use Rattle.std.specs.Prelude.{◌≡◌, ◌≢◌, ◌⊎◌, ◌<◌, ◌≤◌, ◌+◌, ◌^◌, ℕ, Option, Some, None, Result, Ok, Err, IfSome, IsSome}
 use Rattle.wc_io.specs.Counts.{Rises, RisesByOne}
 use Rattle.wc_value.specs.declared.process.Request.{Request}
 use Rattle.wc_state.specs.declared.record.Task.{Task}

@@ -1,4 +1,4 @@
-use Rattle.std.proofs.Common.{◌≡◌, ◌<◌, ◌≤◌, suc, true, Result, Ok, Err, ap, subst, sym, arith}
+use Rattle.std.proofs.Common.{◌≡◌, ◌<◌, suc, true, Result, Ok, Err, subst, arith}
 use Rattle.wc_world.specs.Room.{Holding}
 use Rattle.wc_machine.specs.Asking.{need}
 use Rattle.wc_core.specs.Ready.{is_ready_at}
@@ -6,6 +6,8 @@ use Rattle.wc_next.specs.Next.{ComesNext}
 use Rattle.wc_next.specs.declared.next.Next.TheVariants.{Turn, Rest}
 use Rattle.wc_runner.specs.Asked.{AsksOnce, IsAsked}
 use Rattle.wc_runner.specs.declared.error.RunError.{RunError}
+use Rattle.wc_runner.specs.Outside.{in_run}
+use Rattle.wc_runner.specs.Running.{TakesFewer}
 use Rattle.wc_runner.proofs.Accepted.{err_any}
 use Rattle.wc_runner.proofs.UnderWay.{asks, begins, breaks, directories_kept, directories_left, goes_on, moment_told, no_worse, refuses, rests_on, up_to}
 use Rattle.wc_runner.proofs.Taken.{ready_there, what_it_needs}
@@ -113,7 +115,9 @@ returns-in_err-next-clause-asked g c =
 pub returns-in_err-next-clause-early : goal.returns-in_err-next-clause-early
 returns-in_err-next-clause-early g c =
     let less : c.trip.taken < c.args.turns = let few = c.trip.invariant.way.few in let not_all = c.if-taken-turns.false in omega arith in
-    err_any c.from_residual.result _ (c.trip.taken, less, (moment_told g.D.Disk g.T.Transport g.P.Pacer c.args.limits.now c.args.turns c.args.store.now c.args.one.now c.args.two.now c.args.transport.now c.args.pacer.now c.trip.taken c.trip.store c.trip.one c.trip.two c.trip.transport c.trip.pacer c.trip.invariant c.now-now.new.self c.now-now.ensures.keeps c.now-now.ensures.rests).way.takes)
+    err_any c.from_residual.result
+    (TakesFewer (in_run g.T.Transport g.P.Pacer c.args.limits.now c.args.transport.now c.trip.transport c.now-now.new.self) c.args.turns c.args.store.now.world.world
+    c.trip.store.world.world (g.P.Pacer.rests c.args.pacer.now) (g.P.Pacer.rests c.now-now.new.self)) (c.trip.taken, less, (moment_told g.D.Disk g.T.Transport g.P.Pacer c.args.limits.now c.args.turns c.args.store.now c.args.one.now c.args.two.now c.args.transport.now c.args.pacer.now c.trip.taken c.trip.store c.trip.one c.trip.two c.trip.transport c.trip.pacer c.trip.invariant c.now-now.new.self c.now-now.ensures.keeps c.now-now.ensures.rests).way.takes)
 
 pub returns-in-Err-clause-takes : goal.returns-in-Err-clause-takes
 returns-in-Err-clause-takes g c =

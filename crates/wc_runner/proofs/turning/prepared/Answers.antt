@@ -1,10 +1,8 @@
-use Rattle.std.proofs.Common.{Err, Ok, refl, sym, subst}
-use Rattle.wc_machine.specs.Asking.{Need}
+use Rattle.std.proofs.Common.{Ok, refl, sym, subst}
 use Rattle.wc_runner.specs.Asked.{AsksOnce}
 use Rattle.wc_runner.specs.Outside.{in_turn}
 use Rattle.wc_runner.specs.Refusals.{RefusesPrepared}
 use Rattle.wc_runner.specs.Turning.{IsPrepared, IsReady, RefusesChanges}
-use Rattle.wc_runner.specs.declared.error.RunError.TheVariants.{OutOfMemory}
 use Rattle.wc_runner.proofs.Accepted.{if_err, prepares, prepares_none}
 use Rattle.wc_runner.proofs.Answered.{ok_map}
 use Rattle.wc_runner.proofs.Needed.{asks_on, needs_map}

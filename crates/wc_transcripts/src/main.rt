@@ -16,7 +16,11 @@ use wc_value::{Bytes, Files, JobResult, List, Request, Rows, Table, TableError, 
 const DOUBLES: [(&str, Option<&str>); 3] = [("2", Some("4\n")), ("3", Some("6\n")), ("9", None)];
 
 /// A row of the table: the program with this number, and what it leaves.
-fn row(alloc: Global, number: &str, content: Option<&str>) -> Result<(Request, JobResult), AllocError> {
+fn row(
+    alloc: Global,
+    number: &str,
+    content: Option<&str>,
+) -> Result<(Request, JobResult), AllocError> {
     let mut request = Request {
         program: Text::of_str(alloc, "double")?,
         args: Words::new(alloc),

@@ -22,8 +22,8 @@ use Rattle.wc_expression.specs.declared.outcome.Outcome.TheVariants.{Gives, Faul
 use Rattle.wc_expression.specs.Outcomes.{◌>>=◌}
 use Rattle.wc_expression.specs.Val.{val, holds}
 use Rattle.wc_calculation.specs.Rules.{is_taken, status_of}
-use Rattle.wc_run.specs.Meaning.{kinds_of, takes_inputs, takes_of}
-use Rattle.wc_run.specs.Run.{picked}
+use Rattle.wc_semantics.specs.Meaning.{kinds_of, takes_inputs, takes_of}
+use Rattle.wc_semantics.specs.Run.{picked}
 use Rattle.wc_machine.specs.Advancing.{Advanced, goes, loops, submits, ends, popped, past, at_head, first_block, numbered_arms, after_arms, other_number, chosen, turned, after_step, done, does, at_innermost, advance}
 use Rattle.wc_machine.specs.Outlines.{Blocks, blocks, block_of}
 use Rattle.wc_machine.specs.Stepping.{Argument, arguments, values_in, Noted, Stepped, stops, makes, or_stops, exits, with_plain, with_output, with_call, output, planned, collected, statements, Call}

@@ -12,8 +12,8 @@ use Rattle.wc_value.specs.declared.process.Request.{Request}
 use Rattle.wc_syntax.specs.declared.definition.Definition.{Definition}
 use Rattle.wc_graph.specs.declared.link.Link.{Link}
 use Rattle.wc_expression.specs.declared.outcome.Outcome.{Outcome}
-use Rattle.wc_run.specs.Tables.{Label, Table, Kills}
-use Rattle.wc_run.specs.declared.progress.Answer.{Answer}
+use Rattle.wc_semantics.specs.Tables.{Label, Table, Kills}
+use Rattle.wc_semantics.specs.declared.progress.Answer.{Answer}
 use Rattle.wc_state.specs.declared.record.Part.{Part}
 use Rattle.wc_state.specs.declared.record.Part.TheVariants as part
 use Rattle.wc_state.specs.declared.record.ProcessKind.TheVariants as kind

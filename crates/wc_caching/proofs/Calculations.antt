@@ -14,10 +14,10 @@ use Rattle.wc_state.specs.declared.record.ProcessKind.{ProcessKind}
 use Rattle.wc_state.specs.declared.record.ProcessKind.TheVariants as kind
 use Rattle.wc_state.specs.declared.record.ProcessRecord.{ProcessRecord}
 use Rattle.wc_calculation.specs.Rules.{Values}
-use Rattle.wc_run.specs.declared.progress.Answer.{Answer}
-use Rattle.wc_run.specs.Run.{Around}
-use Rattle.wc_run.specs.Tables.{Table, Kills, under}
-use Rattle.wc_run.specs.Meaning.{is_killed, whole, by_kill, surrounding, meaning}
+use Rattle.wc_semantics.specs.declared.progress.Answer.{Answer}
+use Rattle.wc_semantics.specs.Run.{Around}
+use Rattle.wc_semantics.specs.Tables.{Table, Kills, under}
+use Rattle.wc_semantics.specs.Meaning.{is_killed, whole, by_kill, surrounding, meaning}
 use Rattle.wc_world.specs.World.{World}
 use Rattle.wc_world.specs.Consistent.{IsConsistent}
 use Rattle.wc_world.specs.Fits.{calls_from}

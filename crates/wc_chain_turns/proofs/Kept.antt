@@ -13,8 +13,8 @@ use Rattle.wc_state.specs.declared.record.Frame.{Frame}
 use Rattle.wc_expression.specs.declared.outcome.Outcome.{Outcome}
 use Rattle.wc_expression.specs.declared.outcome.Outcome.TheVariants.{Gives, Faults}
 use Rattle.wc_expression.specs.Val.{holds}
-use Rattle.wc_run.specs.Meaning.{kinds_of, takes_of}
-use Rattle.wc_run.specs.Run.{picked}
+use Rattle.wc_semantics.specs.Meaning.{kinds_of, takes_of}
+use Rattle.wc_semantics.specs.Run.{picked}
 use Rattle.wc_machine.specs.Advancing.{Advanced, goes, loops, submits, ends, past, at_head, first_block, numbered_arms, after_arms, other_number, chosen, turned, after_step, done, does, at_innermost, advance, popped}
 use Rattle.wc_machine.specs.Outlines.{Blocks, blocks, block_of}
 use Rattle.wc_machine.specs.Stepping.{Stepped, stops, makes, statements}

@@ -7,7 +7,7 @@ use Rattle.wc_syntax.specs.Findings.{definition_named}
 use Rattle.wc_syntax.specs.declared.definition.Definition.{Definition}
 use Rattle.wc_syntax.specs.declared.definition.Definition.TheVariants as definition
 use Rattle.wc_syntax.specs.declared.definition.Port.{Port}
-use Rattle.wc_run.proofs.Bare.{named_bare}
+use Rattle.wc_semantics.proofs.Bare.{named_bare}
 use Rattle.wc_machine.specs.Calling.{kind_named}
 use Rattle.wc_chain_turns.specs.Coming.{Outs, is_missing, lacks}
 

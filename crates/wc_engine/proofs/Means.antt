@@ -6,9 +6,9 @@ use Rattle.wc_syntax.specs.Findings.{definition_named}
 use Rattle.wc_syntax.specs.declared.definition.Definition.{Definition}
 use Rattle.wc_syntax.specs.declared.definition.Definition.TheVariants as definition
 use Rattle.wc_syntax.specs.declared.definition.Port.{Port}
-use Rattle.wc_run.specs.Tables.{plain, no_kills}
-use Rattle.wc_run.specs.Meaning.{meaning}
-use Rattle.wc_run.proofs.Bare.{named_bare, meaning_bare}
+use Rattle.wc_semantics.specs.Tables.{plain, no_kills}
+use Rattle.wc_semantics.specs.Meaning.{meaning}
+use Rattle.wc_semantics.proofs.Bare.{named_bare, meaning_bare}
 use Rattle.wc_engine.specs.Given.{bad_given, fields_of}
 use Rattle.wc_engine.specs.Dry.{owed_answer, owed_inputs, owed_name}
 use Rattle.wc_engine.proofs.Bares.{bad_given_bare, fields_bare}

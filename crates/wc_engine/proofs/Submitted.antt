@@ -21,8 +21,8 @@ use Rattle.wc_expression.specs.Val.{is_allowed}
 use Rattle.wc_expression.specs.Contents.{has_kind}
 use Rattle.wc_expression.specs.Whole.{number_of}
 use Rattle.wc_calculation.specs.Rules.{kind_of_port, fits_port}
-use Rattle.wc_run.specs.Meaning.{is_good}
-use Rattle.wc_run.proofs.Bare.{named_bare}
+use Rattle.wc_semantics.specs.Meaning.{is_good}
+use Rattle.wc_semantics.proofs.Bare.{named_bare}
 use Rattle.wc_meaning.specs.Inputs.{least, wrong_inputs, missing_inputs, bad_input}
 use Rattle.wc_meaning.proofs.Least.{no_least}
 use Rattle.wc_engine.specs.declared.reading.Read.{Read}

@@ -16,23 +16,23 @@ use Rattle.wc_expression.specs.declared.outcome.Outcome.{Outcome}
 use Rattle.wc_expression.specs.declared.outcome.Outcome.TheVariants.{Gives, Faults}
 use Rattle.wc_expression.specs.Outcomes.{mapped}
 use Rattle.wc_expression.specs.Val.{holds}
-use Rattle.wc_run.specs.declared.progress.Answer.{Answer}
-use Rattle.wc_run.specs.declared.progress.Answer.TheVariants.{Gave, TooLittle, Without, Astray}
-use Rattle.wc_run.specs.declared.progress.Flow.{Flow}
-use Rattle.wc_run.specs.declared.progress.Flow.TheVariants.{Goes, Ends, NoFuel, Lacks, Off}
-use Rattle.wc_run.specs.declared.progress.Planned.{Planned}
-use Rattle.wc_run.specs.declared.progress.Progress.{Progress}
-use Rattle.wc_run.specs.declared.progress.Replayed.{Replayed}
-use Rattle.wc_run.specs.declared.progress.Stepped.{Stepped}
-use Rattle.wc_run.specs.declared.progress.Stepped.TheVariants.{Stops, Makes}
-use Rattle.wc_run.specs.Laws.{arm_block, arm_list, else_list}
-use Rattle.wc_run.specs.Meaning.{its_tree, kept, judged, strays, chain_tree, end, ended}
-use Rattle.wc_run.specs.Run.{Around, Act, ◌>->◌, spend, taken, by_value, label, child, bound, next_label, with_call, take_calls, is_stop, stopped, make_calls, after, step_of, test, picked, turns, returned, exec, run_block, run, instrs}
-use Rattle.wc_run.specs.Statements.{statements}
-use Rattle.wc_run.specs.Tables.{Label}
-use Rattle.wc_run.proofs.Acts.{opened, exec_is, block_is, picked_lists}
-use Rattle.wc_run.proofs.Frugal.{Picks, picks}
-use Rattle.wc_run.proofs.Induction.{AllOf, OptionOf, Inside, every_list}
+use Rattle.wc_semantics.specs.declared.progress.Answer.{Answer}
+use Rattle.wc_semantics.specs.declared.progress.Answer.TheVariants.{Gave, TooLittle, Without, Astray}
+use Rattle.wc_semantics.specs.declared.progress.Flow.{Flow}
+use Rattle.wc_semantics.specs.declared.progress.Flow.TheVariants.{Goes, Ends, NoFuel, Lacks, Off}
+use Rattle.wc_semantics.specs.declared.progress.Planned.{Planned}
+use Rattle.wc_semantics.specs.declared.progress.Progress.{Progress}
+use Rattle.wc_semantics.specs.declared.progress.Replayed.{Replayed}
+use Rattle.wc_semantics.specs.declared.progress.Stepped.{Stepped}
+use Rattle.wc_semantics.specs.declared.progress.Stepped.TheVariants.{Stops, Makes}
+use Rattle.wc_semantics.specs.Laws.{arm_block, arm_list, else_list}
+use Rattle.wc_semantics.specs.Meaning.{its_tree, kept, judged, strays, chain_tree, end, ended}
+use Rattle.wc_semantics.specs.Run.{Around, Act, ◌>->◌, spend, taken, by_value, label, child, bound, next_label, with_call, take_calls, is_stop, stopped, make_calls, after, step_of, test, picked, turns, returned, exec, run_block, run, instrs}
+use Rattle.wc_semantics.specs.Statements.{statements}
+use Rattle.wc_semantics.specs.Tables.{Label}
+use Rattle.wc_semantics.proofs.Acts.{opened, exec_is, block_is, picked_lists}
+use Rattle.wc_semantics.proofs.Frugal.{Picks, picks}
+use Rattle.wc_semantics.proofs.Induction.{AllOf, OptionOf, Inside, every_list}
 use Rattle.wc_framing.specs.Instead.{Calls, flow_instead, GiveOneTree}
 use Rattle.wc_framing.specs.Laws.{RunsSeeNumbers, EqualTreesEndAlike}
 

@@ -13,9 +13,9 @@ use Rattle.wc_graph.specs.declared.link.LinkType.{LinkType}
 use Rattle.wc_graph.specs.declared.link.LinkType.TheVariants as link
 use Rattle.wc_graph.specs.declared.node.NodeKind.{NodeKind}
 use Rattle.wc_graph.specs.Rules.{IsCall, HasRightEnds, SharesCalled}
-use Rattle.wc_run.specs.Run.{label}
-use Rattle.wc_run.specs.Tables.{Label}
-use Rattle.wc_run.proofs.Labels.{labels_differ}
+use Rattle.wc_semantics.specs.Run.{label}
+use Rattle.wc_semantics.specs.Tables.{Label}
+use Rattle.wc_semantics.proofs.Labels.{labels_differ}
 use Rattle.wc_world.specs.World.{World}
 use Rattle.wc_world.specs.Records.{find_record, calls, is_call_from}
 use Rattle.wc_world.proofs.FoundRecords.{found_holds, left}

@@ -14,9 +14,9 @@ use Rattle.wc_graph.specs.declared.link.LinkType.{LinkType}
 use Rattle.wc_graph.specs.declared.link.LinkType.TheVariants as link
 use Rattle.wc_graph.specs.declared.node.NodeKind.{NodeKind}
 use Rattle.wc_calculation.specs.Rules.{Values}
-use Rattle.wc_run.specs.Meaning.{is_killed, meaning}
-use Rattle.wc_run.specs.Tables.{Label, Path, Table, Kills}
-use Rattle.wc_run.specs.declared.progress.Answer.{Answer}
+use Rattle.wc_semantics.specs.Meaning.{is_killed, meaning}
+use Rattle.wc_semantics.specs.Tables.{Label, Path, Table, Kills}
+use Rattle.wc_semantics.specs.declared.progress.Answer.{Answer}
 use Rattle.wc_state.specs.declared.record.ProcessRecord.{ProcessRecord}
 use Rattle.wc_world.specs.World.{World, Known}
 use Rattle.wc_world.specs.Consistent.{Stands}

@@ -1,12 +1,12 @@
 -- What a run comes to with other calls before it.
 use Rattle.std.specs.Prelude.{◌≡◌, ℕ, List, ◌++◌, drop}
-use Rattle.wc_run.specs.declared.progress.Answer.{Answer}
-use Rattle.wc_run.specs.declared.progress.Answer.TheVariants.{Gave, TooLittle, Without, Astray}
-use Rattle.wc_run.specs.declared.progress.Flow.{Flow}
-use Rattle.wc_run.specs.declared.progress.Flow.TheVariants.{Goes, Ends, NoFuel, Lacks, Off}
-use Rattle.wc_run.specs.declared.progress.Progress.{Progress}
-use Rattle.wc_run.specs.declared.progress.Replayed.{Replayed}
-use Rattle.wc_run.specs.Tables.{Label}
+use Rattle.wc_semantics.specs.declared.progress.Answer.{Answer}
+use Rattle.wc_semantics.specs.declared.progress.Answer.TheVariants.{Gave, TooLittle, Without, Astray}
+use Rattle.wc_semantics.specs.declared.progress.Flow.{Flow}
+use Rattle.wc_semantics.specs.declared.progress.Flow.TheVariants.{Goes, Ends, NoFuel, Lacks, Off}
+use Rattle.wc_semantics.specs.declared.progress.Progress.{Progress}
+use Rattle.wc_semantics.specs.declared.progress.Replayed.{Replayed}
+use Rattle.wc_semantics.specs.Tables.{Label}
 
 -- calls with what was asked for each
 abbrev pub Calls : Type 0

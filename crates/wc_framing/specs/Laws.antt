@@ -10,11 +10,11 @@ use Rattle.wc_graph.specs.declared.link.Link.{Link}
 use Rattle.wc_expression.specs.Val.{val}
 use Rattle.wc_calculation.specs.Rules.{Values}
 use Rattle.wc_calculation.specs.declared.outcomes.Parsed.{Parsed}
-use Rattle.wc_run.specs.declared.progress.Planned.{Planned}
-use Rattle.wc_run.specs.declared.progress.Progress.{Progress}
-use Rattle.wc_run.specs.Meaning.{ended, its_tree}
-use Rattle.wc_run.specs.Run.{Around, run, make_calls, ◌>->◌}
-use Rattle.wc_run.specs.Tables.{Path, Table, under}
+use Rattle.wc_semantics.specs.declared.progress.Planned.{Planned}
+use Rattle.wc_semantics.specs.declared.progress.Progress.{Progress}
+use Rattle.wc_semantics.specs.Meaning.{ended, its_tree}
+use Rattle.wc_semantics.specs.Run.{Around, run, make_calls, ◌>->◌}
+use Rattle.wc_semantics.specs.Tables.{Path, Table, under}
 use Rattle.wc_world.specs.declared.change.Change.{Change}
 use Rattle.wc_world.specs.World.{World}
 use Rattle.wc_world.specs.Accepted.{IsReached}

@@ -7,7 +7,7 @@ use Rattle.wc_syntax.specs.declared.definition.Definition.{Definition}
 use Rattle.wc_syntax.specs.declared.definition.Definition.TheVariants as definition
 use Rattle.wc_calculation.specs.Rules.{Values}
 use Rattle.wc_calculation.proofs.Bare.{request_bare}
-use Rattle.wc_run.proofs.Bare.{named_bare}
+use Rattle.wc_semantics.proofs.Bare.{named_bare}
 use Rattle.wc_machine.specs.Recorded.{request_by}
 
 request_by_bare : (o : Option Definition) (inputs : Values) → request_by (option_map bare_definition o) inputs ≡ request_by o inputs

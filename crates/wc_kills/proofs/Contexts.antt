@@ -12,8 +12,8 @@ use Rattle.wc_state.specs.declared.context.CtxRef.TheVariants as held
 use Rattle.wc_state.specs.declared.environment.Child.{Child}
 use Rattle.wc_state.specs.declared.environment.Item.{Item}
 use Rattle.wc_state.specs.declared.environment.Item.TheVariants as item
-use Rattle.wc_run.specs.Run as run
-use Rattle.wc_run.specs.Statements.{keyed}
+use Rattle.wc_semantics.specs.Run as run
+use Rattle.wc_semantics.specs.Statements.{keyed}
 use Rattle.wc_world.specs.World.{World}
 use Rattle.wc_world.specs.Trees.{child_at, children_at, and_child, item_of, and_item, items_of}
 use Rattle.wc_machine.specs.Calling as calling

@@ -11,14 +11,14 @@ use Rattle.wc_syntax.specs.declared.definition.Port.{Port}
 use Rattle.wc_graph.specs.declared.link.Link.{Link}
 use Rattle.wc_graph.specs.Rules.{IsCall}
 use Rattle.wc_calculation.specs.Rules.{Values}
-use Rattle.wc_run.specs.declared.progress.Answer.TheVariants.{Gave, Astray}
-use Rattle.wc_run.specs.declared.progress.Flow.{Flow}
-use Rattle.wc_run.specs.declared.progress.Flow.TheVariants.{Goes, Ends, NoFuel, Lacks, Off}
-use Rattle.wc_run.specs.declared.progress.Progress.{Progress}
-use Rattle.wc_run.specs.declared.progress.Replayed.{Replayed}
-use Rattle.wc_run.specs.Meaning.{by_kill, chain_tree, cut, end, ended, first, its_tree, judged, kept, killed_first, meaning, strays, surrounding, within}
-use Rattle.wc_run.specs.Run.{Around, instrs, run}
-use Rattle.wc_run.specs.Tables.{Label, Table, Kills, under}
+use Rattle.wc_semantics.specs.declared.progress.Answer.TheVariants.{Gave, Astray}
+use Rattle.wc_semantics.specs.declared.progress.Flow.{Flow}
+use Rattle.wc_semantics.specs.declared.progress.Flow.TheVariants.{Goes, Ends, NoFuel, Lacks, Off}
+use Rattle.wc_semantics.specs.declared.progress.Progress.{Progress}
+use Rattle.wc_semantics.specs.declared.progress.Replayed.{Replayed}
+use Rattle.wc_semantics.specs.Meaning.{by_kill, chain_tree, cut, end, ended, first, its_tree, judged, kept, killed_first, meaning, strays, surrounding, within}
+use Rattle.wc_semantics.specs.Run.{Around, instrs, run}
+use Rattle.wc_semantics.specs.Tables.{Label, Table, Kills, under}
 use Rattle.wc_state.specs.declared.record.ProcessRecord.{ProcessRecord}
 use Rattle.wc_world.specs.World.{World}
 use Rattle.wc_world.specs.Fits.{call_fits}

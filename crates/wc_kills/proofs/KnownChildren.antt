@@ -13,15 +13,15 @@ use Rattle.wc_graph.specs.declared.link.LinkType.{LinkType}
 use Rattle.wc_graph.specs.declared.link.LinkType.TheVariants as link
 use Rattle.wc_graph.specs.Rules.{IsCall}
 use Rattle.wc_calculation.specs.Rules.{unnumbered}
-use Rattle.wc_run.specs.declared.progress.Answer.TheVariants.{Gave}
-use Rattle.wc_run.specs.declared.progress.Planned.{Planned}
-use Rattle.wc_run.specs.declared.progress.Progress.{Progress}
-use Rattle.wc_run.specs.declared.progress.Replayed.{Replayed}
-use Rattle.wc_run.specs.Meaning.{around, its_tree, meaning}
-use Rattle.wc_run.specs.Run.{Call, label, next_label, with_call, child}
-use Rattle.wc_run.specs.Run as run
-use Rattle.wc_run.specs.Statements.{keyed}
-use Rattle.wc_run.specs.Tables.{Label, Path, Table, Kills, under}
+use Rattle.wc_semantics.specs.declared.progress.Answer.TheVariants.{Gave}
+use Rattle.wc_semantics.specs.declared.progress.Planned.{Planned}
+use Rattle.wc_semantics.specs.declared.progress.Progress.{Progress}
+use Rattle.wc_semantics.specs.declared.progress.Replayed.{Replayed}
+use Rattle.wc_semantics.specs.Meaning.{around, its_tree, meaning}
+use Rattle.wc_semantics.specs.Run.{Call, label, next_label, with_call, child}
+use Rattle.wc_semantics.specs.Run as run
+use Rattle.wc_semantics.specs.Statements.{keyed}
+use Rattle.wc_semantics.specs.Tables.{Label, Path, Table, Kills, under}
 use Rattle.wc_state.specs.Context.{Pairs, found_at, with_set}
 use Rattle.wc_state.specs.declared.environment.Child.{Child}
 use Rattle.wc_state.specs.declared.environment.Item.{Item}

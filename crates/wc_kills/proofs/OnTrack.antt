@@ -12,16 +12,16 @@ use Rattle.wc_syntax.specs.declared.definition.Definition.{Definition}
 use Rattle.wc_syntax.specs.declared.definition.Port.{Port}
 use Rattle.wc_syntax.specs.declared.outline.Instr.{Instr}
 use Rattle.wc_graph.specs.declared.link.Link.{Link}
-use Rattle.wc_run.specs.declared.progress.Answer.{Answer}
-use Rattle.wc_run.specs.declared.progress.Answer.TheVariants.{Gave, TooLittle, Without, Astray}
-use Rattle.wc_run.specs.declared.progress.Planned.{Planned}
-use Rattle.wc_run.specs.declared.progress.Progress.{Progress}
-use Rattle.wc_run.specs.declared.progress.Replayed.{Replayed}
-use Rattle.wc_run.specs.Meaning.{around, chain_tree, ended, is_killed, its_tree, within}
-use Rattle.wc_run.specs.Run.{Around, run}
-use Rattle.wc_run.specs.Tables.{Label, Path, Table, Kills, under}
-use Rattle.wc_run.proofs.Keeps.{meaning_more}
-use Rattle.wc_run.proofs.More.{MoreCall}
+use Rattle.wc_semantics.specs.declared.progress.Answer.{Answer}
+use Rattle.wc_semantics.specs.declared.progress.Answer.TheVariants.{Gave, TooLittle, Without, Astray}
+use Rattle.wc_semantics.specs.declared.progress.Planned.{Planned}
+use Rattle.wc_semantics.specs.declared.progress.Progress.{Progress}
+use Rattle.wc_semantics.specs.declared.progress.Replayed.{Replayed}
+use Rattle.wc_semantics.specs.Meaning.{around, chain_tree, ended, is_killed, its_tree, within}
+use Rattle.wc_semantics.specs.Run.{Around, run}
+use Rattle.wc_semantics.specs.Tables.{Label, Path, Table, Kills, under}
+use Rattle.wc_semantics.proofs.Keeps.{meaning_more}
+use Rattle.wc_semantics.proofs.More.{MoreCall}
 use Rattle.wc_state.specs.declared.environment.Env.{Env}
 use Rattle.wc_state.specs.declared.environment.Item.{Item}
 use Rattle.wc_state.specs.declared.record.Await.{Await}

@@ -10,11 +10,11 @@ use Rattle.wc_value.specs.declared.process.Tree.{Tree, out-Tree}
 use Rattle.wc_syntax.specs.Findings.{definition_named}
 use Rattle.wc_syntax.specs.declared.definition.Definition.{Definition}
 use Rattle.wc_graph.specs.declared.link.Link.{Link}
-use Rattle.wc_run.specs.declared.progress.Answer.{Answer}
-use Rattle.wc_run.specs.declared.progress.Answer.TheVariants.{Gave}
-use Rattle.wc_run.specs.declared.progress.Replayed.{Replayed}
-use Rattle.wc_run.specs.Meaning.{killed_first, meaning}
-use Rattle.wc_run.specs.Tables.{Path, Table}
+use Rattle.wc_semantics.specs.declared.progress.Answer.{Answer}
+use Rattle.wc_semantics.specs.declared.progress.Answer.TheVariants.{Gave}
+use Rattle.wc_semantics.specs.declared.progress.Replayed.{Replayed}
+use Rattle.wc_semantics.specs.Meaning.{killed_first, meaning}
+use Rattle.wc_semantics.specs.Tables.{Path, Table}
 use Rattle.wc_state.specs.declared.record.Await.{Await}
 use Rattle.wc_state.specs.declared.record.Checkpoint.{Checkpoint}
 use Rattle.wc_state.specs.declared.record.Part.{Part}

@@ -9,8 +9,8 @@ use Rattle.std.proofs.lemmas.Slice.Eq.{bytes_eq-Decides}
 use Rattle.wc_value.specs.declared.process.ProcessState.{ProcessState}
 use Rattle.wc_value.specs.declared.process.ProcessState.TheVariants as state
 use Rattle.wc_graph.specs.declared.link.Link.{Link}
-use Rattle.wc_run.specs.declared.progress.Answer.{Answer}
-use Rattle.wc_run.specs.Tables.{Label, Path, Table, Kills}
+use Rattle.wc_semantics.specs.declared.progress.Answer.{Answer}
+use Rattle.wc_semantics.specs.Tables.{Label, Path, Table, Kills}
 use Rattle.wc_state.specs.declared.context.CtxRef.{CtxRef}
 use Rattle.wc_state.specs.declared.context.CtxRef.TheVariants as held
 use Rattle.wc_state.specs.declared.environment.Item.TheVariants as item

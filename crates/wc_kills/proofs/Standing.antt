@@ -16,8 +16,8 @@ use Rattle.wc_graph.specs.declared.link.Link.{Link}
 use Rattle.wc_graph.specs.declared.node.NodeKind.{NodeKind}
 use Rattle.wc_graph.specs.declared.node.NodeKind.TheVariants as node
 use Rattle.wc_calculation.specs.Rules.{Values}
-use Rattle.wc_run.specs.Tables.{Label}
-use Rattle.wc_run.specs.declared.progress.Progress.{Progress}
+use Rattle.wc_semantics.specs.Tables.{Label}
+use Rattle.wc_semantics.specs.declared.progress.Progress.{Progress}
 use Rattle.wc_state.specs.declared.environment.Env.{Env}
 use Rattle.wc_state.specs.declared.environment.Item.{Item}
 use Rattle.wc_state.specs.declared.record.Await.{Await}

@@ -6,20 +6,20 @@ use Rattle.wc_value.specs.declared.process.ProcessState.TheVariants.{Killed}
 use Rattle.wc_syntax.specs.declared.definition.Port.{Port}
 use Rattle.wc_syntax.specs.declared.outline.Instr.{Instr}
 use Rattle.wc_calculation.specs.Rules.{Values}
-use Rattle.wc_run.specs.declared.progress.Answer.{Answer}
-use Rattle.wc_run.specs.declared.progress.Answer.TheVariants.{Gave, TooLittle, Without, Astray}
-use Rattle.wc_run.specs.declared.progress.Flow.{Flow}
-use Rattle.wc_run.specs.declared.progress.Flow.TheVariants.{Goes, Ends, NoFuel}
-use Rattle.wc_run.specs.declared.progress.Planned.{Planned}
-use Rattle.wc_run.specs.declared.progress.Progress.{Progress}
-use Rattle.wc_run.specs.declared.progress.Replayed.{Replayed}
-use Rattle.wc_run.specs.Tables.{Label}
-use Rattle.wc_run.specs.Laws.{MoreAnswer}
-use Rattle.wc_run.specs.Meaning.{within, chain_tree, ended}
-use Rattle.wc_run.specs.Run.{Call, Around, ◌>->◌, taken, next_label, with_call, take_calls, is_stop, stopped, make_calls, run}
-use Rattle.wc_run.proofs.Keeps.{ended_more}
-use Rattle.wc_run.proofs.Late.{late_gives_none}
-use Rattle.wc_run.proofs.More.{MoreCall, run_more}
+use Rattle.wc_semantics.specs.declared.progress.Answer.{Answer}
+use Rattle.wc_semantics.specs.declared.progress.Answer.TheVariants.{Gave, TooLittle, Without, Astray}
+use Rattle.wc_semantics.specs.declared.progress.Flow.{Flow}
+use Rattle.wc_semantics.specs.declared.progress.Flow.TheVariants.{Goes, Ends, NoFuel}
+use Rattle.wc_semantics.specs.declared.progress.Planned.{Planned}
+use Rattle.wc_semantics.specs.declared.progress.Progress.{Progress}
+use Rattle.wc_semantics.specs.declared.progress.Replayed.{Replayed}
+use Rattle.wc_semantics.specs.Tables.{Label}
+use Rattle.wc_semantics.specs.Laws.{MoreAnswer}
+use Rattle.wc_semantics.specs.Meaning.{within, chain_tree, ended}
+use Rattle.wc_semantics.specs.Run.{Call, Around, ◌>->◌, taken, next_label, with_call, take_calls, is_stop, stopped, make_calls, run}
+use Rattle.wc_semantics.proofs.Keeps.{ended_more}
+use Rattle.wc_semantics.proofs.Late.{late_gives_none}
+use Rattle.wc_semantics.proofs.More.{MoreCall, run_more}
 
 -- a planned call, with what it gives, and a fuel that suffices
 abbrev pub Taken : Type 0

@@ -4,8 +4,8 @@ use Rattle.wc_value.specs.Ascending.{lookup}
 use Rattle.wc_state.specs.Context.{Pairs, found_at, with_set}
 use Rattle.wc_state.specs.declared.environment.Child.{Child}
 use Rattle.wc_state.specs.declared.environment.Item.{Item}
-use Rattle.wc_run.specs.Run as run
-use Rattle.wc_run.specs.Statements.{keyed}
+use Rattle.wc_semantics.specs.Run as run
+use Rattle.wc_semantics.specs.Statements.{keyed}
 use Rattle.wc_world.specs.World.{World}
 use Rattle.wc_world.specs.Trees.{child_at, items_of}
 use Rattle.wc_machine.specs.Calling as calling

@@ -14,7 +14,7 @@ use Rattle.wc_graph.specs.declared.node.NodeKind.TheVariants as node
 use Rattle.wc_graph.specs.declared.link.Link.{Link}
 use Rattle.wc_graph.specs.Rules.{node_of, Leaves, Enters, HasRightEnds}
 use Rattle.wc_state.specs.declared.record.ProcessRecord.{ProcessRecord}
-use Rattle.wc_run.specs.Tables.{Label, Path}
+use Rattle.wc_semantics.specs.Tables.{Label, Path}
 use Rattle.wc_world.specs.World.{Known}
 use Rattle.wc_world.specs.Records.{find_record, has_ended, calls, is_call_from, is_input_of, is_output_of, library_at}
 use Rattle.wc_world.specs.Fits.{calls_from, has_output, counted_calls, is_settled}

@@ -11,12 +11,12 @@ use Rattle.wc_syntax.specs.declared.definition.Definition.TheVariants as definit
 use Rattle.wc_syntax.specs.declared.definition.Function.{Function}
 use Rattle.wc_calculation.specs.Rules.{Values}
 use Rattle.wc_calculation.specs.Outcomes.{calculated}
-use Rattle.wc_run.specs.declared.progress.Answer.{Answer}
-use Rattle.wc_run.specs.declared.progress.Answer.TheVariants.{Gave, Astray}
-use Rattle.wc_run.specs.declared.progress.Replayed.{Replayed}
-use Rattle.wc_run.specs.Tables.{Table, Kills, under}
-use Rattle.wc_run.specs.Run.{Around}
-use Rattle.wc_run.specs.Meaning.{leaf, killed_first, by_kill, surrounding, meaning}
+use Rattle.wc_semantics.specs.declared.progress.Answer.{Answer}
+use Rattle.wc_semantics.specs.declared.progress.Answer.TheVariants.{Gave, Astray}
+use Rattle.wc_semantics.specs.declared.progress.Replayed.{Replayed}
+use Rattle.wc_semantics.specs.Tables.{Table, Kills, under}
+use Rattle.wc_semantics.specs.Run.{Around}
+use Rattle.wc_semantics.specs.Meaning.{leaf, killed_first, by_kill, surrounding, meaning}
 use Rattle.wc_state.specs.declared.record.Part.TheVariants as part
 use Rattle.wc_state.specs.declared.record.ProcessRecord.{ProcessRecord}
 use Rattle.wc_world.specs.World.{World}

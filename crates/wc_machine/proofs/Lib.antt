@@ -22,5 +22,4 @@ pub mod Endings
 pub mod FunctionEnds
 pub mod FunctionFuel
 pub mod FunctionMeaning
-pub mod FunctionWorlds
 pub mod FittingAnswers

@@ -11,8 +11,8 @@ use Rattle.wc_graph.specs.declared.link.Link.{Link}
 use Rattle.wc_graph.specs.declared.node.NodeKind.{NodeKind}
 use Rattle.wc_graph.specs.Rules.{HasRightEnds}
 use Rattle.wc_calculation.specs.Rules.{Values}
-use Rattle.wc_run.specs.Meaning.{is_killed, meaning}
-use Rattle.wc_run.specs.Tables.{Path, Table, Kills}
+use Rattle.wc_semantics.specs.Meaning.{is_killed, meaning}
+use Rattle.wc_semantics.specs.Tables.{Path, Table, Kills}
 use Rattle.wc_state.specs.declared.record.ProcessKind.{ProcessKind}
 use Rattle.wc_state.specs.declared.record.ProcessRecord.{ProcessRecord}
 use Rattle.wc_world.specs.Applied.{made}

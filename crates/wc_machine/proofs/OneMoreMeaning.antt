@@ -5,8 +5,8 @@ use Rattle.std.specs.Str.{bytes_eq}
 use Rattle.std.proofs.lemmas.List.Elements.{All-weaker}
 use Rattle.wc_value.specs.declared.process.ProcessState.{ProcessState}
 use Rattle.wc_value.specs.declared.process.ProcessState.TheVariants as state
-use Rattle.wc_run.specs.Tables.{Label, Table, Kills}
-use Rattle.wc_run.specs.declared.progress.Answer.{Answer}
+use Rattle.wc_semantics.specs.Tables.{Label, Table, Kills}
+use Rattle.wc_semantics.specs.declared.progress.Answer.{Answer}
 use Rattle.wc_state.specs.declared.record.Part.{Part}
 use Rattle.wc_state.specs.declared.record.Part.TheVariants as part
 use Rattle.wc_state.specs.declared.record.ProcessKind.TheVariants as kind

@@ -10,7 +10,7 @@ use Rattle.wc_syntax.specs.Findings.{head_of}
 use Rattle.wc_syntax.specs.declared.definition.Definition.{Definition}
 use Rattle.wc_graph.specs.declared.link.Link.{Link}
 use Rattle.wc_meaning.specs.Inputs.{bad_input}
-use Rattle.wc_run.specs.Tables.{Label}
+use Rattle.wc_semantics.specs.Tables.{Label}
 use Rattle.wc_state.specs.declared.context.CtxRef.{CtxRef}
 use Rattle.wc_state.specs.declared.context.CtxRef.TheVariants as held
 use Rattle.wc_state.specs.declared.record.Part.{Part}

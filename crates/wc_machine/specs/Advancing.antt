@@ -15,9 +15,9 @@ use Rattle.wc_state.specs.declared.record.Frame.{Frame}
 use Rattle.wc_expression.specs.declared.outcome.Outcome.{Outcome}
 use Rattle.wc_expression.specs.declared.outcome.Outcome.TheVariants.{Gives, Faults}
 use Rattle.wc_expression.specs.Val.{holds}
-use Rattle.wc_run.specs.Meaning.{kinds_of, takes_of}
-use Rattle.wc_run.specs.Run.{picked, returned}
-use Rattle.wc_run.specs.Tables.{Label}
+use Rattle.wc_semantics.specs.Meaning.{kinds_of, takes_of}
+use Rattle.wc_semantics.specs.Run.{picked, returned}
+use Rattle.wc_semantics.specs.Tables.{Label}
 use Rattle.wc_machine.specs.Outlines.{Blocks, blocks, block_of, blocks_in}
 use Rattle.wc_machine.specs.Stepping.{Call, Stepped, stops, makes, statements}
 

@@ -1,5 +1,5 @@
 -- Laws of the machine: submissions, the turns of functions, answers.
-use Rattle.std.specs.Prelude.{◌≡◌, ◌↔◌, ◌⊎◌, ℕ, ◌+◌, ◌<◌, ◌≤◌, true, false, List, length, All, Some, None}
+use Rattle.std.specs.Prelude.{◌≡◌, ◌↔◌, ◌⊎◌, ℕ, ◌+◌, ◌<◌, ◌≤◌, true, List, length, All, Some, None}
 use Rattle.wc_value.specs.declared.process.JobResult.{JobResult}
 use Rattle.wc_value.specs.declared.process.ProcessState.TheVariants as state
 use Rattle.wc_syntax.specs.declared.definition.Definition.{Definition}
@@ -9,7 +9,6 @@ use Rattle.wc_calculation.specs.Outcomes.{calculated}
 use Rattle.wc_calculation.specs.Rules.{Values}
 use Rattle.wc_calculation.specs.declared.outcomes.Parsed.{Parsed}
 use Rattle.wc_state.specs.declared.record.JobPart.{JobPart}
-use Rattle.wc_state.specs.declared.record.ProcessKind.TheVariants as kind
 use Rattle.wc_state.specs.declared.record.ProcessRecord.{ProcessRecord}
 use Rattle.wc_state.specs.declared.record.Task.TheVariants as task
 use Rattle.wc_world.specs.declared.change.Change.{Change}
@@ -28,10 +27,6 @@ use Rattle.wc_machine.specs.Sound.{CallsAreKept, IsSound}
 use Rattle.wc_machine.specs.Submitting.{Submits, submitted_number}
 use Rattle.wc_machine.specs.Tasks.{Moved, after}
 use Rattle.wc_machine.specs.Turning.{TurnGives}
-
--- every process is a function without caching
-abbrev pub OnlyFunctions : World → Type 0
-OnlyFunctions w = All (λ r. (r.kind ≡ kind.Function) × (r.caching ≡ false)) w.records
 
 -- there is room for nodes up to this number, and for one batch more
 pub record HasPlaces (w : World) (last : ℕ) : Type 0 where

@@ -2,8 +2,8 @@
 use Rattle.std.specs.Prelude.{ℕ, ◌&&◌, if◌then◌else◌, List, [], ◌∷◌, Option, Some, None, option_and_then, filter}
 use Rattle.std.specs.Str.{bytes_eq}
 use Rattle.wc_graph.specs.declared.link.Link.{Link}
-use Rattle.wc_run.specs.Tables.{Label, Path, Kills}
-use Rattle.wc_run.specs.Meaning.{is_killed}
+use Rattle.wc_semantics.specs.Tables.{Label, Path, Kills}
+use Rattle.wc_semantics.specs.Meaning.{is_killed}
 use Rattle.wc_state.specs.declared.record.ProcessRecord.{ProcessRecord}
 use Rattle.wc_world.specs.World.{World}
 use Rattle.wc_world.specs.Records.{find_record, is_call_from}

@@ -9,14 +9,14 @@ use Rattle.wc_syntax.specs.declared.definition.Chain.{Chain}
 use Rattle.wc_syntax.specs.declared.definition.Definition.{Definition}
 use Rattle.wc_syntax.specs.declared.definition.Definition.TheVariants as definition
 use Rattle.wc_calculation.specs.Rules.{Values}
-use Rattle.wc_run.specs.declared.progress.Answer.{Answer}
-use Rattle.wc_run.specs.declared.progress.Answer.TheVariants.{Gave}
-use Rattle.wc_run.specs.declared.progress.Planned.{Planned}
-use Rattle.wc_run.specs.declared.progress.Progress.{Progress}
-use Rattle.wc_run.specs.declared.progress.Replayed.{Replayed}
-use Rattle.wc_run.specs.Tables.{Label, Path, Table, Kills}
-use Rattle.wc_run.specs.Run.{Around, run, make_calls, ◌>->◌}
-use Rattle.wc_run.specs.Meaning.{within, around, ended, meaning}
+use Rattle.wc_semantics.specs.declared.progress.Answer.{Answer}
+use Rattle.wc_semantics.specs.declared.progress.Answer.TheVariants.{Gave}
+use Rattle.wc_semantics.specs.declared.progress.Planned.{Planned}
+use Rattle.wc_semantics.specs.declared.progress.Progress.{Progress}
+use Rattle.wc_semantics.specs.declared.progress.Replayed.{Replayed}
+use Rattle.wc_semantics.specs.Tables.{Label, Path, Table, Kills}
+use Rattle.wc_semantics.specs.Run.{Around, run, make_calls, ◌>->◌}
+use Rattle.wc_semantics.specs.Meaning.{within, around, ended, meaning}
 use Rattle.wc_state.specs.declared.environment.Child.{Child}
 use Rattle.wc_state.specs.declared.environment.Env.{Env}
 use Rattle.wc_state.specs.declared.environment.Item.{Item}

@@ -14,8 +14,8 @@ use Rattle.wc_graph.specs.declared.link.Link.{Link}
 use Rattle.wc_graph.specs.declared.link.LinkType.{LinkType}
 use Rattle.wc_graph.specs.declared.link.LinkType.TheVariants as link
 use Rattle.wc_meaning.specs.Inputs.{bad_input}
-use Rattle.wc_run.specs.Tables.{Table}
-use Rattle.wc_run.specs.Run.{label}
+use Rattle.wc_semantics.specs.Tables.{Table}
+use Rattle.wc_semantics.specs.Run.{label}
 use Rattle.wc_state.specs.declared.context.CtxRef.{CtxRef}
 use Rattle.wc_state.specs.declared.context.CtxRef.TheVariants as held
 use Rattle.wc_state.specs.declared.record.Await.{Await}

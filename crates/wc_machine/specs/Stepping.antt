@@ -28,9 +28,9 @@ use Rattle.wc_expression.specs.Environment.{child, children}
 use Rattle.wc_expression.specs.Outcomes.{◌>>=◌, found}
 use Rattle.wc_expression.specs.Val.{val}
 use Rattle.wc_calculation.specs.Rules.{Values, fits_port, is_taken, status_of}
-use Rattle.wc_run.specs.Run.{label}
-use Rattle.wc_run.specs.Statements.{with_key}
-use Rattle.wc_run.specs.Tables.{Label}
+use Rattle.wc_semantics.specs.Run.{label}
+use Rattle.wc_semantics.specs.Statements.{with_key}
+use Rattle.wc_semantics.specs.Tables.{Label}
 
 -- what a call is given for a port: a node that is there, or a value that gets a node of its own
 pub data Argument : Type 0 where

@@ -1,7 +1,7 @@
 -- Replies with the tree alone.
 use Rattle.std.proofs.Common.{ap}
 use Rattle.std.specs.Prelude.{Option, Result, Ok, Err}
-use Rattle.wc_run.specs.declared.progress.Replayed.{Replayed}
+use Rattle.wc_semantics.specs.declared.progress.Replayed.{Replayed}
 use Rattle.wc_meaning.specs.declared.replies.DryError.{DryError}
 use Rattle.wc_meaning.specs.declared.replies.DryError.TheVariants.{OutOfMemory, NoAnswer, UnknownName, BadInputs}
 use Rattle.wc_meaning.specs.Replies.{Replies, DryReplies, tree_alone}

@@ -11,14 +11,14 @@ use Rattle.wc_syntax.specs.declared.outline.Stmt.{Stmt}
 use Rattle.wc_calculation.specs.Rules.{Values, kind_of_port}
 use Rattle.wc_calculation.specs.Requests.{request}
 use Rattle.wc_calculation.specs.Outcomes.{calculated, parsed}
-use Rattle.wc_run.specs.declared.progress.Answer.{Answer}
-use Rattle.wc_run.specs.declared.progress.Answer.TheVariants.{Gave}
-use Rattle.wc_run.specs.declared.progress.Progress.{Progress}
-use Rattle.wc_run.specs.Tables.{Label, Path, plain, kills_of, rows_under}
-use Rattle.wc_run.specs.Statements.{statements}
-use Rattle.wc_run.specs.Run.{Around, after, step_of}
-use Rattle.wc_run.specs.Meaning.{job, leaf, killed_first, by_kill, takes_of, meaning, around}
-use Rattle.wc_run.proofs.Rows.{kills_under}
+use Rattle.wc_semantics.specs.declared.progress.Answer.{Answer}
+use Rattle.wc_semantics.specs.declared.progress.Answer.TheVariants.{Gave}
+use Rattle.wc_semantics.specs.declared.progress.Progress.{Progress}
+use Rattle.wc_semantics.specs.Tables.{Label, Path, plain, kills_of, rows_under}
+use Rattle.wc_semantics.specs.Statements.{statements}
+use Rattle.wc_semantics.specs.Run.{Around, after, step_of}
+use Rattle.wc_semantics.specs.Meaning.{job, leaf, killed_first, by_kill, takes_of, meaning, around}
+use Rattle.wc_semantics.proofs.Rows.{kills_under}
 use Rattle.wc_meaning.specs.declared.statements.Setting.{Setting}
 use Rattle.wc_meaning.specs.Settings.{around_in}
 use Rattle.wc_meaning.proofs.Turns.{meaning_at, deep_at, takes_at, call_at}

@@ -10,8 +10,8 @@ use Rattle.wc_syntax.specs.declared.definition.Definition.{Definition}
 use Rattle.wc_syntax.specs.declared.definition.Port.{Port}
 use Rattle.wc_calculation.specs.Rules.{Values, fits_port}
 use Rattle.wc_calculation.proofs.Bare.{kind_bare}
-use Rattle.wc_run.specs.Tables.{Path, plain, kills_of}
-use Rattle.wc_run.proofs.Bare.{inputs_bare, named_bare, meaning_bare}
+use Rattle.wc_semantics.specs.Tables.{Path, plain, kills_of}
+use Rattle.wc_semantics.proofs.Bare.{inputs_bare, named_bare, meaning_bare}
 use Rattle.wc_meaning.specs.Inputs.{least, wrong_inputs, missing_inputs, bad_input}
 use Rattle.wc_meaning.specs.Replies.{reply, reply_of}
 

@@ -8,7 +8,7 @@ use Rattle.wc_syntax.specs.declared.definition.Definition.{Definition}
 use Rattle.wc_syntax.specs.declared.definition.Definition.TheVariants as definition
 use Rattle.wc_calculation.specs.Rules.{Values}
 use Rattle.wc_calculation.proofs.Bare.{calculated_bare, parsed_bare}
-use Rattle.wc_run.proofs.Bare.{named_bare}
+use Rattle.wc_semantics.proofs.Bare.{named_bare}
 use Rattle.wc_meaning.specs.Ran.{ran}
 
 ran_bare : (o : Option Definition) (inputs : Values) (r : Option JobResult) → ran (option_map bare_definition o) inputs r ≡ ran o inputs r

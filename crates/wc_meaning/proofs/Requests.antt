@@ -6,7 +6,7 @@ use Rattle.std.proofs.lemmas.List.{at_drop_more}
 use Rattle.std.proofs.lemmas.Slice.Eq.{bytes_eq-Decides}
 use Rattle.wc_value.specs.declared.process.JobResult.{JobResult}
 use Rattle.wc_value.specs.declared.process.Request.{Request}
-use Rattle.wc_run.specs.Tables.{texts_eq, files_eq, request_eq, row_of}
+use Rattle.wc_semantics.specs.Tables.{texts_eq, files_eq, request_eq, row_of}
 
 left : (a b : Bool) → a && b ≡ true → a ≡ true
 left true b h = refl

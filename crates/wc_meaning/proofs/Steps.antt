@@ -17,9 +17,9 @@ use Rattle.wc_expression.specs.declared.outcome.Outcome.{Outcome}
 use Rattle.wc_expression.specs.declared.outcome.Outcome.TheVariants.{Gives}
 use Rattle.wc_expression.specs.Val.{val}
 use Rattle.wc_calculation.specs.Rules.{Values, is_taken, status_of}
-use Rattle.wc_run.specs.declared.progress.Planned.{Planned}
-use Rattle.wc_run.specs.declared.progress.Stepped.{Stepped}
-use Rattle.wc_run.specs.Statements.{with_key, output, or_stops, exits, collected, statements}
+use Rattle.wc_semantics.specs.declared.progress.Planned.{Planned}
+use Rattle.wc_semantics.specs.declared.progress.Stepped.{Stepped}
+use Rattle.wc_semantics.specs.Statements.{with_key, output, or_stops, exits, collected, statements}
 
 module _ (deep : Bool) (takes : List ℕ → Values → Bool) (kinds : List ℕ → Option Kind) where
   abbrev pub come_to : List Stmt → List Planned → Env → Values → Stepped

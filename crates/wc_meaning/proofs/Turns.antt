@@ -13,12 +13,12 @@ use Rattle.wc_expression.specs.declared.outcome.Outcome.{Outcome}
 use Rattle.wc_expression.specs.declared.outcome.Outcome.TheVariants.{Gives}
 use Rattle.wc_expression.specs.Val.{holds}
 use Rattle.wc_calculation.specs.Rules.{Values}
-use Rattle.wc_run.specs.declared.progress.Flow.{Flow}
-use Rattle.wc_run.specs.declared.progress.Flow.TheVariants.{Goes, NoFuel}
-use Rattle.wc_run.specs.declared.progress.Progress.{Progress}
-use Rattle.wc_run.specs.Tables.{Label, Table, Kills, under}
-use Rattle.wc_run.specs.Run.{Act, Around, ◌>->◌, spend, test, turns}
-use Rattle.wc_run.specs.Meaning.{by_kill, meaning, around}
+use Rattle.wc_semantics.specs.declared.progress.Flow.{Flow}
+use Rattle.wc_semantics.specs.declared.progress.Flow.TheVariants.{Goes, NoFuel}
+use Rattle.wc_semantics.specs.declared.progress.Progress.{Progress}
+use Rattle.wc_semantics.specs.Tables.{Label, Table, Kills, under}
+use Rattle.wc_semantics.specs.Run.{Act, Around, ◌>->◌, spend, test, turns}
+use Rattle.wc_semantics.specs.Meaning.{by_kill, meaning, around}
 use Rattle.wc_meaning.specs.Settings.{width, widest}
 
 -- a turn, with as many before it as its place says

@@ -5,7 +5,7 @@ use Rattle.wc_value.specs.Ascending.{before, lookup}
 use Rattle.wc_value.specs.declared.value.Value.{Value}
 use Rattle.wc_syntax.specs.Findings.{is_among}
 use Rattle.wc_syntax.specs.declared.definition.Port.{Port}
-use Rattle.wc_run.specs.Meaning.{is_good}
+use Rattle.wc_semantics.specs.Meaning.{is_good}
 
 -- the lesser of the least so far and a name, by their bytes
 abbrev pub lesser : Option (List ℕ) → List ℕ → Option (List ℕ)

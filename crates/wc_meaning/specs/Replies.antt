@@ -6,11 +6,11 @@ use Rattle.wc_value.specs.declared.process.Tree.{Tree}
 use Rattle.wc_syntax.specs.Findings.{head_of, definition_named}
 use Rattle.wc_syntax.specs.declared.definition.Definition.{Definition}
 use Rattle.wc_calculation.specs.Rules.{Values}
-use Rattle.wc_run.specs.declared.progress.Answer.{Answer}
-use Rattle.wc_run.specs.declared.progress.Answer.TheVariants.{Gave, TooLittle, Without, Astray}
-use Rattle.wc_run.specs.declared.progress.Replayed.{Replayed}
-use Rattle.wc_run.specs.Tables.{Path, plain, kills_of}
-use Rattle.wc_run.specs.Meaning.{meaning}
+use Rattle.wc_semantics.specs.declared.progress.Answer.{Answer}
+use Rattle.wc_semantics.specs.declared.progress.Answer.TheVariants.{Gave, TooLittle, Without, Astray}
+use Rattle.wc_semantics.specs.declared.progress.Replayed.{Replayed}
+use Rattle.wc_semantics.specs.Tables.{Path, plain, kills_of}
+use Rattle.wc_semantics.specs.Meaning.{meaning}
 use Rattle.wc_meaning.specs.declared.replies.DryError.{DryError}
 use Rattle.wc_meaning.specs.declared.replies.DryError.TheVariants.{OutOfMemory, NoAnswer, UnknownName, BadInputs}
 use Rattle.wc_meaning.specs.Inputs.{bad_input}

@@ -3,9 +3,9 @@ use Rattle.std.specs.Prelude.{ℕ, ◌+◌, ◌*◌, max, List, [], ◌∷◌, O
 use Rattle.wc_syntax.specs.declared.definition.Definition.{Definition}
 use Rattle.wc_syntax.specs.declared.definition.Definition.TheVariants as definition
 use Rattle.wc_syntax.specs.declared.outline.Block.{Block, size-Block}
-use Rattle.wc_run.specs.Tables.{plain, kills_of}
-use Rattle.wc_run.specs.Run.{Around}
-use Rattle.wc_run.specs.Meaning.{within, around}
+use Rattle.wc_semantics.specs.Tables.{plain, kills_of}
+use Rattle.wc_semantics.specs.Run.{Around}
+use Rattle.wc_semantics.specs.Meaning.{within, around}
 use Rattle.wc_meaning.specs.declared.statements.Setting.{Setting}
 
 -- what surrounds the run of the chain that has this setting

@@ -3,7 +3,7 @@
 ghost use Rattle.std.specs.Prelude.{◌≡◌, ℕ, List, [], Some, None};
 ghost use Rattle.std.specs.List.{list_all};
 ghost use Rattle.std.specs.Option.{option_copied};
-ghost use Rattle.wc_run.specs.Meaning.{is_good};
+ghost use Rattle.wc_semantics.specs.Meaning.{is_good};
 ghost use Rattle.wc_meaning.specs.Inputs.{lesser, least, IsLeast, least_after, wrong_inputs, missing_inputs, bad_input};
 
 use wc_calculation::port_kind;

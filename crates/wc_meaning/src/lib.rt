@@ -1,7 +1,7 @@
 //! What definitions do: the meaning of a definition as a program.
 //!
 //! `dry` gives the tree that a definition has for its inputs under a table of results. `replay` gives the same at a depth and
-//! with kills, and which results were taken. Both are held to `meaning`, of wc_run.
+//! with kills, and which results were taken. Both are held to `meaning`, of wc_semantics.
 #![tactic(auto)]
 
 mod calculations;

@@ -9,7 +9,7 @@ use crate::inputs::find_bad_input;
 use crate::run::mean;
 use std::alloc::{AllocError, AllocFailed, Global};
 use thiserror::Error;
-use wc_run::{Answer, Kills, Replayed};
+use wc_semantics::{Answer, Kills, Replayed};
 use wc_syntax::{Checked, Library};
 use wc_value::{Duplicate, Fields, Request, Table, Text, Tree};
 

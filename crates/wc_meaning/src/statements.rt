@@ -1,8 +1,8 @@
 //! The statements of a step.
 
 ghost use Rattle.std.specs.Prelude.{◌≡◌, ◌==◌, [], IfOk};
-ghost use Rattle.wc_run.specs.Meaning.{takes_of};
-ghost use Rattle.wc_run.specs.Statements.{names_data, output, argument, arguments, collected, statements, exits, with_key};
+ghost use Rattle.wc_semantics.specs.Meaning.{takes_of};
+ghost use Rattle.wc_semantics.specs.Statements.{names_data, output, argument, arguments, collected, statements, exits, with_key};
 ghost use Rattle.wc_calculation.specs.Rules.{kind_of_port};
 
 use crate::functions::{find_definition, head};
@@ -10,7 +10,7 @@ use crate::inputs::are_good;
 use std::alloc::{AllocError, Global};
 use wc_calculation::{exit_status, fits, takes};
 use wc_expression::{Outcome, eval, eval_form};
-use wc_run::{Kills, Plan, Planned, Stepped, set_key};
+use wc_semantics::{Kills, Plan, Planned, Stepped, set_key};
 use wc_state::{Env, Item};
 use wc_syntax::{CallArgs, CallStmt, ChildPart, Expr, Form, Library, Name, PortList, Stmt, Stmts};
 use wc_value::{Duplicate, Fields, ProcessState, Reason, Table, Text, Value};

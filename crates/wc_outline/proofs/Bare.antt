@@ -40,10 +40,10 @@ use Rattle.wc_expression.specs.Val.{Meant, holds}
 use Rattle.wc_expression.proofs.Bare.{val_bare}
 use Rattle.wc_calculation.specs.Rules.{Values, fits_port, status_of}
 use Rattle.wc_calculation.proofs.Bare.{kind_bare, taken_bare}
-use Rattle.wc_run.specs.Laws.{arm_block, condition}
-use Rattle.wc_run.specs.Meaning.{kinds_of, is_good, takes_inputs, takes_of}
-use Rattle.wc_run.specs.Run.{picked, returned}
-use Rattle.wc_run.proofs.Bare.{inputs_bare, named_bare}
+use Rattle.wc_semantics.specs.Laws.{arm_block, condition}
+use Rattle.wc_semantics.specs.Meaning.{kinds_of, is_good, takes_inputs, takes_of}
+use Rattle.wc_semantics.specs.Run.{picked, returned}
+use Rattle.wc_semantics.proofs.Bare.{inputs_bare, named_bare}
 use Rattle.wc_machine.specs.Advancing.{Advanced, ends, past, at_head, first_block, numbered_arms, after_arms, other_number, chosen, turned, after_step, done, does, at_innermost, advance, popped}
 use Rattle.wc_machine.specs.Outlines.{Blocks, blocks, block_of}
 use Rattle.wc_machine.specs.Stepping.{Argument, values_in, output_node, node_in, named_node, or_wrong, fitting_node, output, or_plain, arguments, Noted, or_stops, exits, with_plain, with_output, with_call, planned, collected, statements}

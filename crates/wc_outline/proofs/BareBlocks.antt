@@ -8,9 +8,9 @@ use Rattle.wc_syntax.specs.declared.outline.Block.{Block, fold_out-Block, out-ro
 use Rattle.wc_syntax.specs.declared.outline.Instr.{Instr, out-Instr, map-Instr, fold_out-Instr, out-roll-Instr}
 use Rattle.wc_syntax.specs.declared.outline.Instr.TheOpen.{Instr-F, Arm-F, Block-F}
 use Rattle.wc_state.specs.declared.record.Frame.{Frame}
-use Rattle.wc_run.specs.Laws.{arm_block, condition}
-use Rattle.wc_run.specs.Run.{instrs}
-use Rattle.wc_run.proofs.Induction.{AllOf, Inside, every_block, every_instr}
+use Rattle.wc_semantics.specs.Laws.{arm_block, condition}
+use Rattle.wc_semantics.specs.Run.{instrs}
+use Rattle.wc_semantics.proofs.Induction.{AllOf, Inside, every_block, every_instr}
 use Rattle.wc_machine.specs.Advancing.{is_done, popped, block_count, first_block}
 use Rattle.wc_machine.specs.Outlines.{Blocks, blocks, blocks_in, block_of}
 use Rattle.wc_outline_laws.proofs.Numbering.{arm_blocks, opened_blocks, blocks_in_are, listed, blocks_are}

@@ -15,7 +15,7 @@ use Rattle.wc_expression.specs.declared.outcome.Outcome.{Outcome}
 use Rattle.wc_expression.specs.declared.outcome.Outcome.TheVariants.{Gives, Faults}
 use Rattle.wc_expression.specs.Outcomes.{◌>>=◌, mapped}
 use Rattle.wc_expression.specs.Val.{val}
-use Rattle.wc_run.specs.Meaning.{is_good, takes_inputs, takes_of}
+use Rattle.wc_semantics.specs.Meaning.{is_good, takes_inputs, takes_of}
 use Rattle.wc_machine.specs.Stepping as stepping
 use Rattle.wc_machine.specs.Stepping.{value_of, values_in, named_node, or_plain, arguments}
 use Rattle.wc_outline.specs.declared.arguments.Gathered.{Gathered}

@@ -7,7 +7,7 @@ use Rattle.wc_syntax.specs.declared.definition.Definition.{Definition}
 use Rattle.wc_state.specs.declared.environment.Env.{Env}
 use Rattle.wc_state.specs.declared.environment.NodeValue.{NodeValue}
 use Rattle.wc_state.specs.declared.record.Checkpoint.{Checkpoint}
-use Rattle.wc_run.specs.Meaning.{ended}
+use Rattle.wc_semantics.specs.Meaning.{ended}
 use Rattle.wc_machine.specs.Advancing.{Advanced, goes, loops, submits, ends, advance}
 use Rattle.wc_machine.specs.Stepping.{Argument, node, plain, Call}
 use Rattle.wc_outline_laws.specs.Laws.{remains}

@@ -17,8 +17,8 @@ use Rattle.wc_state.specs.declared.environment.Env.{Env}
 use Rattle.wc_state.specs.declared.record.Checkpoint.{Checkpoint}
 use Rattle.wc_state.specs.declared.record.Frame.{Frame}
 use Rattle.wc_expression.specs.Val.{holds}
-use Rattle.wc_run.specs.Meaning.{kinds_of, takes_of}
-use Rattle.wc_run.specs.Run.{picked, returned}
+use Rattle.wc_semantics.specs.Meaning.{kinds_of, takes_of}
+use Rattle.wc_semantics.specs.Run.{picked, returned}
 use Rattle.wc_machine.specs.Advancing.{ends, past, at_head, numbered_arms, after_arms, other_number, chosen, turned, done, does, at_innermost}
 use Rattle.wc_machine.specs.Outlines.{Blocks, block_of}
 use Rattle.wc_machine.specs.Stepping.{statements}

@@ -16,7 +16,7 @@ use Rattle.wc_expression.specs.declared.outcome.Outcome.TheVariants.{Gives, Faul
 use Rattle.wc_expression.specs.Outcomes.{◌>>=◌, mapped}
 use Rattle.wc_expression.specs.Val.{val}
 use Rattle.wc_calculation.specs.Rules.{is_taken, status_of}
-use Rattle.wc_run.specs.Meaning.{kinds_of, takes_of}
+use Rattle.wc_semantics.specs.Meaning.{kinds_of, takes_of}
 use Rattle.wc_machine.specs.Advancing.{after_step}
 use Rattle.wc_machine.specs.Stepping as machine
 use Rattle.wc_machine.specs.Stepping.{values_in, arguments, output, exits, collected}

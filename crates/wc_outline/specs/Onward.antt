@@ -4,9 +4,9 @@ use Rattle.wc_syntax.specs.declared.definition.Chain.{Chain}
 use Rattle.wc_syntax.specs.declared.definition.Definition.{Definition}
 use Rattle.wc_state.specs.declared.environment.Env.{Env}
 use Rattle.wc_state.specs.declared.record.Checkpoint.{Checkpoint}
-use Rattle.wc_run.specs.Meaning.{ended, around, within}
-use Rattle.wc_run.specs.Run.{Around}
-use Rattle.wc_run.specs.Tables.{Table, Kills}
+use Rattle.wc_semantics.specs.Meaning.{ended, around, within}
+use Rattle.wc_semantics.specs.Run.{Around}
+use Rattle.wc_semantics.specs.Tables.{Table, Kills}
 use Rattle.wc_world.specs.Trees.{NamedValues}
 use Rattle.wc_machine.specs.Advancing as machine
 use Rattle.wc_machine.specs.Stepping as stepping

@@ -19,10 +19,10 @@ use Rattle.wc_expression.specs.declared.outcome.Outcome.TheVariants.{Gives, Faul
 use Rattle.wc_expression.specs.Outcomes.{mapped}
 use Rattle.wc_expression.specs.Val.{val}
 use Rattle.wc_calculation.specs.Rules.{is_taken, status_of}
-use Rattle.wc_run.specs.Meaning.{kinds_of, takes_of}
-use Rattle.wc_run.specs.Run.{label}
-use Rattle.wc_run.specs.Statements.{with_key}
-use Rattle.wc_run.specs.Tables.{Label}
+use Rattle.wc_semantics.specs.Meaning.{kinds_of, takes_of}
+use Rattle.wc_semantics.specs.Run.{label}
+use Rattle.wc_semantics.specs.Statements.{with_key}
+use Rattle.wc_semantics.specs.Tables.{Label}
 use Rattle.wc_machine.specs.Stepping.{output}
 use Rattle.wc_outline.specs.declared.calls.Advanced.{Advanced}
 use Rattle.wc_outline.specs.declared.calls.Advanced.TheVariants as advanced

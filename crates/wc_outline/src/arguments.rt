@@ -5,7 +5,7 @@ ghost use Rattle.std.specs.Option.{option_copied};
 ghost use Rattle.std.specs.List.{list_all};
 ghost use Rattle.wc_value.specs.Ascending.{put};
 ghost use Rattle.wc_syntax.specs.declared.outline.CallArg.{CallArg};
-ghost use Rattle.wc_run.specs.Meaning.{takes_of};
+ghost use Rattle.wc_semantics.specs.Meaning.{takes_of};
 ghost use Rattle.wc_outline.specs.Arguments.{takes_at, added, unless, arguments_from, judged, taken_arguments};
 
 use crate::calls::{Args, Argument};

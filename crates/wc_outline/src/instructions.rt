@@ -3,7 +3,7 @@
 ghost use Rattle.std.specs.Prelude.{◌≡◌, ◌+◌, ◌^◌, ◌<◌, ◌∷◌, length, reverse, suc, IfOk};
 ghost use Rattle.wc_syntax.specs.declared.outline.Instr.{out-Instr};
 ghost use Rattle.wc_expression.specs.Val.{holds};
-ghost use Rattle.wc_run.specs.Run.{returned};
+ghost use Rattle.wc_semantics.specs.Run.{returned};
 ghost use Rattle.wc_machine.specs.Advancing.{past, at_head, chosen, turned, done};
 ghost use Rattle.wc_machine.specs.Outlines.{Blocks, blocks_in};
 ghost use Rattle.wc_outline.specs.Places.{first_number, front_of, picked_from, if_blocks, Fit};

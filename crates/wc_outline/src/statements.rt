@@ -11,7 +11,7 @@ use std::alloc::{AllocError, Global};
 use std::mem;
 use wc_calculation::{exit_status, takes};
 use wc_expression::{Outcome, eval};
-use wc_run::{label_of, set_key};
+use wc_semantics::{label_of, set_key};
 use wc_state::{Checkpoint, Context, CtxRef, Env, Item, Items, Outs};
 use wc_syntax::{CallStmt, Chain, Library, Name, Stmt, Stmts};
 use wc_value::{Duplicate, ProcessState, Reason, Value};

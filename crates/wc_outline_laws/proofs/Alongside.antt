@@ -24,12 +24,12 @@ use Rattle.wc_expression.specs.declared.outcome.Outcome.TheVariants.{Gives, Faul
 use Rattle.wc_expression.specs.Outcomes.{◌>>=◌, mapped}
 use Rattle.wc_expression.specs.Val.{val}
 use Rattle.wc_calculation.specs.Rules.{Values, is_taken, status_of}
-use Rattle.wc_run.specs.declared.progress.Planned.{Planned}
-use Rattle.wc_run.specs.declared.progress.Stepped.{Stepped}
-use Rattle.wc_run.specs.declared.progress.Stepped.TheVariants.{Stops, Makes}
-use Rattle.wc_run.specs.Statements as run
-use Rattle.wc_run.specs.Statements.{names_data, keyed, with_key}
-use Rattle.wc_run.specs.Tables.{Label}
+use Rattle.wc_semantics.specs.declared.progress.Planned.{Planned}
+use Rattle.wc_semantics.specs.declared.progress.Stepped.{Stepped}
+use Rattle.wc_semantics.specs.declared.progress.Stepped.TheVariants.{Stops, Makes}
+use Rattle.wc_semantics.specs.Statements as run
+use Rattle.wc_semantics.specs.Statements.{names_data, keyed, with_key}
+use Rattle.wc_semantics.specs.Tables.{Label}
 use Rattle.wc_world.specs.Trees.{NamedValues}
 use Rattle.wc_machine.specs.Resting.{item_alone, env_alone}
 use Rattle.wc_machine.specs.Stepping.{Argument, value_of, values_in, named_node, or_plain, output, arguments, Noted, stops, makes, or_stops, exits, with_plain, with_output, with_call, planned, collected, statements, Call}

@@ -19,19 +19,19 @@ use Rattle.wc_expression.specs.declared.outcome.Outcome.TheVariants.{Gives, Faul
 use Rattle.wc_expression.specs.Outcomes.{mapped}
 use Rattle.wc_expression.specs.Val.{holds}
 use Rattle.wc_calculation.specs.Rules.{Values}
-use Rattle.wc_run.specs.declared.progress.Answer.{Answer}
-use Rattle.wc_run.specs.declared.progress.Flow.{Flow}
-use Rattle.wc_run.specs.declared.progress.Flow.TheVariants.{Ends}
-use Rattle.wc_run.specs.declared.progress.Progress.{Progress}
-use Rattle.wc_run.specs.declared.progress.Stepped.{Stepped}
-use Rattle.wc_run.specs.Laws.{FrugalCall, arm_list, else_list}
-use Rattle.wc_run.specs.Meaning.{ended, around, within, surrounding, calls_of, takes_of, kinds_of}
-use Rattle.wc_run.specs.Run.{Around, Call, ◌>->◌, spend, by_value, test, picked, returned, make_calls, after, step_of, run, instrs}
-use Rattle.wc_run.specs.Tables.{Table, Kills}
-use Rattle.wc_run.proofs.Acts.{exec_is, opened}
-use Rattle.wc_run.proofs.Clauses.{run_opened, branch_is, turn_is}
-use Rattle.wc_run.proofs.Leaves.{around_frugal}
-use Rattle.wc_run.specs.Statements as plain
+use Rattle.wc_semantics.specs.declared.progress.Answer.{Answer}
+use Rattle.wc_semantics.specs.declared.progress.Flow.{Flow}
+use Rattle.wc_semantics.specs.declared.progress.Flow.TheVariants.{Ends}
+use Rattle.wc_semantics.specs.declared.progress.Progress.{Progress}
+use Rattle.wc_semantics.specs.declared.progress.Stepped.{Stepped}
+use Rattle.wc_semantics.specs.Laws.{FrugalCall, arm_list, else_list}
+use Rattle.wc_semantics.specs.Meaning.{ended, around, within, surrounding, calls_of, takes_of, kinds_of}
+use Rattle.wc_semantics.specs.Run.{Around, Call, ◌>->◌, spend, by_value, test, picked, returned, make_calls, after, step_of, run, instrs}
+use Rattle.wc_semantics.specs.Tables.{Table, Kills}
+use Rattle.wc_semantics.proofs.Acts.{exec_is, opened}
+use Rattle.wc_semantics.proofs.Clauses.{run_opened, branch_is, turn_is}
+use Rattle.wc_semantics.proofs.Leaves.{around_frugal}
+use Rattle.wc_semantics.specs.Statements as plain
 use Rattle.wc_world.specs.Trees.{NamedValues}
 use Rattle.wc_machine.specs.Advancing.{Advanced, block_count, goes, popped, past, at_head, first_block, numbered_arms, after_arms, other_number, entered, at_frames, chosen, turned, after_step, done, does, at_innermost, advance}
 use Rattle.wc_machine.specs.Outlines.{Blocks, blocks, block_of, blocks_in, left_in}

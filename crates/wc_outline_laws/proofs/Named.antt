@@ -30,8 +30,8 @@ use Rattle.wc_expression.specs.Environment.{child, child_of, children, children_
 use Rattle.wc_expression.specs.Outcomes.{◌>>=◌, mapped, found}
 use Rattle.wc_expression.specs.Val.{Meant, form, limited, val, val_form, holds}
 use Rattle.wc_calculation.specs.Rules.{fits_port, fitting}
-use Rattle.wc_run.specs.Run.{picked}
-use Rattle.wc_run.specs.Statements.{names_data, datum, argument, output as run_output}
+use Rattle.wc_semantics.specs.Run.{picked}
+use Rattle.wc_semantics.specs.Statements.{names_data, datum, argument, output as run_output}
 use Rattle.wc_world.specs.Trees.{NamedValues}
 use Rattle.wc_machine.specs.Resting.{env_alone}
 use Rattle.wc_machine.specs.Stepping.{node, plain, value_of, node_in, named_node, or_wrong, or_plain, output_node, fitting_node, output}

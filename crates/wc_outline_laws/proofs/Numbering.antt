@@ -6,9 +6,9 @@ use Rattle.wc_syntax.specs.declared.outline.Arm.{Arm, out-Arm, roll-Arm, fold-Ar
 use Rattle.wc_syntax.specs.declared.outline.Block.{Block, roll-Block, out-Block, map-Block, fold-Block, fold_out-Block, roll-out-Block}
 use Rattle.wc_syntax.specs.declared.outline.Instr.{Instr, roll-Instr, out-Instr, map-Instr, fold-Instr, fold_out-Instr, roll-out-Instr}
 use Rattle.wc_syntax.specs.declared.outline.Instr.TheOpen.{Instr-F}
-use Rattle.wc_run.specs.Laws.{arm_block}
-use Rattle.wc_run.specs.Run.{instrs}
-use Rattle.wc_run.proofs.Induction.{AllOf, OptionOf, Inside, every_block}
+use Rattle.wc_semantics.specs.Laws.{arm_block}
+use Rattle.wc_semantics.specs.Run.{instrs}
+use Rattle.wc_semantics.proofs.Induction.{AllOf, OptionOf, Inside, every_block}
 use Rattle.wc_machine.specs.Advancing.{block_count}
 use Rattle.wc_machine.specs.Outlines.{Blocks, InstrIn, ArmIn, BlockIn, instr_in, arm_in, block_in, blocks_in, blocks}
 

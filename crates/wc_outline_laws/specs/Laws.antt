@@ -5,12 +5,12 @@ use Rattle.wc_syntax.specs.declared.definition.Chain.{Chain}
 use Rattle.wc_syntax.specs.declared.definition.Definition.{Definition}
 use Rattle.wc_state.specs.declared.environment.Env.{Env}
 use Rattle.wc_state.specs.declared.record.Checkpoint.{Checkpoint}
-use Rattle.wc_run.specs.declared.progress.Flow.{Flow}
-use Rattle.wc_run.specs.declared.progress.Flow.TheVariants.{Ends}
-use Rattle.wc_run.specs.declared.progress.Planned.{Planned}
-use Rattle.wc_run.specs.Meaning.{ended, around, within}
-use Rattle.wc_run.specs.Run.{Around, ◌>->◌, spend, run, make_calls, label}
-use Rattle.wc_run.specs.Tables.{Table, Kills}
+use Rattle.wc_semantics.specs.declared.progress.Flow.{Flow}
+use Rattle.wc_semantics.specs.declared.progress.Flow.TheVariants.{Ends}
+use Rattle.wc_semantics.specs.declared.progress.Planned.{Planned}
+use Rattle.wc_semantics.specs.Meaning.{ended, around, within}
+use Rattle.wc_semantics.specs.Run.{Around, ◌>->◌, spend, run, make_calls, label}
+use Rattle.wc_semantics.specs.Tables.{Table, Kills}
 use Rattle.wc_machine.specs.Advancing.{Advanced, goes, loops, submits, ends, advance}
 use Rattle.wc_machine.specs.Outlines.{blocks, left}
 use Rattle.wc_machine.specs.Resting.{env_alone}

@@ -10,8 +10,8 @@ use Rattle.wc_state.specs.declared.environment.Item.{Item}
 use Rattle.wc_state.specs.declared.environment.Item.TheVariants as item
 use Rattle.wc_state.specs.declared.record.Checkpoint.{Checkpoint}
 use Rattle.wc_calculation.specs.Rules.{Values}
-use Rattle.wc_run.specs.declared.progress.Progress.{Progress}
-use Rattle.wc_run.specs.Tables.{Label}
+use Rattle.wc_semantics.specs.declared.progress.Progress.{Progress}
+use Rattle.wc_semantics.specs.Tables.{Label}
 use Rattle.wc_world.specs.Trees.{NamedValues}
 use Rattle.wc_machine.specs.Resting.{env_alone}
 use Rattle.wc_framing.specs.Instead.{Calls}

@@ -11,7 +11,7 @@ use Rattle.wc_syntax.specs.declared.definition.Definition.{Definition}
 use Rattle.wc_graph.specs.declared.link.Link.{Link}
 use Rattle.wc_calculation.specs.Rules.{Values}
 use Rattle.wc_expression.specs.declared.outcome.Outcome.TheVariants.{Gives}
-use Rattle.wc_run.specs.Tables.{Label, Path}
+use Rattle.wc_semantics.specs.Tables.{Label, Path}
 use Rattle.wc_state.specs.declared.record.ProcessRecord.{ProcessRecord}
 use Rattle.wc_world.specs.World.{World, Known}
 use Rattle.wc_world.specs.Records.{find_record, has_ended, is_call_from, library_at}

@@ -2,13 +2,13 @@
 use Rattle.std.proofs.Common.{◌≡◌, ℕ, ◌+◌, true, Option, Some, refl, sym, ap, subst, ◌∙◌, arith}
 use Rattle.std.specs.Prelude.{option_map, ◌-◌}
 use Rattle.wc_value.specs.declared.process.Tree.{Tree}
-use Rattle.wc_run.specs.declared.progress.Answer.{Answer}
-use Rattle.wc_run.specs.declared.progress.Answer.TheVariants.{Gave}
-use Rattle.wc_run.specs.declared.progress.Replayed.{Replayed}
-use Rattle.wc_run.specs.Laws.{MoreAnswer}
-use Rattle.wc_run.specs.Meaning.{meaning}
-use Rattle.wc_run.specs.Tables.{Kills, Table}
-use Rattle.wc_run.proofs.Keeps.{meaning_more}
+use Rattle.wc_semantics.specs.declared.progress.Answer.{Answer}
+use Rattle.wc_semantics.specs.declared.progress.Answer.TheVariants.{Gave}
+use Rattle.wc_semantics.specs.declared.progress.Replayed.{Replayed}
+use Rattle.wc_semantics.specs.Laws.{MoreAnswer}
+use Rattle.wc_semantics.specs.Meaning.{meaning}
+use Rattle.wc_semantics.specs.Tables.{Kills, Table}
+use Rattle.wc_semantics.proofs.Keeps.{meaning_more}
 use Rattle.wc_state.specs.declared.record.ProcessRecord.{ProcessRecord}
 use Rattle.wc_world.specs.World.{World}
 use Rattle.wc_world.specs.Records.{has_ended, library_at}

@@ -6,7 +6,7 @@ use Rattle.wc_value.specs.declared.process.JobResult.{JobResult}
 use Rattle.wc_value.specs.declared.process.Request.{Request}
 use Rattle.wc_expression.specs.declared.outcome.Outcome.{Outcome}
 use Rattle.wc_expression.specs.declared.outcome.Outcome.TheVariants.{Gives, Faults}
-use Rattle.wc_run.specs.Tables.{Table, or_else}
+use Rattle.wc_semantics.specs.Tables.{Table, or_else}
 use Rattle.wc_meaning.proofs.Requests.{request_same, request_itself}
 use Rattle.wc_state.specs.declared.record.ProcessRecord.{ProcessRecord}
 use Rattle.wc_world.specs.World.{World}

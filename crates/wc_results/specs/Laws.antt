@@ -3,7 +3,7 @@ use Rattle.std.specs.Prelude.{◌≡◌, ◌↔◌, ℕ, ◌+◌, true, Some}
 use Rattle.wc_value.specs.declared.process.JobResult.{JobResult}
 use Rattle.wc_value.specs.declared.process.ProcessState.TheVariants.{Killed}
 use Rattle.wc_value.specs.declared.process.Tree.{Tree}
-use Rattle.wc_run.specs.Tables.{Path, Table}
+use Rattle.wc_semantics.specs.Tables.{Path, Table}
 use Rattle.wc_state.specs.declared.record.ProcessRecord.{ProcessRecord}
 use Rattle.wc_world.specs.World.{World}
 use Rattle.wc_world.specs.Records.{find_record, has_ended, library_at}

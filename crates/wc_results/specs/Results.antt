@@ -4,8 +4,8 @@ use Rattle.wc_value.specs.declared.process.JobResult.{JobResult}
 use Rattle.wc_value.specs.declared.process.Request.{Request}
 use Rattle.wc_expression.specs.declared.outcome.Outcome.{Outcome}
 use Rattle.wc_expression.specs.declared.outcome.Outcome.TheVariants.{Gives, Faults}
-use Rattle.wc_run.specs.Meaning.{is_killed}
-use Rattle.wc_run.specs.Tables.{Table, request_eq, or_else}
+use Rattle.wc_semantics.specs.Meaning.{is_killed}
+use Rattle.wc_semantics.specs.Tables.{Table, request_eq, or_else}
 use Rattle.wc_state.specs.declared.record.ProcessKind.{ProcessKind}
 use Rattle.wc_state.specs.declared.record.ProcessKind.TheVariants as kind
 use Rattle.wc_state.specs.declared.record.ProcessRecord.{ProcessRecord}

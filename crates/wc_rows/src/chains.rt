@@ -8,7 +8,7 @@ use wc_check::check;
 use wc_meaning::{dry, replay};
 use wc_parser::parse;
 use wc_report::tree_lines;
-use wc_run::Kills;
+use wc_semantics::Kills;
 use wc_syntax::Checked;
 use wc_value::{Fields, Files, JobResult, Request, Rows, Table, Text, Tree, Value, Words};
 

@@ -9,7 +9,7 @@ use Rattle.wc_graph.specs.declared.link.LinkType.{LinkType}
 use Rattle.wc_calculation.specs.Outcomes.{excepted, calculated, parsed}
 use Rattle.wc_calculation.specs.Rules.{Values}
 use Rattle.wc_calculation.specs.declared.outcomes.Parsed.{Parsed}
-use Rattle.wc_run.specs.Tables.{Label}
+use Rattle.wc_semantics.specs.Tables.{Label}
 use Rattle.wc_state.specs.declared.record.JobPart.{JobPart}
 use Rattle.wc_state.specs.declared.record.ProcessRecord.{ProcessRecord}
 use Rattle.wc_state.specs.declared.record.Task.{Task}

@@ -40,19 +40,19 @@ use Rattle.wc_expression.specs.Val.{Meant, val, val_form, limited}
 use Rattle.wc_calculation.specs.Outcomes.{parsed}
 use Rattle.wc_calculation.specs.Requests.{request}
 use Rattle.wc_calculation.specs.Rules.{Values, env_of, fitting, unnumbered}
-use Rattle.wc_run.specs.Meaning.{around, by_kill, by_result, calls_of, ended, job, killed_first, kinds_of, leaf, meaning, surrounding, takes_of, within}
-use Rattle.wc_run.specs.Run as runs
-use Rattle.wc_run.specs.Run.{Act, Around, exec, run, step_of, take_calls, make_calls, stopped, ◌>->◌}
-use Rattle.wc_run.specs.Statements as statements
-use Rattle.wc_run.specs.Tables.{Kills, Label, Table, under}
-use Rattle.wc_run.specs.declared.progress.Answer.{Answer}
-use Rattle.wc_run.specs.declared.progress.Answer.TheVariants.{Gave, TooLittle}
-use Rattle.wc_run.specs.declared.progress.Planned.{Planned}
-use Rattle.wc_run.specs.declared.progress.Progress.{Progress}
-use Rattle.wc_run.specs.declared.progress.Replayed.{Replayed}
-use Rattle.wc_run.specs.declared.progress.Flow.{Flow}
-use Rattle.wc_run.specs.declared.progress.Flow.TheVariants.{Goes, Ends, NoFuel}
-use Rattle.wc_run.specs.declared.progress.Stepped.TheVariants.{Makes}
+use Rattle.wc_semantics.specs.Meaning.{around, by_kill, by_result, calls_of, ended, job, killed_first, kinds_of, leaf, meaning, surrounding, takes_of, within}
+use Rattle.wc_semantics.specs.Run as runs
+use Rattle.wc_semantics.specs.Run.{Act, Around, exec, run, step_of, take_calls, make_calls, stopped, ◌>->◌}
+use Rattle.wc_semantics.specs.Statements as statements
+use Rattle.wc_semantics.specs.Tables.{Kills, Label, Table, under}
+use Rattle.wc_semantics.specs.declared.progress.Answer.{Answer}
+use Rattle.wc_semantics.specs.declared.progress.Answer.TheVariants.{Gave, TooLittle}
+use Rattle.wc_semantics.specs.declared.progress.Planned.{Planned}
+use Rattle.wc_semantics.specs.declared.progress.Progress.{Progress}
+use Rattle.wc_semantics.specs.declared.progress.Replayed.{Replayed}
+use Rattle.wc_semantics.specs.declared.progress.Flow.{Flow}
+use Rattle.wc_semantics.specs.declared.progress.Flow.TheVariants.{Goes, Ends, NoFuel}
+use Rattle.wc_semantics.specs.declared.progress.Stepped.TheVariants.{Makes}
 use Rattle.wc_machine.specs.Paths.{kills}
 use Rattle.wc_machine.specs.Resting.{meant}
 use Rattle.wc_small_worlds.specs.Library.{calls_with, output_at, double, fan, go, done, input_a, numeral, one_more, library}

@@ -33,8 +33,8 @@ use Rattle.wc_expression.specs.Contents.{item}
 use Rattle.wc_expression.specs.Environment.{children}
 use Rattle.wc_expression.specs.Outcomes.{◌>>=◌}
 use Rattle.wc_expression.specs.Val.{val}
-use Rattle.wc_run.specs.Meaning.{kinds_of, takes_of}
-use Rattle.wc_run.specs.Tables.{Label}
+use Rattle.wc_semantics.specs.Meaning.{kinds_of, takes_of}
+use Rattle.wc_semantics.specs.Tables.{Label}
 use Rattle.wc_machine.specs.Advancing.{Advanced, advance, after_step, at_innermost, popped}
 use Rattle.wc_machine.specs.Outlines.{Blocks, InstrIn, ArmIn, BlockIn, instr_in, arm_in, block_in, blocks}
 use Rattle.wc_machine.specs.Stepping.{Call, Noted, collected, fitting_node, makes, node_in, or_wrong, output, output_node, or_plain, or_stops, planned, statements, values_in, with_call, with_output}

@@ -5,9 +5,9 @@ use Rattle.wc_value.specs.declared.process.ProcessState.TheVariants as state
 use Rattle.wc_value.specs.declared.process.Tree.{Tree, Tree-F, out-Tree, out-roll-Tree}
 use Rattle.wc_value.specs.declared.value.Value.{out-Value}
 use Rattle.wc_value.specs.declared.value.Value.TheVariants as value
-use Rattle.wc_run.specs.declared.progress.Answer.{Answer}
-use Rattle.wc_run.specs.declared.progress.Answer.TheVariants.{Gave, TooLittle}
-use Rattle.wc_run.specs.declared.progress.Replayed.{Replayed}
+use Rattle.wc_semantics.specs.declared.progress.Answer.{Answer}
+use Rattle.wc_semantics.specs.declared.progress.Answer.TheVariants.{Gave, TooLittle}
+use Rattle.wc_semantics.specs.declared.progress.Replayed.{Replayed}
 use Rattle.wc_world.specs.Trees.{recorded_tree}
 use Rattle.wc_machine.specs.Paths.{kills}
 use Rattle.wc_machine.specs.Resting.{GivesTree, meant}

@@ -24,8 +24,8 @@ use Rattle.wc_state.specs.declared.record.Part.TheVariants as part
 use Rattle.wc_state.specs.declared.record.ProcessKind.TheVariants as kind
 use Rattle.wc_state.specs.declared.record.ProcessRecord.{ProcessRecord}
 use Rattle.wc_state.specs.declared.record.Task.{Task}
-use Rattle.wc_run.specs.Tables.{Label, Table}
-use Rattle.wc_run.specs.declared.progress.Replayed.{Replayed}
+use Rattle.wc_semantics.specs.Tables.{Label, Table}
+use Rattle.wc_semantics.specs.declared.progress.Replayed.{Replayed}
 use Rattle.wc_world.specs.World.{World}
 use Rattle.wc_world.specs.declared.change.Change.{Change}
 use Rattle.wc_world.specs.declared.change.Change.TheVariants as change

@@ -1,8 +1,8 @@
 -- What the machine makes of small worlds, and which worlds are not sound.
 use Rattle.std.specs.Prelude.{◌≡◌, pos, [], ◌∷◌, Some, None, All, codes, true, false}
 use Rattle.wc_syntax.specs.declared.definition.Definition.TheVariants as definition
-use Rattle.wc_run.specs.Tables.{Table}
-use Rattle.wc_run.specs.declared.progress.Answer.TheVariants.{Gave, TooLittle}
+use Rattle.wc_semantics.specs.Tables.{Table}
+use Rattle.wc_semantics.specs.declared.progress.Answer.TheVariants.{Gave, TooLittle}
 use Rattle.wc_state.specs.declared.record.Task.TheVariants as task
 use Rattle.wc_world.specs.World.{empty}
 use Rattle.wc_world.specs.Applied.{applied}

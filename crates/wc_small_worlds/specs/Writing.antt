@@ -9,7 +9,7 @@ use Rattle.wc_syntax.specs.declared.expression.Number.{Number}
 use Rattle.wc_syntax.specs.declared.expression.Quoted.{Quoted}
 use Rattle.wc_graph.specs.declared.link.Link.{Link}
 use Rattle.wc_graph.specs.declared.link.LinkType.{LinkType}
-use Rattle.wc_run.specs.Tables.{Label}
+use Rattle.wc_semantics.specs.Tables.{Label}
 use Rattle.wc_calculation.specs.Rules.{Values}
 use Rattle.wc_world.specs.World.{World}
 use Rattle.wc_world.specs.declared.change.Change.{Change}

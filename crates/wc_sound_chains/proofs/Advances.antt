@@ -8,11 +8,11 @@ use Rattle.wc_state.specs.declared.environment.Env.{Env}
 use Rattle.wc_state.specs.declared.environment.Item.{Item}
 use Rattle.wc_state.specs.declared.record.Checkpoint.{Checkpoint}
 use Rattle.wc_state.specs.declared.record.ProcessRecord.{ProcessRecord}
-use Rattle.wc_run.specs.declared.progress.Answer.{Answer}
-use Rattle.wc_run.specs.declared.progress.Answer.TheVariants.{Gave, TooLittle}
-use Rattle.wc_run.specs.Meaning.{ended, around, within}
-use Rattle.wc_run.specs.Run.{Around}
-use Rattle.wc_run.specs.Tables.{Table, Kills}
+use Rattle.wc_semantics.specs.declared.progress.Answer.{Answer}
+use Rattle.wc_semantics.specs.declared.progress.Answer.TheVariants.{Gave, TooLittle}
+use Rattle.wc_semantics.specs.Meaning.{ended, around, within}
+use Rattle.wc_semantics.specs.Run.{Around}
+use Rattle.wc_semantics.specs.Tables.{Table, Kills}
 use Rattle.wc_framing.specs.Instead.{Calls}
 use Rattle.wc_world.specs.Records.{find_record, has_ended}
 use Rattle.wc_world.specs.Trees.{inputs_of, items_of, context_of}

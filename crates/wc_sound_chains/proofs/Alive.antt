@@ -19,8 +19,8 @@ use Rattle.wc_expression.specs.declared.outcome.Outcome.{Outcome}
 use Rattle.wc_expression.specs.declared.outcome.Outcome.TheVariants.{Gives, Faults}
 use Rattle.wc_expression.specs.Val.{val, holds}
 use Rattle.wc_calculation.specs.Rules.{Values, is_taken, status_of}
-use Rattle.wc_run.specs.Meaning.{takes_of, kinds_of}
-use Rattle.wc_run.specs.Run.{picked}
+use Rattle.wc_semantics.specs.Meaning.{takes_of, kinds_of}
+use Rattle.wc_semantics.specs.Run.{picked}
 use Rattle.wc_world.specs.Records.{has_ended}
 use Rattle.wc_machine.specs.Advancing.{popped, past, at_head, first_block, numbered_arms, after_arms, other_number, chosen, turned, after_step, done, does, at_innermost}
 use Rattle.wc_machine.specs.Outlines.{Blocks, blocks, block_of}

@@ -9,13 +9,13 @@ use Rattle.wc_syntax.specs.declared.definition.Definition.TheVariants as definit
 use Rattle.wc_state.specs.Checkpoint.{first}
 use Rattle.wc_state.specs.declared.record.ProcessRecord.{ProcessRecord}
 use Rattle.wc_calculation.specs.Rules.{Values, unnumbered}
-use Rattle.wc_run.specs.declared.progress.Answer.{Answer}
-use Rattle.wc_run.specs.declared.progress.Answer.TheVariants.{Gave}
-use Rattle.wc_run.specs.Meaning as meaning
-use Rattle.wc_run.specs.Meaning.{ended, around, within, chain, by_kill, surrounding, calls_of}
-use Rattle.wc_run.specs.Run.{run, instrs}
-use Rattle.wc_run.specs.Tables.{Table, Kills}
-use Rattle.wc_run.proofs.Late.{late_gives_none}
+use Rattle.wc_semantics.specs.declared.progress.Answer.{Answer}
+use Rattle.wc_semantics.specs.declared.progress.Answer.TheVariants.{Gave}
+use Rattle.wc_semantics.specs.Meaning as meaning
+use Rattle.wc_semantics.specs.Meaning.{ended, around, within, chain, by_kill, surrounding, calls_of}
+use Rattle.wc_semantics.specs.Run.{run, instrs}
+use Rattle.wc_semantics.specs.Tables.{Table, Kills}
+use Rattle.wc_semantics.proofs.Late.{late_gives_none}
 use Rattle.wc_world.specs.Records.{library_at}
 use Rattle.wc_world.specs.Trees.{NamedValues, values_alone, inputs_of}
 use Rattle.wc_world.specs.World.{World}

@@ -14,10 +14,10 @@ use Rattle.wc_syntax.specs.declared.definition.Definition.TheVariants as definit
 use Rattle.wc_graph.specs.Rules.{node_of}
 use Rattle.wc_graph.specs.declared.link.Link.{Link}
 use Rattle.wc_graph.specs.declared.node.NodeKind.{NodeKind}
-use Rattle.wc_run.specs.declared.progress.Answer.{Answer}
-use Rattle.wc_run.specs.declared.progress.Progress.{Progress}
-use Rattle.wc_run.specs.Meaning.{around, ended, within}
-use Rattle.wc_run.specs.Tables.{Label, Table, Kills}
+use Rattle.wc_semantics.specs.declared.progress.Answer.{Answer}
+use Rattle.wc_semantics.specs.declared.progress.Progress.{Progress}
+use Rattle.wc_semantics.specs.Meaning.{around, ended, within}
+use Rattle.wc_semantics.specs.Tables.{Label, Table, Kills}
 use Rattle.wc_state.specs.declared.context.CtxRef.{CtxRef}
 use Rattle.wc_state.specs.declared.context.CtxRef.TheVariants as held
 use Rattle.wc_state.specs.declared.environment.Child.{Child}

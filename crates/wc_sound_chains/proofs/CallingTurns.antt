@@ -5,9 +5,9 @@ use Rattle.std.proofs.lemmas.List.Elements.{All-nil, filter-append}
 use Rattle.wc_syntax.specs.declared.definition.Chain.{Chain}
 use Rattle.wc_syntax.specs.declared.definition.Definition.{Definition}
 use Rattle.wc_graph.specs.declared.link.Link.{Link}
-use Rattle.wc_run.specs.Meaning.{around, ended, within}
-use Rattle.wc_run.specs.Run.{Around}
-use Rattle.wc_run.specs.Tables.{Label, Table, Kills}
+use Rattle.wc_semantics.specs.Meaning.{around, ended, within}
+use Rattle.wc_semantics.specs.Run.{Around}
+use Rattle.wc_semantics.specs.Tables.{Label, Table, Kills}
 use Rattle.wc_state.specs.declared.environment.Env.{Env}
 use Rattle.wc_state.specs.declared.environment.NodeValue.{NodeValue}
 use Rattle.wc_state.specs.declared.record.Checkpoint.{Checkpoint}

@@ -10,7 +10,7 @@ use Rattle.wc_syntax.specs.declared.definition.Definition.{Definition}
 use Rattle.wc_graph.specs.declared.link.Link.{Link}
 use Rattle.wc_graph.specs.declared.link.LinkType.TheVariants.{Create}
 use Rattle.wc_meaning.specs.Inputs.{bad_input}
-use Rattle.wc_run.specs.Tables.{Label, Path}
+use Rattle.wc_semantics.specs.Tables.{Label, Path}
 use Rattle.wc_state.specs.declared.record.Checkpoint.{Checkpoint}
 use Rattle.wc_state.specs.declared.record.Part.TheVariants as part
 use Rattle.wc_state.specs.declared.record.ProcessKind.TheVariants as kind

@@ -19,10 +19,10 @@ use Rattle.wc_expression.specs.declared.outcome.Outcome.{Outcome}
 use Rattle.wc_expression.specs.declared.outcome.Outcome.TheVariants.{Gives, Faults}
 use Rattle.wc_expression.specs.Outcomes.{◌>>=◌}
 use Rattle.wc_expression.specs.Val.{holds}
-use Rattle.wc_run.specs.Laws.{arm_block, condition}
-use Rattle.wc_run.specs.Meaning.{takes_of, kinds_of}
-use Rattle.wc_run.specs.Run.{picked, instrs}
-use Rattle.wc_run.proofs.Induction.{AllOf, OptionOf}
+use Rattle.wc_semantics.specs.Laws.{arm_block, condition}
+use Rattle.wc_semantics.specs.Meaning.{takes_of, kinds_of}
+use Rattle.wc_semantics.specs.Run.{picked, instrs}
+use Rattle.wc_semantics.proofs.Induction.{AllOf, OptionOf}
 use Rattle.wc_world.specs.Blocks.{block_lengths}
 use Rattle.wc_world.specs.Fits.{is_nil, is_within, frame_fits}
 use Rattle.wc_machine.specs.Advancing.{is_done, popped, past, at_head, block_count, first_block, numbered_arms, after_arms, other_number, chosen, turned, after_step, done, does, at_innermost, advance}

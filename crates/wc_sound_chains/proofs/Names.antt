@@ -13,7 +13,7 @@ use Rattle.wc_state.specs.declared.environment.Item.{Item}
 use Rattle.wc_state.specs.declared.environment.NodeValue.{NodeValue}
 use Rattle.wc_state.specs.declared.record.Checkpoint.{Checkpoint}
 use Rattle.wc_state.specs.declared.record.ProcessRecord.{ProcessRecord}
-use Rattle.wc_run.specs.Tables.{Label}
+use Rattle.wc_semantics.specs.Tables.{Label}
 use Rattle.wc_world.specs.Records.{find_record, has_ended, is_input_of, is_output_of}
 use Rattle.wc_world.specs.Trees.{NamedValues, value_of, with_value, inputs_after, inputs_of, outputs_after, outputs_of}
 use Rattle.wc_world.specs.World.{World}

@@ -9,8 +9,8 @@ use Rattle.wc_value.specs.declared.process.ProcessState.TheVariants as state
 use Rattle.wc_state.specs.declared.record.Checkpoint.{Checkpoint}
 use Rattle.wc_state.specs.declared.record.Part.TheVariants as part
 use Rattle.wc_state.specs.declared.record.ProcessRecord.{ProcessRecord}
-use Rattle.wc_run.specs.Meaning.{is_killed as is_cut}
-use Rattle.wc_run.specs.Tables.{Path}
+use Rattle.wc_semantics.specs.Meaning.{is_killed as is_cut}
+use Rattle.wc_semantics.specs.Tables.{Path}
 use Rattle.wc_world.specs.Fits.{calls_from}
 use Rattle.wc_world.specs.declared.change.SetProcess.{SetProcess}
 use Rattle.wc_world.specs.declared.change.Change.TheVariants as change

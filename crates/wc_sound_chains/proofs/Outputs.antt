@@ -21,8 +21,8 @@ use Rattle.wc_graph.specs.declared.node.NodeKind.{NodeKind}
 use Rattle.wc_state.specs.declared.record.ProcessRecord.{ProcessRecord}
 use Rattle.wc_calculation.specs.Outcomes as outcome
 use Rattle.wc_calculation.specs.Rules.{Values}
-use Rattle.wc_run.specs.Meaning as meaning
-use Rattle.wc_run.specs.Tables.{Label}
+use Rattle.wc_semantics.specs.Meaning as meaning
+use Rattle.wc_semantics.specs.Tables.{Label}
 use Rattle.wc_world.specs.Fits.{has_output}
 use Rattle.wc_world.specs.Records.{has_ended}
 use Rattle.wc_world.specs.Trees.{value_of, outputs_after, values_alone}

@@ -19,9 +19,9 @@ use Rattle.wc_syntax.specs.declared.outline.Instr.{Instr, out-Instr, map-Instr, 
 use Rattle.wc_syntax.specs.declared.outline.Instr.TheOpen.{Instr-F, Arm-F, Block-F}
 use Rattle.wc_syntax.specs.declared.outline.Stmt.{Stmt}
 use Rattle.wc_syntax.specs.declared.outline.Stmt.TheVariants as stmt
-use Rattle.wc_run.specs.Laws.{arm_block}
-use Rattle.wc_run.specs.Run.{instrs}
-use Rattle.wc_run.proofs.Induction.{AllOf, Inside, every_block}
+use Rattle.wc_semantics.specs.Laws.{arm_block}
+use Rattle.wc_semantics.specs.Run.{instrs}
+use Rattle.wc_semantics.proofs.Induction.{AllOf, Inside, every_block}
 use Rattle.wc_machine.specs.Outlines.{Blocks, blocks, blocks_in}
 use Rattle.wc_machine.specs.Submitting.{IsKeptLibrary}
 use Rattle.wc_outline_laws.proofs.Numbering.{arm_blocks, blocks_are, blocks_in_are, listed, opened_blocks}

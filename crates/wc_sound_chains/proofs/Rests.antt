@@ -10,10 +10,10 @@ use Rattle.wc_state.specs.declared.record.Checkpoint.{Checkpoint}
 use Rattle.wc_state.specs.declared.record.Part.{Part}
 use Rattle.wc_state.specs.declared.record.Part.TheVariants as part
 use Rattle.wc_state.specs.declared.record.ProcessRecord.{ProcessRecord}
-use Rattle.wc_run.specs.declared.progress.Answer.{Answer}
-use Rattle.wc_run.specs.declared.progress.Progress.{Progress}
-use Rattle.wc_run.specs.Meaning.{ended, around, within}
-use Rattle.wc_run.specs.Tables.{Label, Table, Kills}
+use Rattle.wc_semantics.specs.declared.progress.Answer.{Answer}
+use Rattle.wc_semantics.specs.declared.progress.Progress.{Progress}
+use Rattle.wc_semantics.specs.Meaning.{ended, around, within}
+use Rattle.wc_semantics.specs.Tables.{Label, Table, Kills}
 use Rattle.wc_world.specs.Records.{find_record, library_at}
 use Rattle.wc_world.specs.Trees.{inputs_of, items_of, context_of, environment_at}
 use Rattle.wc_world.specs.World.{World}

@@ -16,7 +16,7 @@ use Rattle.wc_state.specs.declared.environment.Child.{Child}
 use Rattle.wc_state.specs.declared.environment.Item.{Item}
 use Rattle.wc_state.specs.declared.environment.NodeValue.{NodeValue}
 use Rattle.wc_state.specs.declared.record.ProcessRecord.{ProcessRecord}
-use Rattle.wc_run.specs.Tables.{Label}
+use Rattle.wc_semantics.specs.Tables.{Label}
 use Rattle.wc_world.specs.Fits.{is_data_node}
 use Rattle.wc_world.specs.Records.{find_record, is_input_of, is_output_of}
 use Rattle.wc_world.specs.Trees.{NamedValues, data_of, value_of, with_value, inputs_after, inputs_of, outputs_after, outputs_of, child_at, and_child, children_at, item_of, and_item, items_of}

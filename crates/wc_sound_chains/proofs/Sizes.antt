@@ -6,9 +6,9 @@ use Rattle.wc_syntax.specs.declared.outline.Arm.{Arm, fold-Arm, fold_out-Arm}
 use Rattle.wc_syntax.specs.declared.outline.Block.{Block, fold_out-Block}
 use Rattle.wc_syntax.specs.declared.outline.Instr.{Instr, out-Instr, map-Instr, fold-Instr, fold_out-Instr}
 use Rattle.wc_syntax.specs.declared.outline.Instr.TheOpen.{Instr-F}
-use Rattle.wc_run.specs.Laws.{arm_block}
-use Rattle.wc_run.specs.Run.{instrs}
-use Rattle.wc_run.proofs.Induction.{AllOf, Inside, every_block}
+use Rattle.wc_semantics.specs.Laws.{arm_block}
+use Rattle.wc_semantics.specs.Run.{instrs}
+use Rattle.wc_semantics.proofs.Induction.{AllOf, Inside, every_block}
 use Rattle.wc_world.specs.Blocks.{instr_lengths, arm_lengths, level_lengths, block_lengths}
 use Rattle.wc_machine.specs.Outlines.{Blocks, blocks, blocks_in}
 use Rattle.wc_outline_laws.proofs.Numbering.{arm_blocks, opened_blocks, blocks_in_are, blocks_are}

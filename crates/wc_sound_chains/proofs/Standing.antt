@@ -18,7 +18,7 @@ use Rattle.wc_state.specs.declared.record.Part.TheVariants as part
 use Rattle.wc_state.specs.declared.record.ProcessKind.{ProcessKind}
 use Rattle.wc_state.specs.declared.record.ProcessKind.TheVariants as kind
 use Rattle.wc_state.specs.declared.record.ProcessRecord.{ProcessRecord}
-use Rattle.wc_run.specs.Tables.{Label}
+use Rattle.wc_semantics.specs.Tables.{Label}
 use Rattle.wc_world.specs.Consistent.{Stands}
 use Rattle.wc_world.specs.Fits.{is_nil, chain_runs, part_fits, frame_fits, outline_lengths, held_fits, is_data_node, checkpoint_fits, standing_fits}
 use Rattle.wc_world.specs.Records.{find_record, has_ended, has_called, is_call_from}

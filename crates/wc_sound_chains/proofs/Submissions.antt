@@ -22,7 +22,7 @@ use Rattle.wc_state.specs.declared.record.Part.TheVariants as part
 use Rattle.wc_state.specs.declared.record.ProcessKind.{ProcessKind}
 use Rattle.wc_state.specs.declared.record.ProcessKind.TheVariants as kind
 use Rattle.wc_state.specs.declared.record.ProcessRecord.{ProcessRecord}
-use Rattle.wc_run.specs.Tables.{Label}
+use Rattle.wc_semantics.specs.Tables.{Label}
 use Rattle.wc_world.specs.Fits.{frame_fits, held_fits, is_data_node, is_of_kind, is_process, outline_lengths, standing_fits}
 use Rattle.wc_world.specs.Records.{definition_in, find_record, has_ended, library_at}
 use Rattle.wc_world.specs.World.{World, Known}

@@ -14,12 +14,12 @@ use Rattle.wc_state.specs.declared.record.Await.{Await}
 use Rattle.wc_state.specs.declared.record.Checkpoint.{Checkpoint}
 use Rattle.wc_state.specs.declared.record.Part.TheVariants as part
 use Rattle.wc_state.specs.declared.record.ProcessRecord.{ProcessRecord}
-use Rattle.wc_run.specs.declared.progress.Answer.{Answer}
-use Rattle.wc_run.specs.declared.progress.Answer.TheVariants.{Gave, TooLittle, Without, Astray}
-use Rattle.wc_run.specs.Laws.{MoreAnswer}
-use Rattle.wc_run.specs.Meaning as meaning
-use Rattle.wc_run.specs.Tables.{Label, Table, Kills}
-use Rattle.wc_run.proofs.Keeps.{meaning_more}
+use Rattle.wc_semantics.specs.declared.progress.Answer.{Answer}
+use Rattle.wc_semantics.specs.declared.progress.Answer.TheVariants.{Gave, TooLittle, Without, Astray}
+use Rattle.wc_semantics.specs.Laws.{MoreAnswer}
+use Rattle.wc_semantics.specs.Meaning as meaning
+use Rattle.wc_semantics.specs.Tables.{Label, Table, Kills}
+use Rattle.wc_semantics.proofs.Keeps.{meaning_more}
 use Rattle.wc_framing.specs.Instead.{Calls}
 use Rattle.wc_world.specs.Records.{find_record, library_at, has_ended, is_call_from}
 use Rattle.wc_world.specs.Trees.{branches, recorded_tree}

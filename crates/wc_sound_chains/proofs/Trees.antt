@@ -23,13 +23,13 @@ use Rattle.wc_state.specs.declared.record.Part.TheVariants as part
 use Rattle.wc_state.specs.declared.record.ProcessKind.{ProcessKind}
 use Rattle.wc_state.specs.declared.record.ProcessKind.TheVariants as kind
 use Rattle.wc_state.specs.declared.record.ProcessRecord.{ProcessRecord}
-use Rattle.wc_run.specs.declared.progress.Answer.{Answer}
-use Rattle.wc_run.specs.declared.progress.Answer.TheVariants.{Gave}
-use Rattle.wc_run.specs.declared.progress.Progress.{Progress}
-use Rattle.wc_run.specs.Meaning as meaning
-use Rattle.wc_run.specs.Meaning.{ended, around, within, chain_tree, its_tree}
-use Rattle.wc_run.specs.Run.{Around}
-use Rattle.wc_run.specs.Tables.{Label, Table, Kills}
+use Rattle.wc_semantics.specs.declared.progress.Answer.{Answer}
+use Rattle.wc_semantics.specs.declared.progress.Answer.TheVariants.{Gave}
+use Rattle.wc_semantics.specs.declared.progress.Progress.{Progress}
+use Rattle.wc_semantics.specs.Meaning as meaning
+use Rattle.wc_semantics.specs.Meaning.{ended, around, within, chain_tree, its_tree}
+use Rattle.wc_semantics.specs.Run.{Around}
+use Rattle.wc_semantics.specs.Tables.{Label, Table, Kills}
 use Rattle.wc_framing.specs.Instead.{Calls}
 use Rattle.wc_framing.proofs.Touched.{meant_kept, tables_narrow, untouched}
 use Rattle.wc_world.specs.World.{World}

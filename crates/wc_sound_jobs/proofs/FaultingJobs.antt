@@ -14,10 +14,10 @@ use Rattle.wc_calculation.specs.Outcomes.{excepted, parsed}
 use Rattle.wc_calculation.specs.Requests.{request}
 use Rattle.wc_calculation.specs.Rules.{Values}
 use Rattle.wc_calculation.specs.declared.outcomes.Parsed.{Parsed}
-use Rattle.wc_run.specs.Meaning.{by_kill, job, leaf, meaning, surrounding}
-use Rattle.wc_run.specs.Tables.{Table, Kills, under}
-use Rattle.wc_run.specs.declared.progress.Answer.{Answer}
-use Rattle.wc_run.specs.declared.progress.Answer.TheVariants.{Gave}
+use Rattle.wc_semantics.specs.Meaning.{by_kill, job, leaf, meaning, surrounding}
+use Rattle.wc_semantics.specs.Tables.{Table, Kills, under}
+use Rattle.wc_semantics.specs.declared.progress.Answer.{Answer}
+use Rattle.wc_semantics.specs.declared.progress.Answer.TheVariants.{Gave}
 use Rattle.wc_state.specs.declared.record.ProcessKind.{ProcessKind}
 use Rattle.wc_state.specs.declared.record.ProcessKind.TheVariants as kind
 use Rattle.wc_state.specs.declared.record.ProcessRecord.{ProcessRecord}

@@ -21,10 +21,10 @@ use Rattle.wc_calculation.specs.Outcomes.{parse_env, parsed, retrieved}
 use Rattle.wc_calculation.specs.Requests.{request}
 use Rattle.wc_calculation.specs.Rules.{Values, run_rules}
 use Rattle.wc_calculation.specs.declared.outcomes.Parsed.{Parsed}
-use Rattle.wc_run.specs.Meaning.{by_kill, by_result, job as job_by, leaf, meaning, surrounding}
-use Rattle.wc_run.specs.Tables.{Table, Kills, under}
-use Rattle.wc_run.specs.declared.progress.Answer.{Answer}
-use Rattle.wc_run.specs.declared.progress.Answer.TheVariants.{Gave}
+use Rattle.wc_semantics.specs.Meaning.{by_kill, by_result, job as job_by, leaf, meaning, surrounding}
+use Rattle.wc_semantics.specs.Tables.{Table, Kills, under}
+use Rattle.wc_semantics.specs.declared.progress.Answer.{Answer}
+use Rattle.wc_semantics.specs.declared.progress.Answer.TheVariants.{Gave}
 use Rattle.wc_state.specs.declared.record.ProcessKind.{ProcessKind}
 use Rattle.wc_state.specs.declared.record.ProcessKind.TheVariants as kind
 use Rattle.wc_state.specs.declared.record.ProcessRecord.{ProcessRecord}

@@ -5,9 +5,9 @@ use Rattle.wc_value.specs.declared.process.ProcessState.TheVariants as state
 use Rattle.wc_value.specs.declared.process.Request.{Request}
 use Rattle.wc_expression.specs.declared.outcome.Outcome.TheVariants.{Gives}
 use Rattle.wc_calculation.specs.declared.outcomes.Parsed.{Parsed}
-use Rattle.wc_run.specs.Meaning.{leaf}
-use Rattle.wc_run.specs.Tables.{Path, Table, Kills}
-use Rattle.wc_run.specs.declared.progress.Answer.TheVariants.{Gave}
+use Rattle.wc_semantics.specs.Meaning.{leaf}
+use Rattle.wc_semantics.specs.Tables.{Path, Table, Kills}
+use Rattle.wc_semantics.specs.declared.progress.Answer.TheVariants.{Gave}
 use Rattle.wc_state.specs.declared.record.Part.{Part}
 use Rattle.wc_state.specs.declared.record.Part.TheVariants as part
 use Rattle.wc_state.specs.declared.record.ProcessRecord.{ProcessRecord}

@@ -4,8 +4,8 @@ ghost use Rattle.std.specs.Prelude.{◌≡◌, [], IfOk};
 ghost use Rattle.wc_syntax.specs.Findings.{definition_named};
 ghost use Rattle.wc_engine.specs.Given.{bad_given, fields_of};
 ghost use Rattle.wc_engine.specs.Dry.{owed_answer, owed_inputs, owed_name, owed_dry};
-ghost use Rattle.wc_run.specs.Tables.{plain, no_kills};
-ghost use Rattle.wc_run.specs.Meaning.{meaning};
+ghost use Rattle.wc_semantics.specs.Tables.{plain, no_kills};
+ghost use Rattle.wc_semantics.specs.Meaning.{meaning};
 
 use crate::given::{find_bad_given, read_given};
 use crate::reading::Read;
@@ -15,7 +15,7 @@ use std::alloc::{AllocError, Global};
 use wc_cli::Given;
 use wc_meaning::{find_definition, head, mean};
 use wc_report::tree_lines;
-use wc_run::{Answer, Kills};
+use wc_semantics::{Answer, Kills};
 use wc_syntax::{Library, Port};
 use wc_value::{Duplicate, Fields, Rows, Table, Text};
 

@@ -4,13 +4,13 @@ use Rattle.wc_syntax.specs.declared.definition.Definition.TheVariants as definit
 use Rattle.wc_syntax.specs.declared.outline.Block.{size-Block}
 use Rattle.wc_expression.specs.declared.outcome.Outcome.TheVariants.{Gives}
 use Rattle.wc_expression.specs.Val.{holds}
-use Rattle.wc_run.specs.declared.progress.Answer.TheVariants.{Gave}
-use Rattle.wc_run.specs.declared.progress.Replayed.{Replayed}
-use Rattle.wc_run.specs.declared.progress.Stepped.{Stepped}
-use Rattle.wc_run.specs.Tables.{plain, kills_of}
-use Rattle.wc_run.specs.Run.{after, run_block}
-use Rattle.wc_run.specs.Meaning.{meaning}
-use Rattle.wc_run.proofs.Places.{made}
+use Rattle.wc_semantics.specs.declared.progress.Answer.TheVariants.{Gave}
+use Rattle.wc_semantics.specs.declared.progress.Replayed.{Replayed}
+use Rattle.wc_semantics.specs.declared.progress.Stepped.{Stepped}
+use Rattle.wc_semantics.specs.Tables.{plain, kills_of}
+use Rattle.wc_semantics.specs.Run.{after, run_block}
+use Rattle.wc_semantics.specs.Meaning.{meaning}
+use Rattle.wc_semantics.proofs.Places.{made}
 use Rattle.wc_meaning.specs.Settings.{around_in, widest}
 use Rattle.wc_meaning.proofs.Around.{step_at, called, means_killed, means_function, means_job}
 use Rattle.wc_meaning.proofs.Turns.{turn_goes, turns_end, outline_within, outline_falls}

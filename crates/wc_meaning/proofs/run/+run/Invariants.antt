@@ -5,7 +5,7 @@ use Rattle.std.specs.Prelude.{max}
 use Rattle.wc_syntax.specs.declared.outline.Block.{size-Block}
 use Rattle.wc_syntax.specs.declared.outline.Arm.{size-Arm}
 use Rattle.wc_syntax.specs.declared.outline.Instr.{size-Instr}
-use Rattle.wc_run.specs.Run.{run_block, exec, all, choose, arm_act, turns, take_calls}
+use Rattle.wc_semantics.specs.Run.{run_block, exec, all, choose, arm_act, turns, take_calls}
 use Rattle.wc_meaning.specs.Settings.{around_in, widest, option_size}
 use Rattle.wc_meaning.proofs.run.+run.Given as goal
 

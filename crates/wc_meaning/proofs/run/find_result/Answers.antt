@@ -1,5 +1,5 @@
 use Rattle.std.proofs.Common.{◌≡◌, true, sym, ap, ◌∙◌}
-use Rattle.wc_run.specs.Tables.{row_of}
+use Rattle.wc_semantics.specs.Tables.{row_of}
 use Rattle.wc_meaning.proofs.Requests.{row_found, row_passed}
 use Rattle.wc_meaning.proofs.run.find_result.Goals as goal
 

@@ -1,5 +1,5 @@
 use Rattle.std.proofs.Common.{◌≡◌, drop}
-use Rattle.wc_run.specs.Tables.{row_of}
+use Rattle.wc_semantics.specs.Tables.{row_of}
 use Rattle.wc_meaning.proofs.run.find_result.Given as goal
 
 abbrev pub invariant-loop-asked : goal.invariant-loop-asked

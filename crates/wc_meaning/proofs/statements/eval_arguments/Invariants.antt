@@ -1,5 +1,5 @@
 use Rattle.std.proofs.Common.{◌≡◌, [], drop}
-use Rattle.wc_run.specs.Statements.{arguments}
+use Rattle.wc_semantics.specs.Statements.{arguments}
 use Rattle.wc_meaning.proofs.statements.eval_arguments.Given as goal
 
 abbrev pub invariant-loop-arg : goal.invariant-loop-arg

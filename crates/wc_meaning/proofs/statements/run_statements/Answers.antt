@@ -2,7 +2,7 @@ use Rattle.std.proofs.Common.{◌+◌, ◌==◌, drop, List, sym, ap, ◌∙◌}
 use Rattle.wc_value.specs.Ascending.{put}
 use Rattle.wc_expression.specs.declared.outcome.Outcome.TheVariants.{Gives}
 use Rattle.wc_calculation.specs.Rules.{kind_of_port}
-use Rattle.wc_run.specs.Meaning.{takes_of}
+use Rattle.wc_semantics.specs.Meaning.{takes_of}
 use Rattle.wc_meaning.proofs.Steps.{ctx_step, out_step, exit_step, call_step, passed}
 use Rattle.wc_meaning.proofs.statements.run_statements.Goals as goal
 use Rattle.wc_meaning.proofs.statements.run_statements.Goals.{in-Ctx+in_ok-value-in-Ctx+in-Gives+in_ok-env-in-Gives, in-Out+in_ok-value-in-Out+in-Gives-2+in_ok-copy-in-Gives-2+in_ok-set-in-Gives-2, in-Exit+in_ok-takes-in-Exit+in-Gives-false, in-Call+in_ok-planned-in-Call+in-Gives-3+in_ok-push-in-Gives-3}

@@ -1,5 +1,5 @@
 use Rattle.std.proofs.Common.{◌≡◌, ◌++◌, map}
-use Rattle.wc_run.specs.Meaning.{from_caller}
+use Rattle.wc_semantics.specs.Meaning.{from_caller}
 use Rattle.wc_meaning.proofs.trees.add_asked.Given as goal
 
 abbrev pub invariant-loop-path : goal.invariant-loop-path

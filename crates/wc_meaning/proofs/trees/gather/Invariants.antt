@@ -1,6 +1,6 @@
 use Rattle.std.proofs.Common.{◌≡◌, map}
 use Rattle.std.specs.Prelude.{flat_map}
-use Rattle.wc_run.specs.Meaning.{its_tree, its_asked}
+use Rattle.wc_semantics.specs.Meaning.{its_tree, its_asked}
 use Rattle.wc_meaning.proofs.trees.gather.Given as goal
 
 abbrev pub invariant-loop-label : goal.invariant-loop-label

@@ -1,8 +1,8 @@
 use Rattle.std.proofs.Common.{◌≡◌, ℕ, List, IfOk, subst, ◌∙◌}
 use Rattle.wc_value.specs.declared.process.Request.{Request}
 use Rattle.wc_value.specs.declared.process.JobResult.{JobResult}
-use Rattle.wc_run.specs.Tables.{Path, plain, kills_of, no_kills}
-use Rattle.wc_run.specs.Meaning.{meaning}
+use Rattle.wc_semantics.specs.Tables.{Path, plain, kills_of, no_kills}
+use Rattle.wc_semantics.specs.Meaning.{meaning}
 use Rattle.wc_engine.proofs.commands.dry.meaning_alone.Goals as goal
 
 pub returns : goal.returns

@@ -1,7 +1,7 @@
 use Rattle.std.proofs.Common.{◌≡◌, [], IfOk, ap, subst, ◌∙◌}
-use Rattle.wc_run.specs.declared.progress.Answer.{Answer}
-use Rattle.wc_run.specs.Tables.{plain, no_kills}
-use Rattle.wc_run.specs.Meaning.{meaning}
+use Rattle.wc_semantics.specs.declared.progress.Answer.{Answer}
+use Rattle.wc_semantics.specs.Tables.{plain, no_kills}
+use Rattle.wc_semantics.specs.Meaning.{meaning}
 use Rattle.wc_engine.specs.Dry.{owed_answer}
 use Rattle.wc_engine.proofs.commands.dry.reply_for_given.Goals as goal
 

@@ -1,5 +1,0 @@
-use Rattle.wc_run.proofs.Bare.{meaning_bare}
-use Rattle.wc_run.proofs.laws.no_offsets.Goals as goal
-
-pub returns : goal.returns
-returns c = meaning_bare

@@ -6,10 +6,9 @@ ghost use Rattle.wc_machine.specs.Readiness.{ended_at, is_through, may_go, is_re
 ghost use Rattle.wc_core.specs.Ready.{is_ready_at};
 
 use std::alloc::{AllocError, Global};
-use wc_refusal::has_ended;
 use wc_state::{Await, Ids, Part, ProcessRecord};
 use wc_value::ProcessState;
-use wc_world::World;
+use wc_world::{World, has_ended};
 
 /// Whether the process with this number is there and has ended.
 fn ended_at(world: &World, pid: u32) -> bool

@@ -13,8 +13,8 @@ use wc_value::Text;
 
 /// A file of the system, opened once and locked from then on. It is made, with its folder, at the first write, unless
 /// that is out of bounds. A missing file has length 0, and a sync of it does nothing. A lock that is refused counts as
-/// a fault. The opening brings the file's name to the disk, and the name of a folder that was made: of several missing
-/// folders, that of the last one alone.
+/// a fault. The opening brings the file's name to the disk, and that of its folder, also where they were there: a program
+/// that was killed may have made them without. Of several missing folders, the last one's name alone is brought to the disk.
 #[derive(Drop)]
 pub struct FileDisk<R: Drop> {
     rt: R,
@@ -75,6 +75,13 @@ fn sync_names<R: Files<File = File>>(rt: &R, folder: &str) -> io::Result<()> {
     fs::open(rt, folder)?.sync_all()
 }
 
+/// Brings the name of a file to the disk, and that of the folder that it lies in.
+fn sync_name_of<R: Files<File = File>>(rt: &R, path: &str) -> io::Result<()> {
+    let folder = folder_of(path);
+    sync_names(rt, folder)?;
+    sync_names(rt, folder_of(folder))
+}
+
 /// Makes a folder where it isn't there, and brings its name to the disk, or takes it away again.
 fn make_folder<R: Files<File = File>>(rt: &R, folder: &str) -> io::Result<()> {
     if fs::exists(rt, folder)? {
@@ -93,7 +100,7 @@ fn open_existing<R: Files<File = File>>(rt: &R, path: &str) -> io::Result<Option
     match OpenOptions::new().read(true).write(true).open(rt, path) {
         Ok(file) => {
             let file = locked(file)?;
-            sync_names(rt, folder_of(path))?;
+            sync_name_of(rt, path)?;
             Ok(Some(file))
         }
         Err(error) if error.kind() == io::ErrorKind::NotFound => Ok(None),
@@ -113,7 +120,7 @@ fn make<R: Files<File = File>>(rt: &R, path: &str, at: u64) -> io::Result<File> 
         .create(true)
         .open(rt, path)?;
     let file = locked(file)?;
-    sync_names(rt, folder_of(path))?;
+    sync_name_of(rt, path)?;
     Ok(file)
 }
 

@@ -5,9 +5,8 @@ ghost use Rattle.wc_world.specs.Records.{find_record};
 ghost use Rattle.wc_machine.specs.Killing.{awaited_fuel, fuel_after};
 ghost use Rattle.wc_machine.specs.Tasks.{saturated};
 
-use wc_refusal::has_ended;
 use wc_state::{Await, Part, ProcessRecord};
-use wc_world::World;
+use wc_world::{World, has_ended};
 
 /// The fuel that the process with this number has after a kill in which it is; 0 where there is none.
 #[cycle(fuel)]

@@ -7,10 +7,9 @@ ghost use Rattle.wc_machine.specs.Killing.{ends_killed, kill_below, kill_changes
 use crate::fuel::fuel_after;
 use std::alloc::{AllocError, Global};
 use wc_graph::{Link, LinkType};
-use wc_refusal::has_ended;
 use wc_state::{Part, ProcessRecord};
 use wc_value::ProcessState;
-use wc_world::{Change, Changes, SetProcess, World};
+use wc_world::{Change, Changes, SetProcess, World, has_ended};
 
 /// Depths go from 1 to 16, and a call goes one deeper.
 const LEVELS: u32 = 16;

@@ -7,11 +7,10 @@ ghost use Rattle.wc_next.specs.Standing.{StandsAs};
 ghost use Rattle.wc_next.specs.declared.standing.Standing.TheVariants.{Going};
 
 use crate::order::Order;
-use crate::standing::has_ended;
 use std::alloc::{AllocError, Global};
 use wc_core::ready;
 use wc_state::{Part, ProcessRecord};
-use wc_world::World;
+use wc_world::{World, has_ended};
 
 /// What a run does next at a moment.
 #[derive(Clone, Copy, Debug, PartialEq, Eq)]

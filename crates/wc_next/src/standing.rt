@@ -1,14 +1,12 @@
 //! How the processes of a world stand.
 
 ghost use Rattle.std.specs.Prelude.{◌≡◌};
-ghost use Rattle.wc_world.specs.Records.{has_ended};
 ghost use Rattle.wc_core.specs.Ready.{is_ready_at};
 ghost use Rattle.wc_next.specs.Standing.{StandsAs, moment_in};
 
 use wc_core::is_ready;
 use wc_state::{Part, ProcessRecord};
-use wc_value::ProcessState;
-use wc_world::World;
+use wc_world::{World, has_ended};
 
 /// How the processes of a world stand.
 #[derive(Clone, Copy, Debug, PartialEq, Eq)]
@@ -19,16 +17,6 @@ pub enum Standing {
     Resting,
     /// Some process is ready, or will be at some moment.
     Going,
-}
-
-/// Whether a process in this state has ended.
-pub(crate) fn has_ended(state: ProcessState) -> bool
-    ensures { result ≡ has_ended state }
-{
-    match state {
-        ProcessState::Created | ProcessState::Running | ProcessState::Waiting => false,
-        ProcessState::Finished(_) | ProcessState::Excepted(_) | ProcessState::Killed => true,
-    }
 }
 
 /// The moment that a process waits for, 0 where it waits for none.

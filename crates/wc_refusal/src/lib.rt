@@ -6,5 +6,5 @@ mod live;
 mod room;
 
 pub use error::TurnError;
-pub use live::{has_ended, live_process};
+pub use live::live_process;
 pub use room::{check_batch, check_room};

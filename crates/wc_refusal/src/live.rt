@@ -6,18 +6,7 @@ ghost use Rattle.wc_refusal.specs.Refusals.{RefusesLive};
 
 use crate::error::TurnError;
 use wc_state::ProcessRecord;
-use wc_value::ProcessState;
-use wc_world::World;
-
-/// Whether a process in this state has ended.
-pub fn has_ended(state: ProcessState) -> bool
-    ensures { result ≡ has_ended state }
-{
-    match state {
-        ProcessState::Created | ProcessState::Running | ProcessState::Waiting => false,
-        ProcessState::Finished(_) | ProcessState::Excepted(_) | ProcessState::Killed => true,
-    }
-}
+use wc_world::{World, has_ended};
 
 /// The live process with this number.
 pub fn live_process(world: &World, pid: u32) -> Result<&ProcessRecord, TurnError>

@@ -5,8 +5,8 @@ ghost use Rattle.wc_report.specs.Lines.{initialised_text, submitted_text, commit
 
 use std::alloc::{AllocError, Global};
 use wc_state::{ProcessRecord, What};
-use wc_value::{ProcessState, Text};
-use wc_world::World;
+use wc_value::Text;
+use wc_world::{World, has_ended};
 
 /// The line of `init`.
 pub fn initialised_text(alloc: Global) -> Result<Text, AllocError>
@@ -83,10 +83,7 @@ pub fn full_text(alloc: Global, what: What, count: u64, limit: u64) -> Result<Te
 fn is_live(process: &ProcessRecord) -> bool
     ensures { result ≡ is_live process.now }
 {
-    !matches!(
-        process.state,
-        ProcessState::Finished(_) | ProcessState::Excepted(_) | ProcessState::Killed
-    )
+    !has_ended(process.state)
 }
 
 /// Whether a live process has the pause mark.

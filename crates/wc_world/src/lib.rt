@@ -35,6 +35,7 @@ pub use laws::{
     changes_have_one_answer, inputs_are_linked, links_stay_correct, outputs_are_linked,
     reached_worlds_are_consistent, recorded_trees_unfold, snapshots_give_the_world,
 };
+pub use processes::has_ended;
 pub use records::Records;
 pub use trees::tree_of;
 pub use world::{Known, Libraries, World};

@@ -11,7 +11,7 @@ use wc_state::{Part, ProcessKind, ProcessRecord};
 use wc_value::ProcessState;
 
 /// Whether a process in this state has ended.
-pub(crate) fn has_ended(state: ProcessState) -> bool
+pub fn has_ended(state: ProcessState) -> bool
     ensures { result ≡ has_ended state }
 {
     matches!(

@@ -36,9 +36,11 @@ invariant_of-self-2 c =
     let added = c.in_ok-push.ensures.ok in
     let a = c.add_link.ensures in
     let b = c.add_link-2.ensures in
-    let count = length old.nodes.0 in
-    (returns-clause-correct c, i.1,
-    subst (λ (ls : List Link). IsIndexed source_of ls count c.add_link.new.self) (sym added)
-    (with_link source_of old.links.0 count c.args.link old.by_source c.add_link.new.self i.2 a.whole a.adds),
-    subst (λ (ls : List Link). IsIndexed target_of ls count c.add_link-2.new.self) (sym added)
-    (with_link target_of old.links.0 count c.args.link old.by_target c.add_link-2.new.self i.3 b.whole b.adds))
+    let count = length old.nodes.0 in (
+      returns-clause-correct c,
+      i.1,
+      subst (λ (ls : List Link). IsIndexed source_of ls count c.add_link.new.self) (sym added)
+          (with_link source_of old.links.0 count c.args.link old.by_source c.add_link.new.self i.2 a.whole a.adds),
+      subst (λ (ls : List Link). IsIndexed target_of ls count c.add_link-2.new.self) (sym added)
+          (with_link target_of old.links.0 count c.args.link old.by_target c.add_link-2.new.self i.3 b.whole b.adds),
+    )

@@ -20,10 +20,11 @@ invariant_of-self-2 c =
     let added = c.in_ok-push.ensures.ok in
     let few : length (old.nodes.0 ++ c.args.kind ∷ []) ≤ 8000000 = omega (arith, length_push old.nodes.0 c.args.kind, c.if-count-ge-MOST_NODES.false, c.len-count.ensures.value) in
     let a = c.add_node.ensures in
-    let b = c.add_node-2.ensures in
-    (returns-clause-correct c,
-    subst (λ (ns : List NodeKind). length ns ≤ 8000000) (sym added) few,
-    subst (λ (ns : List NodeKind). IsIndexed source_of old.links.0 (length ns) c.add_node.new.self) (sym added)
-    (with_node source_of old.nodes.0 old.links.0 c.args.kind old.by_source c.add_node.new.self (sources_within old.nodes.0 old.links.0 i.0) i.2 a.whole a.last a.before),
-    subst (λ (ns : List NodeKind). IsIndexed target_of old.links.0 (length ns) c.add_node-2.new.self) (sym added)
-    (with_node target_of old.nodes.0 old.links.0 c.args.kind old.by_target c.add_node-2.new.self (targets_within old.nodes.0 old.links.0 i.0) i.3 b.whole b.last b.before))
+    let b = c.add_node-2.ensures in (
+      returns-clause-correct c,
+      subst (λ (ns : List NodeKind). length ns ≤ 8000000) (sym added) few,
+      subst (λ (ns : List NodeKind). IsIndexed source_of old.links.0 (length ns) c.add_node.new.self) (sym added)
+          (with_node source_of old.nodes.0 old.links.0 c.args.kind old.by_source c.add_node.new.self (sources_within old.nodes.0 old.links.0 i.0) i.2 a.whole a.last a.before),
+      subst (λ (ns : List NodeKind). IsIndexed target_of old.links.0 (length ns) c.add_node-2.new.self) (sym added)
+          (with_node target_of old.nodes.0 old.links.0 c.args.kind old.by_target c.add_node-2.new.self (targets_within old.nodes.0 old.links.0 i.0) i.3 b.whole b.last b.before),
+    )

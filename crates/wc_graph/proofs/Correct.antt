@@ -1,13 +1,14 @@
 -- A link that breaks no rule keeps a graph link-correct.
 use Rattle.std.proofs.Common.{◌≡◌, ◌≢◌, ℕ, ◌<◌, List, [], ◌∷◌, ◌++◌, length, zero, suc, Some, Result, Ok, Err, ◌⊎◌, inl, inr, ⊎_elim, refl, sym, ◌∙◌, subst, arith, ◌↔◌}
+use Rattle.std.specs.Prelude.{IsSomeAnd}
 use Rattle.std.specs.List.{slice_get}
-use Rattle.std.proofs.lemmas.List.Elements.{All-push}
+use Rattle.std.proofs.lemmas.List.Elements.{All-push, All-weaker}
 use Rattle.std.proofs.lemmas.Option.{slice_get_within, get_or_from_slice_get}
 use Rattle.wc_graph.specs.declared.node.NodeKind.{NodeKind}
 use Rattle.wc_graph.specs.declared.link.Link.{Link}
 use Rattle.wc_graph.specs.declared.link.LinkType.{LinkType}
 use Rattle.wc_graph.specs.declared.link.LinkType.TheVariants.{InputCalc, InputWork, Create, Return, CallCalc, CallWork}
-use Rattle.wc_graph.specs.Rules.{HasRightEnds, SharesTriple, SharesLabelAtSource, SharesLabelAtTarget, TakesTriple, TakesLabel, AreApart, IsLinkCorrect}
+use Rattle.wc_graph.specs.Rules.{node_of, Leaves, Enters, HasRightEnds, SharesTriple, SharesLabelAtSource, SharesLabelAtTarget, TakesTriple, TakesLabel, AreApart, IsLinkCorrect}
 use Rattle.wc_graph.specs.declared.error.GraphError.{GraphError}
 use Rattle.wc_graph.specs.declared.error.GraphError.TheVariants.{NoNode, WrongEnds, TripleTaken, LabelTaken, HasCreator, HasCaller, Full, OutOfMemory}
 use Rattle.wc_graph.specs.Refusals.{IsAllowed, RefusesExactly}
@@ -52,7 +53,7 @@ apart_back a b h = record {
 
 -- ---- a list with one more link
 -- the place of a link is an old one, or that of the new one
-slice_get_push : {X : Type 0} (xs : List X) (y x : X) (i : ℕ) → slice_get (xs ++ y ∷ []) i ≡ Some x
+pub slice_get_push : {X : Type 0} (xs : List X) (y x : X) (i : ℕ) → slice_get (xs ++ y ∷ []) i ≡ Some x
     → (slice_get xs i ≡ Some x) ⊎ ((i ≡ length xs) × (y ≡ x))
 slice_get_push [] y x zero h = inr (refl, cc)
 slice_get_push [] y x (suc i) h = absurd (cc)
@@ -87,6 +88,25 @@ link_correct_push nodes links b h new = record {
       (λ last'. absurd (ne (last.0 ∙ sym last'.0)))
       (slice_get_push links b y j q))
       (slice_get_push links b x i p);
+}
+
+-- ---- one more node
+
+still_there : {T : Type 0} (P : T → Type 0) (xs : List T) (y : T) (i : ℕ) → IsSomeAnd (slice_get xs i) P → IsSomeAnd (slice_get (xs ++ y ∷ []) i) P
+still_there P [] y i some = absurd some
+still_there P (x ∷ xs) y zero some = some
+still_there P (x ∷ xs) y (suc i) some = still_there P xs y i some
+
+node_still_there : (P : NodeKind → Type 0) (nodes : List NodeKind) (more : NodeKind) (id : ℕ) → IsSomeAnd (node_of nodes id) P → IsSomeAnd (node_of (nodes ++ more ∷ []) id) P
+node_still_there P nodes more zero some = some
+node_still_there P nodes more (suc place) some = still_there P nodes more place some
+
+pub node_keeps_correct : (nodes : List NodeKind) (links : List Link) (more : NodeKind) → IsLinkCorrect nodes links → IsLinkCorrect (nodes ++ more ∷ []) links
+node_keeps_correct nodes links more h = record {
+  ends =
+      All-weaker (HasRightEnds nodes) (HasRightEnds (nodes ++ more ∷ []))
+      (λ l e. (node_still_there (Leaves l.link) nodes more l.source e.0, node_still_there (Enters l.link) nodes more l.target e.1)) links h.ends;
+  apart = h.apart;
 }
 
 -- ---- refusals

@@ -1,9 +1,11 @@
-ghost use Rattle.std.specs.Prelude.{◌≡◌, ℕ, [], ◌∷◌, ◌++◌, ◌+◌, ◌<◌, ◌≤◌, ◌↔◌, ◌⊎◌, length, IfOk, OnOk, OnErr, IsOk, IsErrOf};
+ghost use Rattle.std.specs.Prelude.{◌≡◌, ℕ, [], ◌∷◌, ◌++◌, ◌+◌, ◌-◌, ◌<◌, ◌≤◌, ◌↔◌, ◌⊎◌, length, IfOk, OnOk, OnErr, IsOk, IsErrOf};
 ghost use Rattle.wc_graph.specs.Rules.{IsLinkCorrect};
+ghost use Rattle.wc_graph.specs.Index.{Skips, source_of, target_of};
 ghost use Rattle.wc_graph.specs.Refusals.{IsAllowed, Refuses, RefusesExactly};
 
 use crate::copies::{copy_links, copy_nodes};
 use crate::error::GraphError;
+use crate::index::Index;
 use crate::link::Link;
 use crate::node::NodeKind;
 use crate::rules;
@@ -25,12 +27,15 @@ pub type Links = Roomy<Link>;
 pub struct Graph {
     nodes: Nodes,
     links: Links,
+    by_source: Index,
+    by_target: Index,
 }
 
 impl Model for Graph {
     ghost use Rattle.std.specs.Prelude.{◌≤◌, length};
     ghost use Rattle.wc_graph.specs.Rules.{IsLinkCorrect};
     ghost use Rattle.wc_graph.specs.Provenance.{Provenance};
+    ghost use Rattle.wc_graph.specs.Index.{IsIndexed, source_of, target_of};
 
     ghost Value = { Provenance };
 
@@ -41,7 +46,9 @@ impl Model for Graph {
 
     ghost view = { λ a. record { nodes = a.nodes.0; links = a.links.0; node_room = a.nodes.1; link_room = a.links.1 } };
 
-    ghost invariant = { λ a. IsLinkCorrect a.nodes.0 a.links.0 × (length a.nodes.0 ≤ 8000000) };
+    ghost invariant = { λ a. IsLinkCorrect a.nodes.0 a.links.0 × (length a.nodes.0 ≤ 8000000)
+        × IsIndexed source_of a.links.0 (length a.nodes.0) a.by_source
+        × IsIndexed target_of a.links.0 (length a.nodes.0) a.by_target };
 }
 
 impl Graph {
@@ -53,6 +60,8 @@ impl Graph {
         Graph {
             nodes: Nodes::new(alloc),
             links: Links::new(alloc),
+            by_source: Index::new(alloc),
+            by_target: Index::new(alloc),
         }
     }
 
@@ -63,7 +72,14 @@ impl Graph {
     {
         let nodes = copy_nodes(alloc, &self.nodes)?;
         let links = copy_links(alloc, &self.links)?;
-        Ok(Graph { nodes, links })
+        let by_source = self.by_source.copy(alloc)?;
+        let by_target = self.by_target.copy(alloc)?;
+        Ok(Graph {
+            nodes,
+            links,
+            by_source,
+            by_target,
+        })
     }
 
     /// The nodes.
@@ -90,7 +106,61 @@ impl Graph {
         ensures kept { (self.old.node_room ≤ self.new.node_room) × (self.old.link_room ≤ self.new.link_room) }
     {
         self.nodes.reserve(nodes as usize)?;
-        self.links.reserve(links as usize)
+        self.links.reserve(links as usize)?;
+        self.by_source.reserve(nodes as usize, links as usize)?;
+        self.by_target.reserve(nodes as usize, links as usize)
+    }
+
+    /// Where a walk down the links that leave a node begins: at this place, counted from 1, and behind it is none.
+    pub fn last_from(&self, node: u32) -> usize
+        ensures { Skips source_of self.now.links node (length self.now.links) result }
+    {
+        match self.by_source.last_at(node) {
+            Some(at) => at as usize,
+            None => self.links.len(),
+        }
+    }
+
+    /// Where a walk down the links that leave a node goes on below a place, both counted from 1: between them is none.
+    pub fn before_from(&self, node: u32, at: usize) -> usize
+        requires some { 0 < at }
+        requires within { at ≤ length self.now.links }
+        ensures { Skips source_of self.now.links node (at - 1) result }
+    {
+        let place = at - 1;
+        if self.links.as_slice()[place].source != node {
+            return place;
+        }
+        match self.by_source.before_at(place) {
+            Some(before) => before as usize,
+            None => place,
+        }
+    }
+
+    /// Where a walk down the links that enter a node begins: at this place, counted from 1, and behind it is none.
+    pub fn last_into(&self, node: u32) -> usize
+        ensures { Skips target_of self.now.links node (length self.now.links) result }
+    {
+        match self.by_target.last_at(node) {
+            Some(at) => at as usize,
+            None => self.links.len(),
+        }
+    }
+
+    /// Where a walk down the links that enter a node goes on below a place, both counted from 1: between them is none.
+    pub fn before_into(&self, node: u32, at: usize) -> usize
+        requires some { 0 < at }
+        requires within { at ≤ length self.now.links }
+        ensures { Skips target_of self.now.links node (at - 1) result }
+    {
+        let place = at - 1;
+        if self.links.as_slice()[place].target != node {
+            return place;
+        }
+        match self.by_target.before_at(place) {
+            Some(before) => before as usize,
+            None => place,
+        }
     }
 
     /// Puts a node at the end, and gives its number.
@@ -113,6 +183,8 @@ impl Graph {
             return Err(GraphError::Full);
         }
         self.nodes.push(kind)?;
+        self.by_source.add_node();
+        self.by_target.add_node();
         Ok(count as u32 + 1)
     }
 
@@ -122,7 +194,7 @@ impl Graph {
         ensures refusals { RefusesExactly result (Refuses self.now.nodes self.now.links link.now) }
         ensures memory { ¬ IsErrOf result GraphError.OutOfMemory }
     {
-        rules::allow(self.nodes.as_slice(), self.links.as_slice(), link)
+        rules::allow(self, link)
     }
 
     /// Puts a link at the end.
@@ -141,7 +213,11 @@ impl Graph {
         ensures takes { 0 < self.old.link_room → ¬ IsErrOf result GraphError.OutOfMemory }
     {
         self.check_link(&link)?;
+        let source = link.source;
+        let target = link.target;
         self.links.push(link)?;
+        self.by_source.add_link(source);
+        self.by_target.add_link(target);
         Ok(())
     }
 }

@@ -7,6 +7,7 @@
 mod copies;
 mod error;
 mod graph;
+mod index;
 mod link;
 mod node;
 mod rules;

@@ -1,8 +1,10 @@
-ghost use Rattle.std.specs.Prelude.{◌≡◌, ℕ, ◌↔◌, IsTrue, MatchResult, OnOk, IsErrOf};
+ghost use Rattle.std.specs.Prelude.{◌≡◌, ℕ, ◌↔◌, IsTrue, MatchResult, OnOk, IsErrOf, Any};
 ghost use Rattle.wc_graph.specs.Rules.{node_of, Leaves, Enters, TakesTriple, TakesLabel, SharesCreated, SharesCalled, IsCall};
-ghost use Rattle.wc_graph.specs.Refusals.{TripleIsTaken, LabelIsTaken, DataIsCreated, ProcessIsCalled, IsAllowed, Refuses};
+ghost use Rattle.wc_graph.specs.Refusals.{IsAllowed, Refuses};
+ghost use Rattle.wc_graph.specs.Broken.{Breaks, is_at_source};
 
 use crate::error::GraphError;
+use crate::graph::Graph;
 use crate::link::{Link, LinkType};
 use crate::node::NodeKind;
 
@@ -80,32 +82,86 @@ pub fn shares_called(a: &Link, b: &Link) -> bool
     is_call(a.link) && is_call(b.link) && a.target == b.target
 }
 
-/// Whether the triple of the link is taken, where its type has a rule on it.
-fn triple_is_taken(links: &[Link], link: &Link) -> bool
-    ensures { IsTrue result ↔ TripleIsTaken links.now link.now }
-{
-    links.iter().any(|other| takes_triple(other, link))
+/// A rule that a link may break beside another.
+#[derive(Clone, Copy, Debug, PartialEq, Eq)]
+pub(crate) enum Rule {
+    /// No triple twice.
+    Triple,
+    /// A label stands once at its end.
+    Label,
+    /// Data has at most one creator.
+    Creator,
+    /// A process has at most one caller.
+    Caller,
 }
 
-/// Whether the label of the link is taken at its end, where its type has a rule on it.
-fn label_is_taken(links: &[Link], link: &Link) -> bool
-    ensures { IsTrue result ↔ LabelIsTaken links.now link.now }
+/// Whether a link, beside an earlier one, breaks the rule.
+fn breaks(rule: Rule, a: &Link, b: &Link) -> bool
+    ensures { IsTrue result ↔ Breaks rule a.now b.now }
 {
-    links.iter().any(|other| takes_label(other, link))
+    match rule {
+        Rule::Triple => takes_triple(a, b),
+        Rule::Label => takes_label(a, b),
+        Rule::Creator => shares_created(a, b),
+        Rule::Caller => shares_called(a, b),
+    }
 }
 
-/// Whether the link would create data that another created.
-fn data_is_created(links: &[Link], link: &Link) -> bool
-    ensures { IsTrue result ↔ DataIsCreated links.now link.now }
+/// Whether links of this type break the rule beside links from the same source alone. Else it is beside links to the same
+/// target alone.
+fn is_at_source(rule: Rule, link: LinkType) -> bool
+    ensures { result ≡ is_at_source rule link }
 {
-    links.iter().any(|other| shares_created(other, link))
+    match rule {
+        Rule::Triple => matches!(link, LinkType::Return),
+        Rule::Label => matches!(link, LinkType::Create | LinkType::Return),
+        Rule::Creator | Rule::Caller => false,
+    }
 }
 
-/// Whether the link would call a process that another called.
-fn process_is_called(links: &[Link], link: &Link) -> bool
-    ensures { IsTrue result ↔ ProcessIsCalled links.now link.now }
+/// Whether a link would break the rule beside one to its target.
+fn is_broken_into(graph: &Graph, rule: Rule, link: &Link) -> bool
+    requires { (a : Link) → Breaks rule a link.now → a.target ≡ link.now.target }
+    ensures { IsTrue result ↔ Any (λ a. Breaks rule a link.now) graph.now.links }
 {
-    links.iter().any(|other| shares_called(other, link))
+    let links = graph.links().as_slice();
+    let mut at = graph.last_into(link.target);
+    while at > 0 {
+        let other = &links[at - 1];
+        if breaks(rule, other, link) {
+            return true;
+        }
+        at = graph.before_into(link.target, at);
+    }
+    false
+}
+
+/// Whether a link would break the rule beside one from its source.
+fn is_broken_from(graph: &Graph, rule: Rule, link: &Link) -> bool
+    requires { (a : Link) → Breaks rule a link.now → a.source ≡ link.now.source }
+    ensures { IsTrue result ↔ Any (λ a. Breaks rule a link.now) graph.now.links }
+{
+    let links = graph.links().as_slice();
+    let mut at = graph.last_from(link.source);
+    while at > 0 {
+        let other = &links[at - 1];
+        if breaks(rule, other, link) {
+            return true;
+        }
+        at = graph.before_from(link.source, at);
+    }
+    false
+}
+
+/// Whether a link would break the rule beside one of the graph.
+fn is_broken(graph: &Graph, rule: Rule, link: &Link) -> bool
+    ensures { IsTrue result ↔ Any (λ a. Breaks rule a link.now) graph.now.links }
+{
+    if is_at_source(rule, link.link) {
+        is_broken_from(graph, rule, link)
+    } else {
+        is_broken_into(graph, rule, link)
+    }
 }
 
 /// The node with this number.
@@ -123,39 +179,40 @@ fn node_at(nodes: &[NodeKind], id: u32) -> Result<&NodeKind, GraphError>
 }
 
 /// Whether the link may go to the end of the links, or else the first rule that it would break.
-pub(crate) fn allow(nodes: &[NodeKind], links: &[Link], link: &Link) -> Result<(), GraphError>
-    ensures ok { OnOk result (IsAllowed nodes.now links.now link.now) }
+pub(crate) fn allow(graph: &Graph, link: &Link) -> Result<(), GraphError>
+    ensures ok { OnOk result (IsAllowed graph.now.nodes graph.now.links link.now) }
     ensures no_node { (id : ℕ) → IsErrOf result (GraphError.NoNode id)
-        ↔ Refuses nodes.now links.now link.now (GraphError.NoNode id) }
+        ↔ Refuses graph.now.nodes graph.now.links link.now (GraphError.NoNode id) }
     ensures wrong_ends { IsErrOf result GraphError.WrongEnds
-        ↔ Refuses nodes.now links.now link.now GraphError.WrongEnds }
+        ↔ Refuses graph.now.nodes graph.now.links link.now GraphError.WrongEnds }
     ensures triple { IsErrOf result GraphError.TripleTaken
-        ↔ Refuses nodes.now links.now link.now GraphError.TripleTaken }
+        ↔ Refuses graph.now.nodes graph.now.links link.now GraphError.TripleTaken }
     ensures label { IsErrOf result GraphError.LabelTaken
-        ↔ Refuses nodes.now links.now link.now GraphError.LabelTaken }
+        ↔ Refuses graph.now.nodes graph.now.links link.now GraphError.LabelTaken }
     ensures creator { IsErrOf result GraphError.HasCreator
-        ↔ Refuses nodes.now links.now link.now GraphError.HasCreator }
+        ↔ Refuses graph.now.nodes graph.now.links link.now GraphError.HasCreator }
     ensures caller { IsErrOf result GraphError.HasCaller
-        ↔ Refuses nodes.now links.now link.now GraphError.HasCaller }
+        ↔ Refuses graph.now.nodes graph.now.links link.now GraphError.HasCaller }
     ensures memory { ¬ IsErrOf result GraphError.OutOfMemory }
     ensures full { IsErrOf result GraphError.Full
-        ↔ Refuses nodes.now links.now link.now GraphError.Full }
+        ↔ Refuses graph.now.nodes graph.now.links link.now GraphError.Full }
 {
+    let nodes = graph.nodes().as_slice();
     let source = node_at(nodes, link.source)?;
     let target = node_at(nodes, link.target)?;
     if !leaves(link.link, source) || !enters(link.link, target) {
         return Err(GraphError::WrongEnds);
     }
-    if triple_is_taken(links, link) {
+    if is_broken(graph, Rule::Triple, link) {
         return Err(GraphError::TripleTaken);
     }
-    if label_is_taken(links, link) {
+    if is_broken(graph, Rule::Label, link) {
         return Err(GraphError::LabelTaken);
     }
-    if data_is_created(links, link) {
+    if is_broken(graph, Rule::Creator, link) {
         return Err(GraphError::HasCreator);
     }
-    if process_is_called(links, link) {
+    if is_broken(graph, Rule::Caller, link) {
         return Err(GraphError::HasCaller);
     }
     Ok(())

@@ -8,6 +8,7 @@ use Rattle.wc_graph.specs.declared.link.Link.{Link}
 use Rattle.wc_state.specs.declared.environment.NodeValue.{NodeValue}
 use Rattle.wc_world.specs.Records.{is_output_of}
 use Rattle.wc_world.specs.Trees.{NamedValues, value_of, with_value, outputs_after, values_alone}
+use Rattle.wc_world.specs.Linked.{with_plain, plain_after}
 
 -- ---- values alone
 
@@ -25,20 +26,9 @@ values_put : (label : List ℕ) (v : NodeValue) (es : NamedValues) → values_al
 values_put label v [] = refl
 values_put label v (e ∷ es) = value_set label v e es (before e.0 label) (bytes_eq e.0 label) (values_put label v es)
 
--- the values alone with one more, where the node is data
-abbrev pub with_plain : List ℕ → Option Value → List (List ℕ × Value) → List (List ℕ × Value)
-with_plain label None entries = entries
-with_plain label (Some v) entries = put label v entries
-
 with_plain_is : (label : List ℕ) (id : ℕ) (o : Option Value) (es : NamedValues) → values_alone (with_value label id o es) ≡ with_plain label o (values_alone es)
 with_plain_is label id None es = refl
 with_plain_is label id (Some v) es = values_put label (record { node = id; value = v }) es
-
--- what the links of a process lead to, as values alone
-abbrev pub plain_after : List NodeKind → ℕ → List Link → List (List ℕ × Value) → List (List ℕ × Value)
-plain_after nodes pid [] entries = entries
-plain_after nodes pid (l ∷ ls) entries =
-    plain_after nodes pid ls (if is_output_of pid l then with_plain l.label (value_of nodes l.target) entries else entries)
 
 plain_step : (label : List ℕ) (id : ℕ) (o : Option Value) (es : NamedValues) (b : Bool)
     → values_alone (if b then with_value label id o es else es) ≡ (if b then with_plain label o (values_alone es) else values_alone es)

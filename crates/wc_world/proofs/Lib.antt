@@ -25,6 +25,8 @@ pub mod After
 pub mod Lengths
 pub mod Definitions
 pub mod Places
+pub mod LinkWalks
+pub mod Linking
 pub mod Leading
 pub mod Outcomes
 pub mod Telling

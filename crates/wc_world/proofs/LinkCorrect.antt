@@ -1,39 +1,14 @@
 -- Accepted changes keep links correct.
-use Rattle.std.proofs.Common.{ℕ, zero, suc, List, [], ◌∷◌, ◌++◌}
-use Rattle.std.specs.Prelude.{slice_get, IsSomeAnd}
-use Rattle.std.proofs.lemmas.List.Elements.{All-weaker}
-use Rattle.wc_graph.specs.declared.node.NodeKind.{NodeKind}
+use Rattle.std.proofs.Common.{List, [], ◌∷◌}
 use Rattle.wc_graph.specs.declared.node.NodeKind.TheVariants as node
-use Rattle.wc_graph.specs.declared.link.Link.{Link}
-use Rattle.wc_graph.specs.Rules.{node_of, Leaves, Enters, HasRightEnds, IsLinkCorrect}
-use Rattle.wc_graph.proofs.Correct.{link_correct_push}
+use Rattle.wc_graph.specs.Rules.{IsLinkCorrect}
+use Rattle.wc_graph.proofs.Correct.{link_correct_push, node_keeps_correct}
 use Rattle.wc_world.specs.declared.change.Change.{Change}
 use Rattle.wc_world.specs.declared.change.Change.TheVariants as change
 use Rattle.wc_world.specs.World.{World}
 use Rattle.wc_world.specs.Records.{process_node}
 use Rattle.wc_world.specs.Applied.{after_change, changed, begun, applied}
 use Rattle.wc_world.specs.Accepted.{Setting, setting, Fits, Apply, IsAccepted}
-
--- ---- one more node
-
-still_there : {T : Type 0} (P : T → Type 0) (xs : List T) (y : T) (i : ℕ) → IsSomeAnd (slice_get xs i) P → IsSomeAnd (slice_get (xs ++ y ∷ []) i) P
-still_there P [] y i some = absurd some
-still_there P (x ∷ xs) y zero some = some
-still_there P (x ∷ xs) y (suc i) some = still_there P xs y i some
-
-node_still_there : (P : NodeKind → Type 0) (nodes : List NodeKind) (more : NodeKind) (id : ℕ) → IsSomeAnd (node_of nodes id) P → IsSomeAnd (node_of (nodes ++ more ∷ []) id) P
-node_still_there P nodes more zero some = some
-node_still_there P nodes more (suc place) some = still_there P nodes more place some
-
-node_keeps_correct : (nodes : List NodeKind) (links : List Link) (more : NodeKind) → IsLinkCorrect nodes links → IsLinkCorrect (nodes ++ more ∷ []) links
-node_keeps_correct nodes links more h = record {
-  ends =
-      All-weaker (HasRightEnds nodes) (HasRightEnds (nodes ++ more ∷ []))
-      (λ l e. (node_still_there (Leaves l.link) nodes more l.source e.0, node_still_there (Enters l.link) nodes more l.target e.1)) links h.ends;
-  apart = h.apart;
-}
-
--- ---- changes
 
 abbrev AreCorrect : World → Type 0
 AreCorrect w = IsLinkCorrect w.nodes w.links

@@ -15,38 +15,6 @@ use Rattle.wc_world.specs.Consistent.{Stands, IsConsistent}
 use Rattle.wc_world.specs.Trees.{Branch, and_branch, branches, tree_with, tree_within, values_alone, outputs_of}
 use Rattle.wc_world.proofs.FoundRecords.{found_holds, IsDeeper, call_is_deeper, made_there}
 
--- ---- one branch more
-
-branch_first : (kept : List Branch) (label : List ℕ) (t : Tree) (rest : Option (List Branch))
-    → option_map (λ r. (kept ++ (label, t) ∷ []) ++ r) rest ≡ option_map (λ r. kept ++ r) (and_branch (Some t) label rest)
-branch_first kept label t None = refl
-branch_first kept label t (Some rest) = ap Some (append_assoc kept ((label, t) ∷ []) rest)
-
-module _ (tree : ℕ → Option Tree) (pid : ℕ) (ls : List Link) (i : ℕ) (l d : Link) (h : i < length ls) (e : l ≡ get_or ls i d) where
-  left_is : branches tree pid (drop i ls)
-      ≡ (if is_call_from pid l then and_branch (tree l.target) l.label (branches tree pid (drop (i + 1) ls)) else branches tree pid (drop (i + 1) ls))
-  left_is = at_drop_more (branches tree pid) ls i d h ∙ ap (λ (x : Link). branches tree pid (x ∷ drop (i + 1) ls)) (sym e)
-
-  -- a called process is the next branch
-  pub branch_taken : (kept more : List Branch) (t : Tree) → is_call_from pid l ≡ true → Some t ≡ tree l.target → more ≡ kept ++ (l.label, t) ∷ []
-      → option_map (λ rest. more ++ rest) (branches tree pid (drop (i + 1) ls)) ≡ option_map (λ rest. kept ++ rest) (branches tree pid (drop i ls))
-  branch_taken kept more t c p m =
-      let rest = branches tree pid (drop (i + 1) ls) in
-      ap (λ (xs : List Branch). option_map (λ r. xs ++ r) rest) m ∙ branch_first kept l.label t rest
-      ∙ ap (λ (o : Option Tree). option_map (λ r. kept ++ r) (and_branch o l.label rest)) p
-      ∙ ap (λ (b : Bool). option_map (λ r. kept ++ r) (if b then and_branch (tree l.target) l.label rest else rest)) (sym c)
-      ∙ ap (option_map (λ r. kept ++ r)) (sym left_is)
-
-  pub branch_passed : (kept more : List Branch) → is_call_from pid l ≡ false → more ≡ kept
-      → option_map (λ rest. more ++ rest) (branches tree pid (drop (i + 1) ls)) ≡ option_map (λ rest. kept ++ rest) (branches tree pid (drop i ls))
-  branch_passed kept more c m =
-      let rest = branches tree pid (drop (i + 1) ls) in
-      ap (λ (xs : List Branch). option_map (λ r. xs ++ r) rest) m
-      ∙ ap (λ (b : Bool). option_map (λ r. kept ++ r) (if b then and_branch (tree l.target) l.label rest else rest)) (sym c)
-      ∙ ap (option_map (λ r. kept ++ r)) (sym left_is)
-
--- ---- each branch is there
-
 and_there : (t : Option Tree) (label : List ℕ) (rest : Option (List Branch)) → is_some t ≡ true → is_some rest ≡ true → is_some (and_branch t label rest) ≡ true
 and_there None label rest p q = p
 and_there (Some t) label None p q = q

@@ -17,3 +17,4 @@ pub mod TreeLaws
 pub mod Slots
 pub mod Drafts
 pub mod Playing
+pub mod Linked

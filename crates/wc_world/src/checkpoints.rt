@@ -17,7 +17,7 @@ use crate::libraries::definition_in;
 use crate::processes::{has_called, has_ended};
 use crate::records::Records;
 use std::alloc::{AllocError, Global};
-use wc_graph::{Link, NodeKind};
+use wc_graph::{Graph, NodeKind};
 use wc_state::{
     Awaits, Checkpoint, Context, CtxRef, Frame, Frames, Ids, Outs, Part, ProcessRecord,
 };
@@ -56,11 +56,11 @@ fn outline_lengths(alloc: Global, definition: Option<&Definition>) -> Result<Vec
 }
 
 /// Whether each awaited process was called.
-fn awaits_fit(links: &[Link], node: u32, awaiting: &Awaits) -> bool
-    ensures { result ≡ list_all (λ a. has_called links.now node a.pid) awaiting.now }
+fn awaits_fit(graph: &Graph, node: u32, awaiting: &Awaits) -> bool
+    ensures { result ≡ list_all (λ a. has_called graph.now.links node a.pid) awaiting.now }
 {
     for awaited in awaiting.as_slice() {
-        if !has_called(links, node, awaited.pid) {
+        if !has_called(graph, node, awaited.pid) {
             return false;
         }
     }
@@ -153,11 +153,7 @@ fn checkpoint_fits(
     Ok(
         !checkpoint.frames.is_empty()
             && frames_fit(lengths.as_slice(), &checkpoint.frames)
-            && awaits_fit(
-                draft.graph.links().as_slice(),
-                record.node,
-                &checkpoint.awaiting,
-            )
+            && awaits_fit(&draft.graph, record.node, &checkpoint.awaiting)
             && context_fits(&draft.records, &checkpoint.ctx)
             && outputs_fit(draft.graph.nodes().as_slice(), &checkpoint.outputs),
     )

@@ -17,6 +17,7 @@ mod fitting;
 mod in_place;
 mod laws;
 mod libraries;
+mod linked;
 mod outputs;
 mod playing;
 mod processes;

@@ -24,7 +24,7 @@ impl Draft {
     {
         match self.records.find(pid) {
             None => false,
-            Some(record) => !is_settled(self.graph.links().as_slice(), record),
+            Some(record) => !is_settled(&self.graph, record),
         }
     }
 

@@ -1,32 +1,18 @@
 //! The tree that a world records of a process.
 
 ghost use Rattle.std.specs.Prelude.{◌≡◌, ◌↔◌, ◌⊎◌, IfOk, IfErr, IsErrOf};
-ghost use Rattle.wc_world.specs.Records.{find_record, calls, is_call_from};
+ghost use Rattle.wc_world.specs.Records.{find_record};
 ghost use Rattle.wc_world.specs.Trees.{branches, tree_within, recorded_tree};
 
 use crate::error::WorldError;
+use crate::linked::{call_at, places_from};
 use crate::outputs::output_values;
 use crate::world::World;
 use std::alloc::{AllocError, Global};
-use wc_graph::{Link, LinkType};
 use wc_value::{Branches, Duplicate, Tree};
 
 /// How deep calls nest at most.
 const MOST_LEVELS: u32 = 16;
-
-/// Whether links of this type are calls.
-fn calls(link: LinkType) -> bool
-    ensures { result ≡ calls link }
-{
-    matches!(link, LinkType::CallCalc | LinkType::CallWork)
-}
-
-/// Whether the link is a call from this process.
-fn is_call_from(pid: u32, link: &Link) -> bool
-    ensures { result ≡ is_call_from pid link.now }
-{
-    calls(link.link) && link.source == pid
-}
 
 /// The tree of a process, if there is one in which calls nest in at most so many levels.
 #[cycle(tree_within)]
@@ -66,8 +52,9 @@ fn branches(
     ensures { IfOk result (λ calls. calls ≡ branches (tree_within levels world.now.world) pid world.now.world.links) }
 {
     let mut calls = Branches::new(alloc);
-    for link in world.graph().links().as_slice() {
-        if is_call_from(pid, link) {
+    let mut places = places_from(alloc, world.graph(), pid)?;
+    while let Some(place) = places.pop() {
+        if let Some(link) = call_at(world.graph(), pid, place) {
             let Some(tree) = tree_within(alloc, world, link.target, levels)? else {
                 return Ok(None);
             };

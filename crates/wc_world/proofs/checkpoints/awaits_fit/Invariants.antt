@@ -6,5 +6,5 @@ use Rattle.wc_world.proofs.checkpoints.awaits_fit.Given as goal
 
 abbrev pub invariant-loop-awaited : goal.invariant-loop-awaited
 invariant-loop-awaited l =
-    list_all (λ (a : Await). has_called l.links l.fn.node a.pid) (drop l.awaited-index l.awaited-items)
-    ≡ list_all (λ (a : Await). has_called l.links l.fn.node a.pid) l.awaited-items
+    list_all (λ (a : Await). has_called l.graph.links l.fn.node a.pid) (drop l.awaited-index l.awaited-items)
+    ≡ list_all (λ (a : Await). has_called l.graph.links l.fn.node a.pid) l.awaited-items

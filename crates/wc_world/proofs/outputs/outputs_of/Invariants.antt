@@ -1,6 +1,10 @@
-use Rattle.std.proofs.Common.{◌≡◌, [], drop}
+use Rattle.std.proofs.Common.{◌≡◌, [], vec_len}
+use Rattle.wc_world.specs.Linked.{upwards}
 use Rattle.wc_world.specs.Trees.{outputs_after}
 use Rattle.wc_world.proofs.outputs.outputs_of.Given as goal
 
-abbrev pub invariant-loop-link : goal.invariant-loop-link
-invariant-loop-link l = outputs_after l.nodes l.pid (drop l.link-index l.link-items) l.named ≡ outputs_after l.nodes l.pid l.link-items []
+abbrev pub invariant-loop-place : goal.invariant-loop-place
+invariant-loop-place l = outputs_after l.graph.nodes l.pid (upwards l.graph.links l.places.items []) l.named ≡ outputs_after l.graph.nodes l.pid l.graph.links []
+
+abbrev pub decreases-loop-place : goal.decreases-loop-place
+decreases-loop-place l = vec_len l.places

@@ -1,6 +1,9 @@
-use Rattle.std.proofs.Common.{◌≡◌, ◌+◌, ◌≤◌, drop}
+use Rattle.std.proofs.Common.{◌≡◌, ◌+◌, ◌≤◌, length, drop}
 use Rattle.wc_world.specs.Fits.{calls_from}
 use Rattle.wc_world.proofs.processes.calls_from.Given as goal
 
-abbrev pub invariant-loop-link : goal.invariant-loop-link
-invariant-loop-link l = (l.count + calls_from l.fn.pid (drop l.link-index l.links) ≡ calls_from l.fn.pid l.links) × (l.count ≤ l.link-index)
+abbrev pub invariant-loop-at : goal.invariant-loop-at
+invariant-loop-at l = (l.at ≤ length l.links) × (l.count ≡ calls_from l.pid (drop l.at l.links)) × (l.count + l.at ≤ length l.links)
+
+abbrev pub decreases-loop-at : goal.decreases-loop-at
+decreases-loop-at l = l.at

@@ -1,6 +1,9 @@
-use Rattle.std.proofs.Common.{sym, subst}
+use Rattle.std.proofs.Common.{List, length, sym, subst}
 use Rattle.std.proofs.lemmas.Result.{err_from_is_err_and}
 use Rattle.wc_graph.specs.Rules.{IsLinkCorrect}
+use Rattle.wc_graph.specs.declared.link.Link.{Link}
+use Rattle.wc_graph.specs.Index.{IsIndexed, source_of, target_of}
+use Rattle.wc_graph.proofs.Indexing.{with_link}
 use Rattle.wc_graph.specs.Provenance.{Provenance}
 use Rattle.wc_graph.specs.Refusals.{IsAllowed}
 use Rattle.wc_graph.proofs.Correct.{link_correct_push, out_of_memory}
@@ -27,4 +30,17 @@ returns-clause-correct c =
     (link_correct_push old.nodes.0 old.links.0 c.args.link c.self.invariant.0 new)
 
 pub invariant_of-self-2 : goal.invariant_of-self-2
-invariant_of-self-2 c = (returns-clause-correct c, c.self.invariant.1)
+invariant_of-self-2 c =
+    let old = c.self.inside in
+    let i = c.self.invariant in
+    let added = c.in_ok-push.ensures.ok in
+    let a = c.add_link.ensures in
+    let b = c.add_link-2.ensures in
+    let count = length old.nodes.0 in (
+      returns-clause-correct c,
+      i.1,
+      subst (λ (ls : List Link). IsIndexed source_of ls count c.add_link.new.self) (sym added)
+          (with_link source_of old.links.0 count c.args.link old.by_source c.add_link.new.self i.2 a.whole a.adds),
+      subst (λ (ls : List Link). IsIndexed target_of ls count c.add_link-2.new.self) (sym added)
+          (with_link target_of old.links.0 count c.args.link old.by_target c.add_link-2.new.self i.3 b.whole b.adds),
+    )

@@ -15,7 +15,8 @@ use Rattle.wc_calculation.specs.Rules.{Values}
 use Rattle.wc_world.specs.Consistent.{IsShallow}
 use Rattle.wc_world.specs.Records.{is_output_of}
 use Rattle.wc_world.specs.Trees.{data_of, value_of}
-use Rattle.wc_world.proofs.LabelledValues.{with_plain, plain_after, plain_outputs}
+use Rattle.wc_world.specs.Linked.{with_plain, plain_after}
+use Rattle.wc_world.proofs.LabelledValues.{plain_outputs}
 use Rattle.wc_machine.specs.Submitting.{AreInputs}
 use Rattle.wc_caching.specs.Laws.{OutputsAreInputs}
 

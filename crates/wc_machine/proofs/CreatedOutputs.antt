@@ -21,7 +21,8 @@ use Rattle.wc_calculation.specs.Rules.{Values}
 use Rattle.wc_world.specs.Records.{calls, is_input_of, is_output_of}
 use Rattle.wc_world.specs.Fits.{has_output}
 use Rattle.wc_world.specs.Trees.{data_of, value_of, outputs_after, values_alone}
-use Rattle.wc_world.proofs.LabelledValues.{with_plain, plain_after, plain_outputs}
+use Rattle.wc_world.specs.Linked.{with_plain, plain_after}
+use Rattle.wc_world.proofs.LabelledValues.{plain_outputs}
 use Rattle.wc_machine.proofs.Endings.{data_nodes, creates}
 use Rattle.wc_machine.proofs.Frames.{NoInput, NoOutput, NoCalls, outputs_append, outputs_untouched}
 

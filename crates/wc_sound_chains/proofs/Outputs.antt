@@ -27,7 +27,8 @@ use Rattle.wc_world.specs.Fits.{has_output}
 use Rattle.wc_world.specs.Records.{has_ended}
 use Rattle.wc_world.specs.Trees.{value_of, outputs_after, values_alone}
 use Rattle.wc_world.specs.World.{World}
-use Rattle.wc_world.proofs.LabelledValues.{with_plain, plain_after, plain_outputs}
+use Rattle.wc_world.specs.Linked.{with_plain, plain_after}
+use Rattle.wc_world.proofs.LabelledValues.{plain_outputs}
 use Rattle.wc_machine.specs.Calling.{judged, lacks}
 use Rattle.wc_machine.proofs.CreatedOutputs.{without_output}
 use Rattle.wc_machine.proofs.Frames.{outputs_append, outputs_untouched}

@@ -3,11 +3,10 @@
 use crate::stopped::Stopped;
 use crate::store::{Store, values_of};
 use std::alloc::{AllocError, Global};
-use std::mem;
 use wc_calculation::{calculate, final_status};
 use wc_meaning::{find_definition, head};
 use wc_outline::{Advanced, Call, Calls, advance, bind, is_chain};
-use wc_state::{Await, Awaits, Checkpoint, Named, Outs};
+use wc_state::{Await, Awaits, Checkpoint, Env, Named, Outs};
 use wc_syntax::{Checked, Definition, Function};
 use wc_value::{Branches, Duplicate, Fields, ProcessState, Text, Tree};
 
@@ -129,21 +128,40 @@ fn finish(
     Ok(Ended { tree, outputs })
 }
 
-/// One advance of a chain. This says nothing of the call, so that no run carries what it promises.
+/// One advance of a chain in an environment. This says nothing of the call, so that no run carries what it promises.
+fn advance_in(
+    alloc: Global,
+    walk: &Walk<'_>,
+    name: &Text,
+    levels: u32,
+    checkpoint: Checkpoint,
+    env: Env,
+) -> Result<Advanced, Stopped> {
+    if is_chain(walk.library, name) {
+        let depth = DEEPEST.saturating_sub(levels);
+        Ok(advance(alloc, walk.library, name, depth, checkpoint, env)?)
+    } else {
+        let_go(checkpoint);
+        Err(Stopped::Broken)
+    }
+}
+
+/// One advance of a chain, whose checkpoint is handed over.
 fn advance_once(
     alloc: Global,
     walk: &Walk<'_>,
     name: &Text,
     inputs: &Named,
     levels: u32,
-    checkpoint: &Checkpoint,
+    checkpoint: Checkpoint,
 ) -> Result<Advanced, Stopped> {
-    if !is_chain(walk.library, name) {
-        return Err(Stopped::Broken);
+    match walk.store.env(alloc, inputs, &checkpoint.ctx) {
+        Ok(env) => advance_in(alloc, walk, name, levels, checkpoint, env),
+        Err(stopped) => {
+            let_go(checkpoint);
+            Err(stopped)
+        }
     }
-    let env = walk.store.env(alloc, inputs, &checkpoint.ctx)?;
-    let depth = DEEPEST.saturating_sub(levels);
-    Ok(advance(alloc, walk.library, name, depth, checkpoint, env)?)
 }
 
 /// A chain goes on, where a loop turned.
@@ -275,7 +293,7 @@ fn go_on(
     name: &Text,
     inputs: &Named,
     levels: u32,
-    checkpoint: &Checkpoint,
+    checkpoint: Checkpoint,
     branches: &mut Branches,
 ) -> Result<Next, Stopped> {
     match advance_once(alloc, walk, name, inputs, levels, checkpoint)? {
@@ -297,15 +315,17 @@ fn run_from(
     name: &Text,
     inputs: &Named,
     levels: u32,
-    checkpoint: &mut Checkpoint,
+    checkpoint: Checkpoint,
     branches: &mut Branches,
 ) -> Result<(ProcessState, Outs), Stopped> {
+    let mut checkpoint = checkpoint;
     for _advance in 0..MOST_ADVANCES {
         match go_on(alloc, walk, name, inputs, levels, checkpoint, branches)? {
-            Next::On(next) => let_go(mem::replace(checkpoint, next)),
+            Next::On(next) => checkpoint = next,
             Next::Ended(state, outputs) => return Ok((state, outputs)),
         }
     }
+    let_go(checkpoint);
     Err(Stopped::Broken)
 }
 
@@ -319,17 +339,7 @@ pub fn run_chain(
     levels: u32,
 ) -> Result<Ended, Stopped> {
     let mut branches = Branches::new(alloc);
-    let mut checkpoint = Checkpoint::first(alloc)?;
-    let end = run_from(
-        alloc,
-        walk,
-        name,
-        inputs,
-        levels,
-        &mut checkpoint,
-        &mut branches,
-    );
-    let_go(checkpoint);
-    let (state, outputs) = end?;
+    let first = Checkpoint::first(alloc)?;
+    let (state, outputs) = run_from(alloc, walk, name, inputs, levels, first, &mut branches)?;
     finish(alloc, walk, name, state, &outputs, branches)
 }

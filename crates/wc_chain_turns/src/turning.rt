@@ -36,17 +36,17 @@ fn its_checkpoint(standing: &Part) -> &Checkpoint
     }
 }
 
-/// The changes of a chain that evaluates one instruction from a checkpoint.
+/// The changes of a chain that evaluates one instruction from a checkpoint, which is handed over.
 fn advance_from(
     alloc: Global,
     world: &World,
     limits: &Limits,
     process: &ProcessRecord,
-    checkpoint: &Checkpoint,
+    checkpoint: Checkpoint,
 ) -> Result<Changes, TurnError>
     requires limits { AreLimits limits.now }
     requires chain { HasChain world.now.world process.now }
-    requires stands { StandsAt process.now.state process.now.part checkpoint.now }
+    requires stands { StandsAt process.now.state process.now.part checkpoint }
     ensures gives { IfOk result (Gives world.now.world process.now) }
     ensures room { IfOk result (λ cs. HasRoom limits.now.max_nodes (applied world.now.world cs)) }
     ensures refused { IfErr result (FullOf (Gives world.now.world process.now) limits.now.max_nodes world.now.world) }
@@ -118,10 +118,11 @@ pub fn chain_turn(
     match process.state {
         ProcessState::Created => {
             let first = Checkpoint::first(alloc)?;
-            advance_from(alloc, world, limits, process, &first)
+            advance_from(alloc, world, limits, process, first)
         }
         ProcessState::Running => {
-            advance_from(alloc, world, limits, process, its_checkpoint(&process.part))
+            let own = its_checkpoint(&process.part).copy()?;
+            advance_from(alloc, world, limits, process, own)
         }
         ProcessState::Waiting => {
             bind_from(alloc, world, limits, process, its_checkpoint(&process.part))

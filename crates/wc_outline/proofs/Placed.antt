@@ -1,5 +1,5 @@
 -- An advance by where its chain stands.
-use Rattle.std.proofs.Common.{◌≡◌, ℕ, List, [], ◌∷◌, Option, Some, None, refl, sym, ap, subst, ◌∙◌}
+use Rattle.std.proofs.Common.{◌≡◌, ℕ, Bool, true, false, List, [], ◌∷◌, Option, Some, None, refl, sym, ap, subst, ◌∙◌}
 use Rattle.std.specs.Prelude.{nat_le, reverse, option_map, slice_get}
 use Rattle.std.proofs.lemmas.List.{reverse-reverse}
 use Rattle.wc_value.specs.declared.process.ProcessState.TheVariants.{Finished}
@@ -16,19 +16,25 @@ use Rattle.wc_syntax.specs.declared.outline.Step.{Step}
 use Rattle.wc_state.specs.declared.environment.Env.{Env}
 use Rattle.wc_state.specs.declared.record.Checkpoint.{Checkpoint}
 use Rattle.wc_state.specs.declared.record.Frame.{Frame}
+use Rattle.wc_expression.specs.declared.outcome.Outcome.{Outcome}
+use Rattle.wc_expression.specs.declared.outcome.Outcome.TheVariants.{Gives, Faults}
 use Rattle.wc_expression.specs.Val.{holds}
 use Rattle.wc_semantics.specs.Meaning.{kinds_of, takes_of}
 use Rattle.wc_semantics.specs.Run.{picked, returned}
 use Rattle.wc_machine.specs.Advancing.{ends, past, at_head, numbered_arms, after_arms, other_number, chosen, turned, done, does, at_innermost}
 use Rattle.wc_machine.specs.Outlines.{Blocks, block_of}
+use Rattle.wc_machine.specs.Stepping as machine
 use Rattle.wc_machine.specs.Stepping.{statements}
-use Rattle.wc_outline.specs.declared.calls.Advanced.{Advanced}
+use Rattle.wc_outline.specs.declared.answering.Next.{Next}
+use Rattle.wc_outline.specs.declared.answering.Next.TheVariants as next
+use Rattle.wc_outline.specs.declared.calls.Advanced.{Advanced as Answered}
 use Rattle.wc_outline.specs.declared.calls.Advanced.TheVariants as advanced
+use Rattle.wc_outline.specs.declared.statements.Noted.{Noted}
 use Rattle.wc_outline.specs.declared.statements.Scene.{Scene}
-use Rattle.wc_outline.specs.Places.{Standing, front_of, standing, first_number}
+use Rattle.wc_outline.specs.Places.{Standing, front_of, standing, first_number, picked_from}
 use Rattle.wc_outline.specs.Shown.{shown}
-use Rattle.wc_outline.specs.Statements.{statements_in, came_to, unnoted}
-use Rattle.wc_outline.proofs.Stepped.{statements_shown, step_shown}
+use Rattle.wc_outline.specs.Statements.{statements_in, came_to, answered, chosen_next, turned_next, unnoted}
+use Rattle.wc_outline.proofs.Stepped.{shown_step, statements_shown, step_shown}
 
 -- ---- the instruction that comes next
 
@@ -69,37 +75,74 @@ module _ (library : List Definition) (k : Chain) (depth : ℕ) (env : Env) (c : 
 out_is : (i j : Instr) (y : Instr-F Instr Arm Block) → i ≡ j → out-Instr j ≡ y → out-Instr i ≡ y
 out_is i j y h e = ap out-Instr h ∙ e
 
-module _ (x : Scene) (env : Env) (bs : Blocks) (f : Frame) (front : List Instr) (outer : List Frame) (i : Instr) (there : front ≡ front_of bs f) where
-  abbrev pub it : Advanced
-  it = shown (done x.library.now x.chain.now x.depth env x.checkpoint.now bs (out-Instr i) f (reverse outer))
+module _ (library : List Definition) (k : Chain) (depth : ℕ) (env : Env) (c : Checkpoint) where
+  chosen_answered : (o : Outcome (Option ℕ)) (fs : List Frame) → answered c.awaiting c.calls (chosen_next o fs) (unnoted env c) ≡ shown (chosen library k depth env c o fs)
+  chosen_answered (Faults r) fs = refl
+  chosen_answered (Gives block) fs = refl
 
-  by_form : (y : Instr-F Instr Arm Block) → out-Instr i ≡ y → shown (done x.library.now x.chain.now x.depth env x.checkpoint.now bs y f (reverse outer)) ≡ it
-  by_form y h = ap (λ (z : Instr-F Instr Arm Block). shown (done x.library.now x.chain.now x.depth env x.checkpoint.now bs z f (reverse outer))) (sym h)
+  turned_answered : (o : Outcome Bool) (inside outside : List Frame)
+      → answered c.awaiting c.calls (turned_next o inside outside) (unnoted env c) ≡ shown (turned library k depth env c o inside outside)
+  turned_answered (Faults r) inside outside = refl
+  turned_answered (Gives true) inside outside = refl
+  turned_answered (Gives false) inside outside = refl
 
-  pub step_there : (s : Step) → i ≡ instr.Step s
-      → came_to x.checkpoint.now (reverse (past f ∷ reverse outer)) (statements_in x s.stmts (unnoted env x.checkpoint.now)) ≡ it
-  step_there s h =
-      let c = x.checkpoint.now in
-      ap (came_to c (reverse (past f ∷ reverse outer))) (sym (statements_shown x s.stmts (record { env = env; ctx = c.ctx; outputs = c.outputs; calls = [] })))
-      ∙ sym (step_shown x.library.now x.chain.now x.depth env c
-      (statements c.calls (nat_le 16 x.depth) (takes_of x.library.now) (kinds_of x.chain.now.head.outputs) s.stmts (record { env = env; ctx = c.ctx; outputs = c.outputs; calls = [] }))
-      (past f ∷ reverse outer))
+-- an answer by what was noted first
+from_unnoted : (c : Checkpoint) (env : Env) (n : Next) (s : Noted) (a : Answered) → s ≡ unnoted env c → answered c.awaiting c.calls n (unnoted env c) ≡ a → answered c.awaiting c.calls n s ≡ a
+from_unnoted c env n s a h e = ap (answered c.awaiting c.calls n) h ∙ e
+
+module _ (x : Scene) (c : Checkpoint) (env : Env) (bs : Blocks) (f : Frame) (front : List Instr) (outer : List Frame) (i : Instr) (there : front ≡ front_of bs f) where
+  abbrev pub it : Answered
+  it = shown (done x.library.now x.chain.now x.depth env c bs (out-Instr i) f (reverse outer))
+
+  by_form : (y : Instr-F Instr Arm Block) → out-Instr i ≡ y → shown (done x.library.now x.chain.now x.depth env c bs y f (reverse outer)) ≡ it
+  by_form y h = ap (λ (z : Instr-F Instr Arm Block). shown (done x.library.now x.chain.now x.depth env c bs z f (reverse outer))) (sym h)
+
+  pub step_there : (s : Step) → i ≡ instr.Step s → x.calls ≡ c.calls
+      → came_to c.awaiting c.calls (reverse (past f ∷ reverse outer)) (statements_in x s.stmts (unnoted env c)) ≡ it
+  step_there s h same =
+      let start : machine.Noted = record { env = env; ctx = c.ctx; outputs = c.outputs; calls = [] } in
+      let ss = λ (n : ℕ). statements n (nat_le 16 x.depth) (takes_of x.library.now) (kinds_of x.chain.now.head.outputs) s.stmts start in
+      ap (came_to c.awaiting c.calls (reverse (past f ∷ reverse outer))) (sym (statements_shown x s.stmts start) ∙ ap (λ (n : ℕ). shown_step (ss n)) same)
+      ∙ sym (step_shown x.library.now x.chain.now x.depth env c (ss c.calls) (past f ∷ reverse outer))
       ∙ by_form (Instr-F.Step s) (out_is i (instr.Step s) (Instr-F.Step s) h (ap out-Instr (sym (instr.rolls-Step s)) ∙ out-roll-Instr (Instr-F.Step s)))
 
   pub if_there : (at : ℕ) (arms : List Arm) (other : Option Block) → i ≡ instr.If at arms other
-      → shown (chosen x.library.now x.chain.now x.depth env x.checkpoint.now
-      (picked (numbered_arms (first_number f front) arms) (other_number (after_arms (first_number f front) arms) other) env) (past f ∷ reverse outer)) ≡ it
+      → answered c.awaiting c.calls (chosen_next (picked_from (first_number f front) arms other env) (past f ∷ reverse outer)) (unnoted env c) ≡ it
   if_there at arms other h =
-      ap (λ (is : List Instr). shown (chosen x.library.now x.chain.now x.depth env x.checkpoint.now
+      chosen_answered x.library.now x.chain.now x.depth env c (picked_from (first_number f front) arms other env) (past f ∷ reverse outer)
+      ∙ ap (λ (is : List Instr). shown (chosen x.library.now x.chain.now x.depth env c
       (picked (numbered_arms (first_number f is) arms) (other_number (after_arms (first_number f is) arms) other) env) (past f ∷ reverse outer))) there
       ∙ by_form (Instr-F.If at arms other) (out_is i (instr.If at arms other) (Instr-F.If at arms other) h (ap out-Instr (sym (instr.rolls-If at arms other)) ∙ out-roll-Instr (Instr-F.If at arms other)))
 
   pub while_there : (at : ℕ) (e : Expr) (b : Block) → i ≡ instr.While at e b
-      → shown (turned x.library.now x.chain.now x.depth env x.checkpoint.now (holds e env) (at_head (first_number f front) ∷ (f ∷ reverse outer)) (past f ∷ reverse outer)) ≡ it
+      → answered c.awaiting c.calls (turned_next (holds e env) (at_head (first_number f front) ∷ (f ∷ reverse outer)) (past f ∷ reverse outer)) (unnoted env c) ≡ it
   while_there at e b h =
-      ap (λ (is : List Instr). shown (turned x.library.now x.chain.now x.depth env x.checkpoint.now (holds e env) (at_head (first_number f is) ∷ (f ∷ reverse outer)) (past f ∷ reverse outer))) there
+      turned_answered x.library.now x.chain.now x.depth env c (holds e env) (at_head (first_number f front) ∷ (f ∷ reverse outer)) (past f ∷ reverse outer)
+      ∙ ap (λ (is : List Instr). shown (turned x.library.now x.chain.now x.depth env c (holds e env) (at_head (first_number f is) ∷ (f ∷ reverse outer)) (past f ∷ reverse outer))) there
       ∙ by_form (Instr-F.While at e b) (out_is i (instr.While at e b) (Instr-F.While at e b) h (ap out-Instr (sym (instr.rolls-While at e b)) ∙ out-roll-Instr (Instr-F.While at e b)))
 
-  pub return_there : (at : ℕ) (n : Option Number) → i ≡ instr.Return at n → advanced.Ends (Finished (returned n)) x.checkpoint.now.outputs ≡ it
+  pub return_there : (at : ℕ) (n : Option Number) → i ≡ instr.Return at n → advanced.Ends (Finished (returned n)) c.outputs ≡ it
   return_there at n h =
       by_form (Instr-F.Return at n) (out_is i (instr.Return at n) (Instr-F.Return at n) h (ap out-Instr (sym (instr.rolls-Return at n)) ∙ out-roll-Instr (Instr-F.Return at n)))
+
+  -- the same of an answer, by what was noted first
+
+  pub if_next : (at : ℕ) (arms : List Arm) (other : Option Block) (n : Next) (s : Noted) → i ≡ instr.If at arms other
+      → n ≡ chosen_next (picked_from (first_number f front) arms other env) (past f ∷ reverse outer) → s ≡ unnoted env c → answered c.awaiting c.calls n s ≡ it
+  if_next at arms other n s h e u = from_unnoted c env n s it u (ap (λ (m : Next). answered c.awaiting c.calls m (unnoted env c)) e ∙ if_there at arms other h)
+
+  pub while_next : (at : ℕ) (e : Expr) (b : Block) (n : Next) (s : Noted) → i ≡ instr.While at e b
+      → n ≡ turned_next (holds e env) (at_head (first_number f front) ∷ (f ∷ reverse outer)) (past f ∷ reverse outer) → s ≡ unnoted env c
+      → answered c.awaiting c.calls n s ≡ it
+  while_next at e b n s h q u = from_unnoted c env n s it u (ap (λ (m : Next). answered c.awaiting c.calls m (unnoted env c)) q ∙ while_there at e b h)
+
+  pub return_next : (at : ℕ) (code : Option Number) (number : ℕ) (s : Noted) → i ≡ instr.Return at code → number ≡ returned code → s ≡ unnoted env c
+      → answered c.awaiting c.calls (next.Ends (Finished number)) s ≡ it
+  return_next at code number s h e u =
+      from_unnoted c env (next.Ends (Finished number)) s it u (ap (λ (n : ℕ). advanced.Ends (Finished n) c.outputs) e ∙ return_there at code h)
+
+  pub step_next : (st : Step) (n : Next) (s after : Noted) → i ≡ instr.Step st → x.calls ≡ c.calls
+      → answered c.awaiting c.calls n after ≡ came_to c.awaiting c.calls (reverse (past f ∷ reverse outer)) (statements_in x st.stmts s) → s ≡ unnoted env c
+      → answered c.awaiting c.calls n after ≡ it
+  step_next st n s after h same e u =
+      e ∙ ap (λ (z : Noted). came_to c.awaiting c.calls (reverse (past f ∷ reverse outer)) (statements_in x st.stmts z)) u ∙ step_there st h same

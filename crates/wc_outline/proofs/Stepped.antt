@@ -69,9 +69,9 @@ both_mapped (Faults r) f g h k q = refl
 
 module _ (x : Scene) where
   collected_is : (c : CallStmt) (s : machine.Noted)
-      → mapped shown_call (collected x.checkpoint.now.calls (nat_le 16 x.depth) (takes_of x.library.now) (kinds_of x.chain.now.head.outputs) c s) ≡ collected_in x c (noted s)
+      → mapped shown_call (collected x.calls (nat_le 16 x.depth) (takes_of x.library.now) (kinds_of x.chain.now.head.outputs) c s) ≡ collected_in x c (noted s)
   collected_is c s =
-      let calls = x.checkpoint.now.calls in
+      let calls = x.calls in
       or_depth shown_call (nat_le 16 x.depth) _ _
       (both_mapped (arguments c.args s.env []) _ _ shown_call (planned c (calls + length s.calls + 1))
       (λ args. goods shown_call (planned c (calls + length s.calls + 1)) (takes_of x.library.now c.callee.text (values_in args)) _ (shown_arguments args) refl)
@@ -80,7 +80,7 @@ module _ (x : Scene) where
   -- ---- statements in order
 
   pub statements_shown : (ss : List Stmt) (s : machine.Noted)
-      → shown_step (machine.statements x.checkpoint.now.calls (nat_le 16 x.depth) (takes_of x.library.now) (kinds_of x.chain.now.head.outputs) ss s) ≡ statements_in x ss (noted s)
+      → shown_step (machine.statements x.calls (nat_le 16 x.depth) (takes_of x.library.now) (kinds_of x.chain.now.head.outputs) ss s) ≡ statements_in x ss (noted s)
   statements_shown [] s = refl
   statements_shown (stmt.Ctx at key e ∷ ss) s =
       or_shown (λ v. v) (val e s.env) _ s _ _ (mapped_same (val e s.env)) (λ v. statements_shown ss (machine.with_plain key.text v s))
@@ -90,14 +90,14 @@ module _ (x : Scene) where
       or_shown (λ b. b) (is_taken e.condition s.env) _ s _ _ (mapped_same (is_taken e.condition s.env))
       (λ b. either b _ _ _ _ (exits_shown (status_of e) s (statements_in x ss)) (statements_shown ss s))
   statements_shown (stmt.Call c ∷ ss) s =
-      or_shown shown_call (collected x.checkpoint.now.calls (nat_le 16 x.depth) (takes_of x.library.now) (kinds_of x.chain.now.head.outputs) c s) _ s _ _ (collected_is c s)
+      or_shown shown_call (collected x.calls (nat_le 16 x.depth) (takes_of x.library.now) (kinds_of x.chain.now.head.outputs) c s) _ s _ _ (collected_is c s)
       (λ p. statements_shown ss (machine.with_call p s)
       ∙ ap (λ (calls : List Call). statements_in x ss (record { env = s.env; ctx = s.ctx; outputs = s.outputs; calls = calls })) (map-append shown_call s.calls (p ∷ [])))
 
 -- ---- what a step comes to
 
 pub step_shown : (library : List Definition) (k : Chain) (depth : ℕ) (env : Env) (c : Checkpoint) (t : machine.Stepped) (fs : List Frame)
-    → shown (after_step library k depth env c t fs) ≡ came_to c (reverse fs) (shown_step t)
+    → shown (after_step library k depth env c t fs) ≡ came_to c.awaiting c.calls (reverse fs) (shown_step t)
 step_shown library k depth env c (machine.stops s outputs) fs = refl
 step_shown library k depth env c (machine.makes ctx outputs []) fs = refl
 step_shown library k depth env c (machine.makes ctx outputs (x ∷ xs)) fs = refl

@@ -1,5 +1,5 @@
 -- The statements of a step, as the machine has them, with what is answered of calls.
-use Rattle.std.specs.Prelude.{ℕ, zero, suc, ◌+◌, nat_le, if◌then◌else◌, List, [], ◌∷◌, ◌++◌, length, Option, Some, None}
+use Rattle.std.specs.Prelude.{◌≡◌, ℕ, zero, suc, ◌+◌, nat_le, Bool, true, false, if◌then◌else◌, List, [], ◌∷◌, ◌++◌, length, reverse, Option, Some, None}
 use Rattle.wc_value.specs.Ascending.{put}
 use Rattle.wc_value.specs.declared.process.ProcessState.{ProcessState}
 use Rattle.wc_value.specs.declared.process.ProcessState.TheVariants.{Finished, Excepted}
@@ -12,6 +12,7 @@ use Rattle.wc_state.specs.Context.{Pairs, with_set}
 use Rattle.wc_state.specs.declared.context.CtxRef.TheVariants as held
 use Rattle.wc_state.specs.declared.environment.Env.{Env}
 use Rattle.wc_state.specs.declared.environment.Item.TheVariants as item
+use Rattle.wc_state.specs.declared.record.Await.{Await}
 use Rattle.wc_state.specs.declared.record.Checkpoint.{Checkpoint}
 use Rattle.wc_state.specs.declared.record.Frame.{Frame}
 use Rattle.wc_expression.specs.declared.outcome.Outcome.{Outcome}
@@ -23,7 +24,10 @@ use Rattle.wc_semantics.specs.Meaning.{kinds_of, takes_of}
 use Rattle.wc_semantics.specs.Run.{label}
 use Rattle.wc_semantics.specs.Statements.{with_key}
 use Rattle.wc_semantics.specs.Tables.{Label}
+use Rattle.wc_machine.specs.Advancing.{entered}
 use Rattle.wc_machine.specs.Stepping.{output}
+use Rattle.wc_outline.specs.declared.answering.Next.{Next}
+use Rattle.wc_outline.specs.declared.answering.Next.TheVariants as next
 use Rattle.wc_outline.specs.declared.calls.Advanced.{Advanced}
 use Rattle.wc_outline.specs.declared.calls.Advanced.TheVariants as advanced
 use Rattle.wc_outline.specs.declared.calls.Argument.{Argument}
@@ -74,7 +78,7 @@ module _ (x : Scene) where
   abbrev pub collected_in : CallStmt → Noted → Outcome Call
   collected_in c s =
       if nat_le 16 x.depth then Faults Depth
-      else mapped (planned c (x.checkpoint.now.calls + length s.calls + 1)) (taken_arguments (takes_of x.library.now) c s.env)
+      else mapped (planned c (x.calls + length s.calls + 1)) (taken_arguments (takes_of x.library.now) c s.env)
 
   abbrev pub statements_in : List Stmt → Noted → Stepped
   statements_in [] s = stepped None s
@@ -84,12 +88,34 @@ module _ (x : Scene) where
   statements_in (stmt.Exit e ∷ ss) s = or_stops (is_taken e.condition s.env) s (λ b. if b then comes (left_by (status_of e)) s (statements_in ss) else statements_in ss s)
   statements_in (stmt.Call c ∷ ss) s = or_stops (collected_in c s) s (λ p. statements_in ss (with_call p s))
 
--- what a step comes to: its chain goes on or waits at these frames, or ends
-abbrev pub came_to : Checkpoint → List Frame → Stepped → Advanced
-came_to c fs (stops s outputs) = advanced.Ends s outputs
-came_to c fs (makes ctx outputs []) = advanced.Goes (record { frames = fs; ctx = ctx; awaiting = c.awaiting; calls = c.calls; outputs = outputs })
-came_to c fs (makes ctx outputs (x ∷ xs)) = advanced.Submits (record { frames = fs; ctx = ctx; awaiting = c.awaiting; calls = c.calls; outputs = outputs }) (x ∷ xs)
+-- what a step comes to: its chain goes on or waits at these frames, with what it awaits and has called, or ends
+abbrev pub came_to : List Await → ℕ → List Frame → Stepped → Advanced
+came_to awaiting called fs (stops s outputs) = advanced.Ends s outputs
+came_to awaiting called fs (makes ctx outputs []) = advanced.Goes (record { frames = fs; ctx = ctx; awaiting = awaiting; calls = called; outputs = outputs })
+came_to awaiting called fs (makes ctx outputs (x ∷ xs)) =
+    advanced.Submits (record { frames = fs; ctx = ctx; awaiting = awaiting; calls = called; outputs = outputs }) (x ∷ xs)
+
+-- what is answered of an instruction, by what it came to and what was noted
+abbrev pub answered : List Await → ℕ → Next → Noted → Advanced
+answered awaiting called (next.Goes fs) s = came_to awaiting called fs (stepped None s)
+answered awaiting called (next.Loops fs) s = advanced.Loops (record { frames = fs; ctx = s.ctx; awaiting = awaiting; calls = called; outputs = s.outputs })
+answered awaiting called (next.Ends state) s = advanced.Ends state s.outputs
+
+-- where an `if` leads from frames behind it, the innermost first
+abbrev pub chosen_next : Outcome (Option ℕ) → List Frame → Next
+chosen_next (Faults r) fs = next.Ends (Excepted r)
+chosen_next (Gives block) fs = next.Goes (reverse (entered block fs))
+
+-- where a `while` leads: to frames inside it, or to those behind it
+abbrev pub turned_next : Outcome Bool → (inside outside : List Frame) → Next
+turned_next (Faults r) inside outside = next.Ends (Excepted r)
+turned_next (Gives true) inside outside = next.Loops (reverse inside)
+turned_next (Gives false) inside outside = next.Goes (reverse outside)
 
 -- where the statements of a step begin
 abbrev pub unnoted : Env → Checkpoint → Noted
 unnoted env c = record { env = env; ctx = c.ctx; outputs = c.outputs; calls = [] }
+
+-- nothing is noted yet but what a checkpoint has
+abbrev pub IsUnnoted : Scene → Checkpoint → Noted → Type 0
+IsUnnoted x c s = (s ≡ unnoted s.env c) × (x.calls ≡ c.calls)

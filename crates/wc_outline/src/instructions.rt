@@ -1,24 +1,26 @@
 //! What the instruction does that comes next.
 
-ghost use Rattle.std.specs.Prelude.{◌≡◌, ◌+◌, ◌^◌, ◌<◌, ◌∷◌, length, reverse, suc, IfOk};
+ghost use Rattle.std.specs.Prelude.{◌≡◌, ◌+◌, ◌^◌, ◌<◌, ◌∷◌, ℕ, List, length, reverse, suc, IfOk};
 ghost use Rattle.wc_syntax.specs.declared.outline.Instr.{out-Instr};
+ghost use Rattle.wc_state.specs.declared.record.Await.{Await};
+ghost use Rattle.wc_state.specs.declared.record.Checkpoint.{Checkpoint};
 ghost use Rattle.wc_expression.specs.Val.{holds};
 ghost use Rattle.wc_semantics.specs.Run.{returned};
-ghost use Rattle.wc_machine.specs.Advancing.{past, at_head, chosen, turned, done};
+ghost use Rattle.wc_machine.specs.Advancing.{past, at_head, done};
 ghost use Rattle.wc_machine.specs.Outlines.{Blocks, blocks_in};
 ghost use Rattle.wc_outline.specs.Places.{first_number, front_of, picked_from, if_blocks, Fit};
 ghost use Rattle.wc_outline.specs.Shown.{shown};
-ghost use Rattle.wc_outline.specs.Statements.{stepped, statements_in, came_to, unnoted};
+ghost use Rattle.wc_outline.specs.Statements.{chosen_next, turned_next, statements_in, came_to, answered, IsUnnoted};
 
+use crate::answering::Next;
 use crate::blocks::{number_behind, put_block, put_blocks};
-use crate::calls::{Advanced, Calls};
 use crate::frames::Place;
 use crate::statements::{Noted, Scene, run_statements};
 use std::alloc::{AllocError, Global};
 use wc_expression::{Outcome, eval_condition};
-use wc_state::{Checkpoint, Env, Frame, Frames};
+use wc_state::{Env, Frame, Frames};
 use wc_syntax::{Arms, Block, Expr, Instr, Instrs, Number, Step};
-use wc_value::{Duplicate, List, ProcessState, Reason};
+use wc_value::{List, ProcessState};
 
 /// The frame with the next instruction.
 fn past(frame: Frame) -> Frame
@@ -48,26 +50,6 @@ fn frames_in(alloc: Global, outer: &[Frame], frame: Frame, block: u32) -> Result
     let mut frames = frames_on(alloc, outer, frame)?;
     frames.push(Frame { block, next: 0 })?;
     Ok(frames)
-}
-
-/// A checkpoint at other frames.
-fn at_frames(checkpoint: &Checkpoint, frames: Frames) -> Result<Checkpoint, AllocError>
-    ensures { IfOk result (λ c. c ≡ record { frames = frames; ctx = checkpoint.now.ctx; awaiting = checkpoint.now.awaiting; calls = checkpoint.now.calls; outputs = checkpoint.now.outputs }) }
-{
-    Ok(Checkpoint {
-        frames,
-        ctx: checkpoint.ctx.copy()?,
-        awaiting: checkpoint.awaiting.copy()?,
-        calls: checkpoint.calls,
-        outputs: checkpoint.outputs.copy()?,
-    })
-}
-
-/// The end of a chain that has the outputs of its checkpoint.
-fn end(checkpoint: &Checkpoint, state: ProcessState) -> Result<Advanced, AllocError>
-    ensures { IfOk result (λ a. a ≡ Advanced.Ends state checkpoint.now.outputs) }
-{
-    Ok(Advanced::Ends(state, checkpoint.outputs.copy()?))
 }
 
 /// The number of a block that is entered behind these.
@@ -107,26 +89,24 @@ fn pick(
 /// An `if` moves past itself, and enters the block of the first true condition, or that of the `else`, or none.
 fn advance_if(
     alloc: Global,
-    scene: Scene<'_>,
     place: Place<'_>,
     arms: &Arms,
     other: &Option<Block>,
     env: &Env,
-) -> Result<Advanced, AllocError>
+) -> Result<Next, AllocError>
     requires next { place.frame.next < 0xffffffff }
     requires numbers { Fit (first_number place.frame place.front.now) (length (if_blocks arms.now other.now)) }
-    ensures { IfOk result (λ a. a ≡ shown (chosen scene.entry.library.now scene.entry.chain.now scene.entry.depth env.now scene.entry.checkpoint.now (picked_from (first_number place.entry.frame place.entry.front.now) arms.now other.now env.now) (past place.entry.frame ∷ reverse place.entry.outer.now))) }
+    ensures { IfOk result (λ next. next ≡ chosen_next (picked_from (first_number place.entry.frame place.entry.front.now) arms.now other.now env.now) (past place.entry.frame ∷ reverse place.entry.outer.now)) }
 {
     match pick(alloc, place, arms, other, env)? {
-        Outcome::Gives(Some(block)) => {
-            let frames = frames_in(alloc, place.outer, past(place.frame), block)?;
-            Ok(Advanced::Goes(at_frames(scene.checkpoint, frames)?))
-        }
-        Outcome::Gives(None) => {
-            let frames = frames_on(alloc, place.outer, past(place.frame))?;
-            Ok(Advanced::Goes(at_frames(scene.checkpoint, frames)?))
-        }
-        Outcome::Faults(reason) => end(scene.checkpoint, ProcessState::Excepted(reason)),
+        Outcome::Gives(Some(block)) => Ok(Next::Goes(frames_in(
+            alloc,
+            place.outer,
+            past(place.frame),
+            block,
+        )?)),
+        Outcome::Gives(None) => Ok(Next::Goes(frames_on(alloc, place.outer, past(place.frame))?)),
+        Outcome::Faults(reason) => Ok(Next::Ends(ProcessState::Excepted(reason))),
     }
 }
 
@@ -143,50 +123,22 @@ fn inner_number(alloc: Global, place: Place<'_>) -> Result<u32, AllocError>
 /// A `while` whose condition holds enters its body and stays where it is, and else moves past itself.
 fn advance_while(
     alloc: Global,
-    scene: Scene<'_>,
     place: Place<'_>,
     condition: &Expr,
     env: &Env,
-) -> Result<Advanced, AllocError>
+) -> Result<Next, AllocError>
     requires next { place.frame.next < 0xffffffff }
     requires number { first_number place.frame place.front.now < 2 ^ 32 }
-    ensures { IfOk result (λ a. a ≡ shown (turned scene.entry.library.now scene.entry.chain.now scene.entry.depth env.now scene.entry.checkpoint.now (holds condition.now env.now) (at_head (first_number place.entry.frame place.entry.front.now) ∷ (place.entry.frame ∷ reverse place.entry.outer.now)) (past place.entry.frame ∷ reverse place.entry.outer.now))) }
+    ensures { IfOk result (λ next. next ≡ turned_next (holds condition.now env.now) (at_head (first_number place.entry.frame place.entry.front.now) ∷ (place.entry.frame ∷ reverse place.entry.outer.now)) (past place.entry.frame ∷ reverse place.entry.outer.now)) }
 {
     match eval_condition(alloc, condition, env)? {
         Outcome::Gives(true) => {
             let block = inner_number(alloc, place)?;
             let frames = frames_in(alloc, place.outer, place.frame, block)?;
-            Ok(Advanced::Loops(at_frames(scene.checkpoint, frames)?))
+            Ok(Next::Loops(frames))
         }
-        Outcome::Gives(false) => {
-            let frames = frames_on(alloc, place.outer, past(place.frame))?;
-            Ok(Advanced::Goes(at_frames(scene.checkpoint, frames)?))
-        }
-        Outcome::Faults(reason) => end(scene.checkpoint, ProcessState::Excepted(reason)),
-    }
-}
-
-/// What a step whose calls are made comes to: without calls the chain goes on, and with calls it waits for them.
-fn go_on(checkpoint: &Checkpoint, frames: Frames, noted: Noted) -> Result<Advanced, AllocError>
-    ensures { IfOk result (λ a. a ≡ came_to checkpoint.now frames (stepped None noted)) }
-{
-    let Noted {
-        env: _,
-        ctx,
-        outputs,
-        calls,
-    } = noted;
-    let next = Checkpoint {
-        frames,
-        ctx,
-        awaiting: checkpoint.awaiting.copy()?,
-        calls: checkpoint.calls,
-        outputs,
-    };
-    if calls.is_empty() {
-        Ok(Advanced::Goes(next))
-    } else {
-        Ok(Advanced::Submits(next, calls))
+        Outcome::Gives(false) => Ok(Next::Goes(frames_on(alloc, place.outer, past(place.frame))?)),
+        Outcome::Faults(reason) => Ok(Next::Ends(ProcessState::Excepted(reason))),
     }
 }
 
@@ -196,23 +148,14 @@ fn advance_step(
     scene: Scene<'_>,
     place: Place<'_>,
     step: &Step,
-    env: Env,
-) -> Result<Advanced, AllocError>
+    noted: &mut Noted,
+) -> Result<Next, AllocError>
     requires { place.frame.next < 0xffffffff }
-    ensures { IfOk result (λ a. a ≡ came_to scene.entry.checkpoint.now (reverse (past place.entry.frame ∷ reverse place.entry.outer.now)) (statements_in scene.entry step.now.stmts (unnoted env scene.entry.checkpoint.now))) }
+    ensures { IfOk result (λ next. (awaiting : List Await) (calls : ℕ) → answered awaiting calls next noted.new ≡ came_to awaiting calls (reverse (past place.entry.frame ∷ reverse place.entry.outer.now)) (statements_in scene.entry step.now.stmts noted.old)) }
 {
-    let mut noted = Noted {
-        env,
-        ctx: scene.checkpoint.ctx.copy()?,
-        outputs: scene.checkpoint.outputs.copy()?,
-        calls: Calls::new(alloc),
-    };
-    match run_statements(alloc, scene, &step.stmts, &mut noted)? {
-        Some(state) => Ok(Advanced::Ends(state, noted.outputs)),
-        None => {
-            let frames = frames_on(alloc, place.outer, past(place.frame))?;
-            go_on(scene.checkpoint, frames, noted)
-        }
+    match run_statements(alloc, scene, &step.stmts, noted)? {
+        Some(state) => Ok(Next::Ends(state)),
+        None => Ok(Next::Goes(frames_on(alloc, place.outer, past(place.frame))?)),
     }
 }
 
@@ -234,21 +177,21 @@ fn returned(code: &Option<Number>) -> u32
     }
 }
 
-/// Evaluates the instruction that comes next.
+/// Evaluates the instruction that comes next, where nothing is noted yet but what a checkpoint has.
 pub fn advance_at(
     alloc: Global,
     scene: Scene<'_>,
     place: Place<'_>,
-    env: Env,
-) -> Result<Advanced, AllocError>
+    noted: &mut Noted,
+) -> Result<Next, AllocError>
     requires next { place.frame.next < 0xffffffff }
     requires numbers { Fit (first_number place.frame place.front.now) (length (blocks_in place.instr.now)) }
-    ensures { IfOk result (λ a. (bs : Blocks) → place.entry.front.now ≡ front_of bs place.entry.frame → a ≡ shown (done scene.entry.library.now scene.entry.chain.now scene.entry.depth env scene.entry.checkpoint.now bs (out-Instr place.entry.instr.now) place.entry.frame (reverse place.entry.outer.now))) }
+    ensures { IfOk result (λ next. (c : Checkpoint) (bs : Blocks) → IsUnnoted scene.entry c noted.old → place.entry.front.now ≡ front_of bs place.entry.frame → answered c.awaiting c.calls next noted.new ≡ shown (done scene.entry.library.now scene.entry.chain.now scene.entry.depth noted.old.env c bs (out-Instr place.entry.instr.now) place.entry.frame (reverse place.entry.outer.now))) }
 {
     match place.instr {
-        Instr::Step(step) => advance_step(alloc, scene, place, step, env),
-        Instr::If(_, arms, other) => advance_if(alloc, scene, place, arms, other, &env),
-        Instr::While(_, condition, _) => advance_while(alloc, scene, place, condition, &env),
-        Instr::Return(_, code) => end(scene.checkpoint, ProcessState::Finished(returned(code))),
+        Instr::Step(step) => advance_step(alloc, scene, place, step, noted),
+        Instr::If(_, arms, other) => advance_if(alloc, place, arms, other, &noted.env),
+        Instr::While(_, condition, _) => advance_while(alloc, place, condition, &noted.env),
+        Instr::Return(_, code) => Ok(Next::Ends(ProcessState::Finished(returned(code)))),
     }
 }

@@ -2,6 +2,7 @@
 #![tactic(auto)]
 
 mod advancing;
+mod answering;
 mod arguments;
 mod binding;
 mod blocks;

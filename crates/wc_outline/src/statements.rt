@@ -12,7 +12,7 @@ use std::mem;
 use wc_calculation::{exit_status, takes};
 use wc_expression::{Outcome, eval};
 use wc_semantics::{label_of, set_key};
-use wc_state::{Checkpoint, Context, CtxRef, Env, Item, Items, Outs};
+use wc_state::{Context, CtxRef, Env, Item, Items, Outs};
 use wc_syntax::{CallStmt, Chain, Library, Name, Stmt, Stmts};
 use wc_value::{Duplicate, ProcessState, Reason, Value};
 
@@ -28,11 +28,11 @@ pub struct Scene<'a> {
     pub chain: &'a Chain,
     /// Its depth.
     pub depth: u32,
-    /// Where it stands.
-    pub checkpoint: &'a Checkpoint,
+    /// How many processes it has called.
+    pub calls: u32,
 }
 
-/// What a step has come to so far.
+/// What a step has come to so far. Its context is the one of the checkpoint that was handed over, in which keys are set in place.
 #[derive(Drop)]
 pub struct Noted {
     /// The environment with the values that were set.
@@ -83,7 +83,7 @@ fn collect(
         Outcome::Gives(args) => args,
         Outcome::Faults(reason) => return Ok(Outcome::Faults(reason)),
     };
-    let number = scene.checkpoint.calls as usize + noted.calls.len() + 1;
+    let number = scene.calls as usize + noted.calls.len() + 1;
     Ok(Outcome::Gives(Call {
         definition: call.callee.text.copy()?,
         label: label_of(alloc, &call.key.text, number)?,

@@ -15,10 +15,11 @@ fn advance_chain(
     library: &Checked,
     chain: &Text,
     depth: u32,
-    checkpoint: &Checkpoint,
+    checkpoint: Checkpoint,
     env: Env,
 ) -> Result<Advanced, Wrong> {
     if !is_chain(library, chain) {
+        let_go(checkpoint);
         return Err(Wrong::Not("the library has its work chain"));
     }
     match advance(alloc, library, chain, depth, checkpoint, env) {
@@ -27,16 +28,26 @@ fn advance_chain(
     }
 }
 
+/// The name of the work chain, and the environment.
+fn surroundings(alloc: Global) -> Result<(Text, Env), AllocError> {
+    let chain = Text::of_str(alloc, "w")?;
+    Ok((chain, env(alloc)?))
+}
+
 /// One advance of `w` in the environment.
 fn answer(
     alloc: Global,
     library: &Checked,
     depth: u32,
-    checkpoint: &Checkpoint,
+    checkpoint: Checkpoint,
 ) -> Result<Advanced, Wrong> {
-    let chain = Text::of_str(alloc, "w")?;
-    let env = env(alloc)?;
-    advance_chain(alloc, library, &chain, depth, checkpoint, env)
+    match surroundings(alloc) {
+        Ok((chain, env)) => advance_chain(alloc, library, &chain, depth, checkpoint, env),
+        Err(_) => {
+            let_go(checkpoint);
+            Err(Wrong::OutOfMemory)
+        }
+    }
 }
 
 /// Whether a text found memory, as a test tells it.
@@ -69,11 +80,7 @@ fn put_advanced(
     checkpoint: Result<Checkpoint, AllocError>,
 ) -> Result<(), Wrong> {
     match checkpoint {
-        Ok(checkpoint) => {
-            let answer = answer(alloc, library, depth, &checkpoint);
-            let_go(checkpoint);
-            put_came(alloc, text, answer)
-        }
+        Ok(checkpoint) => put_came(alloc, text, answer(alloc, library, depth, checkpoint)),
         Err(_) => Err(Wrong::OutOfMemory),
     }
 }

@@ -25,7 +25,7 @@ come_to-requires-clause-depth c =
 
 pub come_to-requires-clause-earlier : goal.come_to-requires-clause-earlier
 come_to-requires-clause-earlier c =
-    calls_few c.args.world.now.world c.args.process.now c.requires.chain c.in-Some.known.now (sym c.in-Some.ensures) c.args.checkpoint.now c.requires.stands c.in_ok-env.env
+    calls_few c.args.world.now.world c.args.process.now c.requires.chain c.in-Some.known.now (sym c.in-Some.ensures) c.args.checkpoint c.requires.stands c.in_ok-env.env
     c.in_ok-advanced.advanced c.in_ok-advanced.ensures.exact
 
 pub returns-clause-gives : goal.returns-clause-gives
@@ -34,7 +34,7 @@ returns-clause-gives c =
     let r = c.args.process.now in
     let x = c.caller_of.result in
     if_ok (λ (cs : List Change). cs ≡ comes_to x (length w.nodes + 1) c.in_ok-advanced.advanced) (Gives w r) c.come_to.result
-    (gives_advance w r c.requires.chain c.in-Some.known.now (sym c.in-Some.ensures) c.args.checkpoint.now c.requires.stands c.in_ok-env.env
+    (gives_advance w r c.requires.chain c.in-Some.known.now (sym c.in-Some.ensures) c.args.checkpoint c.requires.stands c.in_ok-env.env
     c.in_ok-advanced.advanced c.in_ok-advanced.ensures.exact c.in_ok-env.ensures x c.caller_of.ensures.process c.caller_of.ensures.library c.caller_of.ensures.caching)
     c.come_to.ensures.gives
 
@@ -47,6 +47,6 @@ returns-clause-refused c =
     let means = λ (cs : List Change). cs ≡ comes_to x (length w.nodes + 1) c.in_ok-advanced.advanced in
     if_err (FullOf means most w) (FullOf (Gives w r) most w) c.come_to.result
     (full_as means (Gives w r) most w
-    (gives_advance w r c.requires.chain c.in-Some.known.now (sym c.in-Some.ensures) c.args.checkpoint.now c.requires.stands c.in_ok-env.env
+    (gives_advance w r c.requires.chain c.in-Some.known.now (sym c.in-Some.ensures) c.args.checkpoint c.requires.stands c.in_ok-env.env
     c.in_ok-advanced.advanced c.in_ok-advanced.ensures.exact c.in_ok-env.ensures x c.caller_of.ensures.process c.caller_of.ensures.library c.caller_of.ensures.caching))
     c.come_to.ensures.refused

@@ -30,8 +30,8 @@ returns-in_ok-first-in-Created-clause-none c =
     let h : HasChain w r = record { consistent = c.reached_worlds_are_consistent.ensures w c.graph-graph.ensures.reached; found = c.requires.found; chain = c.requires.chain } in
     none_after w r h c.one_list_of_changes.ensures c.args.limits.now.max_nodes c.advance_from.result c.advance_from.ensures.gives c.advance_from.ensures.room
 
-pub returns-in-Running-clause-none : goal.returns-in-Running-clause-none
-returns-in-Running-clause-none c =
+pub returns-in_ok-own-in-Running-clause-none : goal.returns-in_ok-own-in-Running-clause-none
+returns-in_ok-own-in-Running-clause-none c =
     let w = c.args.world.now.world in
     let r = c.args.process.now in
     let h : HasChain w r = record { consistent = c.reached_worlds_are_consistent.ensures w c.graph-graph.ensures.reached; found = c.requires.found; chain = c.requires.chain } in

@@ -1,1 +1,10 @@
 pub mod Amounts
+pub mod Lines
+pub mod Rows
+pub mod Look
+pub mod Leaf
+pub mod Turns
+pub mod Walks
+pub mod Tops
+pub mod Whole
+pub mod Read

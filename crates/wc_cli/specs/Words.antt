@@ -1,12 +1,11 @@
 -- The words of the command line, and the command that they are.
-use Rattle.std.specs.Prelude.{ℕ, Bool, true, false, ◌&&◌, ◌==◌, nat_lt, nat_le, if◌then◌else◌, List, [], ◌∷◌, ◌++◌, length, drop, take, slice_index, Option, Some, None, option_map, option_and_then, codes}
+use Rattle.std.specs.Prelude.{ℕ, Bool, true, not, ◌&&◌, ◌==◌, nat_lt, nat_le, if◌then◌else◌, List, [], ◌∷◌, ◌++◌, length, drop, take, slice_index, find, Option, Some, None, is_some, option_map, option_and_then, codes}
 use Rattle.std.specs.Char.{digit_value}
-use Rattle.std.specs.List.{position_or_len, before_first, after_first, list_all}
+use Rattle.std.specs.List.{position_or_len, before_first, after_first, list_all, list_any}
 use Rattle.std.specs.Str.{bytes_eq}
 use Rattle.std.specs.Str.Parse.{digits_value}
-use Rattle.wc_cli.specs.declared.line.Line.{Line}
 use Rattle.wc_cli.specs.declared.command.Command.{Command}
-use Rattle.wc_cli.specs.declared.command.Command.TheVariants.{Check, Dry, Init, Submit, Run, View, Pack}
+use Rattle.wc_cli.specs.declared.command.Command.TheVariants.{Check, Dry, Init, Submit, Run, View, Pause, Play, Kill, Pack}
 use Rattle.wc_cli.specs.declared.command.View.TheVariants as view
 
 -- ---- a word PORT=VALUE
@@ -30,7 +29,8 @@ cut_all = cut_after []
 
 -- ---- operands and options
 
--- a word that begins with `-` and has more bytes stands in the place of an option
+-- a word that begins with `-` and has more bytes is an operand only behind `--`, and never the value of an option that is
+-- the word before it
 abbrev pub is_option : List ℕ → Bool
 is_option w = nat_lt 1 (length w) && slice_index w 0 == 45
 
@@ -38,42 +38,56 @@ is_option w = nat_lt 1 (length w) && slice_index w 0 == 45
 abbrev pub ends_options : List ℕ → Bool
 ends_options w = bytes_eq w (codes "--")
 
--- `--fuel`, whose value is the next word
-abbrev pub is_fuel : List ℕ → Bool
-is_fuel w = bytes_eq w (codes "--fuel")
+-- `--name` or `--name=value`
+abbrev pub is_long : List ℕ → Bool
+is_long w = bytes_eq (take 2 w) (codes "--")
 
--- `--fuel=`, behind which its value stands
-abbrev pub has_fuel : List ℕ → Bool
-has_fuel w = bytes_eq (take 7 w) (codes "--fuel=")
+-- what stands behind a command: the operands, and the options with their values, both in order
+pub record Line : Type 0 where
+  pub operands : List (List ℕ)
+  pub options : List (List ℕ × List ℕ)
 
-abbrev pub with_operands : List (List ℕ) → Line → Line
-with_operands ws l = record { operands = l.operands ++ ws; fuel = l.fuel }
+abbrev pub operands_alone : List (List ℕ) → Line
+operands_alone ws = record { operands = ws; options = [] }
 
-abbrev pub with_fuel_before : Option (List ℕ) → List ℕ → Line → Option Line
-with_fuel_before None v l = Some (record { operands = l.operands; fuel = Some v })
-with_fuel_before (Some w) v l = None
+-- a word in front of the operands of a line
+abbrev pub with_operand : List ℕ → Line → Line
+with_operand w l = record { operands = w ∷ l.operands; options = l.options }
 
--- an option stands at most once
-abbrev pub with_fuel : List ℕ → Line → Option Line
-with_fuel v l = with_fuel_before l.fuel v l
+-- an option in front of those of a line
+abbrev pub with_option : List ℕ → List ℕ → Line → Line
+with_option name value l = record { operands = l.operands; options = (name, value) ∷ l.options }
 
--- The words behind others that were taken so, if they are operands and options. Options stand anywhere up to a word `--`. The
--- flag says that the next word is the value of `--fuel`; one that begins with `-` and has more bytes stands behind `=` alone.
-abbrev pub line_after : Line → Bool → List (List ℕ) → Option Line
-line_after l false [] = Some l
-line_after l true [] = None
-line_after l true (w ∷ ws) = if is_option w then None else option_and_then (λ m. line_after m false ws) (with_fuel w l)
-line_after l false (w ∷ ws) =
-    if ends_options w then Some (with_operands ws l)
-    else if is_fuel w then line_after l true ws
-    else if has_fuel w then option_and_then (λ m. line_after m false ws) (with_fuel (drop 7 w) l)
+-- `--name=value` in front of a line; behind `--name` there is a line that begins with its value
+abbrev pub long_line : Option (List ℕ × List ℕ) → Option Line → Option Line → Option Line
+long_line None behind valued = valued
+long_line (Some option) behind valued = option_map (with_option option.0 option.1) behind
+
+-- Words as a line: operands, and options with their values, which stand anywhere up to a word `--`. Where a name is there, the
+-- first word is the value of the option with this name.
+abbrev pub line_from : Option (List ℕ) → List (List ℕ) → Option Line
+line_from (Some name) [] = None
+line_from (Some name) (w ∷ ws) = if is_option w then None else option_map (with_option name w) (line_from None ws)
+line_from None [] = Some (operands_alone [])
+line_from None (w ∷ ws) =
+    if ends_options w then Some (operands_alone ws)
+    else if is_long w then long_line (cut_word (drop 2 w)) (line_from None ws) (line_from (Some (drop 2 w)) ws)
     else if is_option w then None
-    else line_after (with_operands (w ∷ []) l) false ws
+    else option_map (with_operand w) (line_from None ws)
 
 abbrev pub line_of : List (List ℕ) → Option Line
-line_of = line_after (record { operands = []; fuel = None }) false
+line_of = line_from None
 
--- ---- commands
+-- what stands for the option with this name
+abbrev pub value_of : List ℕ → List (List ℕ × List ℕ) → Option (List ℕ)
+value_of name options = option_map (λ o. o.1) (find (λ o. bytes_eq o.0 name) options)
+
+-- each option has one of these names, and none stands twice
+abbrev pub are_of : List (List ℕ) → List (List ℕ × List ℕ) → Bool
+are_of names [] = true
+are_of names (o ∷ rest) = list_any (λ name. bytes_eq o.0 name) names && not (is_some (value_of o.0 rest)) && are_of names rest
+
+-- ---- numbers
 
 -- one decimal digit or more
 abbrev pub is_numeral : List ℕ → Bool
@@ -88,75 +102,111 @@ abbrev pub within : ℕ → ℕ → Option ℕ → Option ℕ
 within least most None = None
 within least most (Some n) = if nat_le least n && nat_le n most then Some n else None
 
--- how much fuel is asked for, at most 1000000000; 100000 where nothing is
-abbrev pub amount_of : Option (List ℕ) → Option ℕ
-amount_of None = Some 100000
-amount_of (Some text) = within 0 1000000000 (digits_of text)
+-- the number that an option writes, at most so much; the usual one where the option isn't there
+abbrev pub number_up_to : ℕ → ℕ → Option (List ℕ) → Option ℕ
+number_up_to most usual None = Some usual
+number_up_to most usual (Some text) = within 0 most (digits_of text)
 
--- the number of a node: of 32 bits, and not zero
+-- the number of a node or a process: of 32 bits, and not zero
 abbrev pub number_of : List ℕ → Option ℕ
 number_of text = within 1 4294967295 (digits_of text)
 
-abbrev pub dry_given : List ℕ → List ℕ → Option ℕ → Option (List (List ℕ × List ℕ)) → Option Command
-dry_given file name (Some fuel) (Some given) = Some (Dry file name given fuel)
-dry_given file name _ _ = None
+-- ---- the commands
 
-abbrev pub dry_among : List (List ℕ) → Option ℕ → Option Command
-dry_among (file ∷ name ∷ given) fuel = dry_given file name fuel (cut_all given)
-dry_among _ fuel = None
+-- the names of the options that a command has
+abbrev pub options_of : List ℕ → List (List ℕ)
+options_of word =
+    if bytes_eq word (codes "dry") then codes "inputs" ∷ codes "table" ∷ codes "fuel" ∷ []
+    else if bytes_eq word (codes "submit") then codes "inputs" ∷ codes "settings" ∷ []
+    else if bytes_eq word (codes "run") then codes "turns" ∷ codes "seed" ∷ codes "settings" ∷ []
+    else []
 
--- `dry FILE NAME [PORT=VALUE]... [--fuel N]`
-abbrev pub dry_of : Line → Option Command
-dry_of l = dry_among l.operands (amount_of l.fuel)
+-- what stands for an option, by its name
+abbrev pub Values : Type 0
+Values = List ℕ → Option (List ℕ)
+
+-- how much fuel `--fuel` allows
+abbrev pub fuel_of : Option (List ℕ) → Option ℕ
+fuel_of = number_up_to 1000000000 100000
+
+-- how many turns `--turns` allows
+abbrev pub turns_of : Option (List ℕ) → Option ℕ
+turns_of = number_up_to 1000000000 1000000
+
+-- the seed that `--seed` gives
+abbrev pub seed_of : Option (List ℕ) → Option ℕ
+seed_of = number_up_to 2147483647 0
+
+abbrev pub dry_with : List ℕ → List ℕ → Option (List (List ℕ × List ℕ)) → Option (List ℕ) → Option (List ℕ) → Option ℕ → Option Command
+dry_with file name (Some given) inputs table (Some fuel) = Some (Dry file name given inputs table fuel)
+dry_with file name _ inputs table _ = None
+
+-- `dry FILE NAME [PORT=VALUE]... [--inputs F] [--table F] [--fuel N]`
+abbrev pub dry_of : List (List ℕ) → Values → Option Command
+dry_of (file ∷ name ∷ given) value = dry_with file name (cut_all given) (value (codes "inputs")) (value (codes "table")) (fuel_of (value (codes "fuel")))
+dry_of _ value = None
 
 -- `check FILE`
 abbrev pub check_of : List (List ℕ) → Option Command
 check_of (file ∷ []) = Some (Check file)
 check_of _ = None
 
--- `submit FILE NAME [PORT=VALUE]...`
-abbrev pub submit_of : List (List ℕ) → Option Command
-submit_of (file ∷ name ∷ given) = option_map (Submit file name) (cut_all given)
-submit_of _ = None
+abbrev pub submit_with : List ℕ → List ℕ → Option (List (List ℕ × List ℕ)) → Option (List ℕ) → Option (List ℕ) → Option Command
+submit_with file name (Some given) inputs settings = Some (Submit file name given inputs settings)
+submit_with file name None inputs settings = None
 
--- `tree PID`
-abbrev pub tree_of : List (List ℕ) → Option Command
-tree_of (pid ∷ []) = option_map (λ n. View (view.Tree n)) (number_of pid)
-tree_of _ = None
+-- `submit FILE NAME [PORT=VALUE]... [--inputs F] [--settings F]`
+abbrev pub submit_of : List (List ℕ) → Values → Option Command
+submit_of (file ∷ name ∷ given) value = submit_with file name (cut_all given) (value (codes "inputs")) (value (codes "settings"))
+submit_of _ value = None
 
--- `show N`
-abbrev pub show_of : List (List ℕ) → Option Command
-show_of (node ∷ []) = option_map (λ n. View (view.Show n)) (number_of node)
-show_of _ = None
+abbrev pub run_with : Option ℕ → Option ℕ → Option (List ℕ) → Option Command
+run_with (Some turns) (Some seed) settings = Some (Run turns seed settings)
+run_with _ _ settings = None
+
+-- `run [--turns N] [--seed S] [--settings F]`
+abbrev pub run_of : List (List ℕ) → Values → Option Command
+run_of [] value = run_with (turns_of (value (codes "turns"))) (seed_of (value (codes "seed"))) (value (codes "settings"))
+run_of _ value = None
+
+-- the number of a node or a process, where it is the one operand
+abbrev pub one_number : List (List ℕ) → Option ℕ
+one_number (n ∷ []) = number_of n
+one_number _ = None
 
 -- a command that takes no operands
 abbrev pub alone : Command → List (List ℕ) → Option Command
 alone c [] = Some c
 alone c _ = None
 
--- the command of this name, of those that take no option
-abbrev pub plain_command : List ℕ → List (List ℕ) → Option Command
-plain_command word operands =
-    if bytes_eq word (codes "check") then check_of operands
-    else if bytes_eq word (codes "init") then alone Init operands
-    else if bytes_eq word (codes "submit") then submit_of operands
-    else if bytes_eq word (codes "run") then alone Run operands
-    else if bytes_eq word (codes "list") then alone (View view.List) operands
-    else if bytes_eq word (codes "tree") then tree_of operands
-    else if bytes_eq word (codes "show") then show_of operands
-    else if bytes_eq word (codes "graph") then alone (View view.Graph) operands
-    else if bytes_eq word (codes "pack") then alone Pack operands
+-- `tree PID`, `show N`, `pause PID`, `play PID`, `kill PID`
+abbrev pub with_number : List ℕ → ℕ → Option Command
+with_number word n =
+    if bytes_eq word (codes "tree") then Some (View (view.Tree n))
+    else if bytes_eq word (codes "show") then Some (View (view.Show n))
+    else if bytes_eq word (codes "pause") then Some (Pause n)
+    else if bytes_eq word (codes "play") then Some (Play n)
+    else if bytes_eq word (codes "kill") then Some (Kill n)
     else None
 
--- what stands only where no fuel is asked for
-abbrev pub without_fuel : Option (List ℕ) → Option Command → Option Command
-without_fuel None c = c
-without_fuel (Some _) c = None
+-- the command with this name, these operands and these values of its options
+abbrev pub named_command : List ℕ → List (List ℕ) → Values → Option Command
+named_command word operands value =
+    if bytes_eq word (codes "dry") then dry_of operands value
+    else if bytes_eq word (codes "check") then check_of operands
+    else if bytes_eq word (codes "submit") then submit_of operands value
+    else if bytes_eq word (codes "run") then run_of operands value
+    else if bytes_eq word (codes "init") then alone Init operands
+    else if bytes_eq word (codes "list") then alone (View view.List) operands
+    else if bytes_eq word (codes "graph") then alone (View view.Graph) operands
+    else if bytes_eq word (codes "pack") then alone Pack operands
+    else option_and_then (with_number word) (one_number operands)
 
-abbrev pub named_command : List ℕ → Line → Option Command
-named_command word l = if bytes_eq word (codes "dry") then dry_of l else without_fuel l.fuel (plain_command word l.operands)
+-- the command with this name and line, where it has the options of the line
+abbrev pub command_in : List ℕ → Line → Option Command
+command_in word l = if are_of (options_of word) l.options then named_command word l.operands (λ name. value_of name l.options) else None
 
 -- the first word is the command
 abbrev pub command_of : List (List ℕ) → Option Command
 command_of [] = None
-command_of (word ∷ ws) = option_and_then (named_command word) (line_of ws)
+command_of (word ∷ ws) = option_and_then (command_in word) (line_of ws)

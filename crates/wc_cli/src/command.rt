@@ -1,9 +1,14 @@
 //! Commands.
 
-ghost use Rattle.std.specs.Prelude.{◌≡◌, IfOk};
-ghost use Rattle.wc_cli.specs.Words.{cut_word, cut_all, digits_of, within, amount_of, number_of, dry_among, check_of, submit_of, tree_of, show_of, alone, plain_command, named_command, command_of};
+ghost use Rattle.std.specs.Prelude.{◌≡◌, true, map, IfOk, option_map};
+ghost use Rattle.std.specs.List.{list_all};
+ghost use Rattle.std.specs.Str.{is_utf8};
+ghost use Rattle.clap.specs.Words.{all_of, found_of, rows_of, subcommand_rows_of};
+ghost use Rattle.wc_cli.specs.Line.{operand_id, operands_in, values_in, command_met};
+ghost use Rattle.wc_cli.specs.Words.{cut_word, cut_all, digits_of, within, number_up_to, number_of, dry_of, check_of, submit_of, run_of, one_number, with_number, alone, named_command, command_of};
 
-use crate::line::{Line, read_line};
+use crate::line::{OPERAND, matches_of};
+use clap::ArgMatches;
 use std::alloc::{AllocError, Global};
 use wc_value::{Duplicate, List, Text, Words};
 
@@ -12,6 +17,15 @@ const MOST_FUEL: u64 = 1_000_000_000;
 
 /// The fuel where none is asked for.
 const FUEL: u64 = 100_000;
+
+/// The most turns that may be asked for.
+const MOST_TURNS: u64 = 1_000_000_000;
+
+/// The turns where none are asked for.
+const TURNS: u64 = 1_000_000;
+
+/// The greatest seed.
+const MOST_SEED: u64 = 2_147_483_647;
 
 /// A word `PORT=VALUE`, cut at its first `=`.
 pub type Given = (Text, Text);
@@ -41,7 +55,8 @@ pub enum View {
 /// A command of the program.
 #[derive(Drop)]
 pub enum Command {
-    /// `dry FILE NAME [PORT=VALUE]... [--fuel N]`: the tree that a definition has for these inputs, with no store.
+    /// `dry FILE NAME [PORT=VALUE]... [--inputs F] [--table F] [--fuel N]`: the tree that a definition has for these inputs, with no
+    /// store.
     Dry {
         /// The file that holds the library.
         file: Text,
@@ -49,6 +64,10 @@ pub enum Command {
         name: Text,
         /// The inputs.
         given: Givens,
+        /// The file with further inputs.
+        inputs: Option<Text>,
+        /// The file with the results of jobs.
+        table: Option<Text>,
         /// How many turns of loops and calls the evaluation may take.
         fuel: u64,
     },
@@ -59,7 +78,7 @@ pub enum Command {
     },
     /// `init`: a new store.
     Init,
-    /// `submit FILE NAME [PORT=VALUE]...`: a new process of a definition with these inputs.
+    /// `submit FILE NAME [PORT=VALUE]... [--inputs F] [--settings F]`: a new process of a definition with these inputs.
     Submit {
         /// The file that holds the library.
         file: Text,
@@ -67,20 +86,46 @@ pub enum Command {
         name: Text,
         /// The inputs.
         given: Givens,
+        /// The file with further inputs.
+        inputs: Option<Text>,
+        /// The file with the settings.
+        settings: Option<Text>,
     },
-    /// `run`: the work that the store's processes have left.
-    Run,
+    /// `run [--turns N] [--seed S] [--settings F]`: the work that the store's processes have left.
+    Run {
+        /// How many turns are taken at most.
+        turns: u64,
+        /// What the choices among processes are drawn from.
+        seed: u64,
+        /// The file with the settings.
+        settings: Option<Text>,
+    },
     /// A view of the store.
     View(View),
+    /// `pause PID`: the mark of a process is set.
+    Pause {
+        /// The number of the process.
+        pid: u32,
+    },
+    /// `play PID`: the mark of a process is taken away.
+    Play {
+        /// The number of the process.
+        pid: u32,
+    },
+    /// `kill PID`: a process ends, with all live ones that it called.
+    Kill {
+        /// The number of the process.
+        pid: u32,
+    },
     /// `pack`: the store written anew in its shortest form.
     Pack,
 }
 
-/// A word cut at its first `=`, if it has one.
-fn cut(alloc: Global, word: &Text) -> Result<Option<Given>, AllocError>
-    ensures { IfOk result (λ g. g ≡ cut_word word.now) }
+/// A text cut at its first `=`, if it has one.
+fn cut(alloc: Global, text: &str) -> Result<Option<Given>, AllocError>
+    ensures { IfOk result (λ g. g ≡ cut_word text.now) }
 {
-    match word.as_str().split_once('=') {
+    match text.split_once('=') {
         Some((port, value)) => Ok(Some((Text::of_str(alloc, port)?, Text::of_str(alloc, value)?))),
         None => Ok(None),
     }
@@ -92,7 +137,7 @@ fn cut_words(alloc: Global, words: &[Text]) -> Result<Option<Givens>, AllocError
 {
     let mut givens = Givens::new(alloc);
     for word in words {
-        match cut(alloc, word)? {
+        match cut(alloc, word.as_str())? {
             Some(given) => givens.push(given)?,
             None => return Ok(None),
         }
@@ -121,17 +166,17 @@ fn number_within(text: &str, least: u64, most: u64) -> Option<u64>
     }
 }
 
-/// How much fuel is asked for.
-fn fuel_of(fuel: &Option<Text>) -> Option<u64>
-    ensures { result ≡ amount_of fuel.now }
+/// The number that an option writes, at most so much; the usual one where the option isn't there.
+fn number_up_to(most: u64, usual: u64, value: Option<&str>) -> Option<u64>
+    ensures { result ≡ number_up_to most usual (option_map (λ text. text.now) value.entry) }
 {
-    match fuel {
-        Some(text) => number_within(text.as_str(), 0, MOST_FUEL),
-        None => Some(FUEL),
+    match value {
+        Some(text) => number_within(text, 0, most),
+        None => Some(usual),
     }
 }
 
-/// The number of a node that a text writes in decimal digits.
+/// The number of a node or a process that a text writes in decimal digits.
 fn number_of(text: &str) -> Option<u32>
     ensures { result ≡ number_of text.now }
 {
@@ -141,24 +186,72 @@ fn number_of(text: &str) -> Option<u32>
     }
 }
 
-/// The command `dry` with these operands and this fuel.
+/// What stands for the option with this name.
+fn value<'a>(matches: &ArgMatches<'a>, name: &str) -> Option<&'a str>
+    ensures { option_map (λ text. text.now) result ≡ values_in (rows_of (found_of matches.now)) name.now }
+{
+    matches.get_str(name)
+}
+
+/// A copy of what stands for the option with this name.
+fn value_of(alloc: Global, matches: &ArgMatches, name: &str) -> Result<Option<Text>, AllocError>
+    ensures { IfOk result (λ text. text ≡ values_in (rows_of (found_of matches.now)) name.now) }
+{
+    match value(matches, name) {
+        Some(text) => Ok(Some(Text::of_str(alloc, text)?)),
+        None => Ok(None),
+    }
+}
+
+/// The operands, where there are any.
+fn operands<'m, 'a>(matches: &'m ArgMatches<'a>) -> Option<&'m [&'a str]>
+    ensures { option_map (λ texts. map (λ text. text.now) texts.now) result ≡ all_of operand_id (rows_of (found_of matches.now)) }
+{
+    matches.get_raw(OPERAND)
+}
+
+/// These texts, copied.
+fn copies(alloc: Global, texts: &[&str]) -> Result<Words, AllocError>
+    ensures { IfOk result (λ words. words ≡ map (λ text. text.now) texts.now) }
+{
+    let mut words = Words::new(alloc);
+    for text in texts {
+        words.push(Text::of_str(alloc, *text)?)?;
+    }
+    Ok(words)
+}
+
+/// The operands, copied.
+fn operands_of(alloc: Global, matches: &ArgMatches) -> Result<Words, AllocError>
+    ensures { IfOk result (λ words. words ≡ operands_in (rows_of (found_of matches.now))) }
+{
+    match operands(matches) {
+        Some(texts) => copies(alloc, texts),
+        None => Ok(Words::new(alloc)),
+    }
+}
+
+/// The command `dry` with these operands and options.
 fn dry_command(
     alloc: Global,
     operands: &[Text],
-    fuel: Option<u64>,
+    matches: &ArgMatches,
 ) -> Result<Option<Command>, AllocError>
-    ensures { IfOk result (λ c. c ≡ dry_among operands.now fuel) }
+    ensures { IfOk result (λ c. c ≡ dry_of operands.now (values_in (rows_of (found_of matches.now)))) }
 {
-    match operands {
-        [file, name, given @ ..] => match (fuel, cut_words(alloc, given)?) {
-            (Some(fuel), Some(given)) => Ok(Some(Command::Dry {
-                file: file.copy()?,
-                name: name.copy()?,
-                given,
-                fuel,
-            })),
-            _ => Ok(None),
-        },
+    let [file, name, given @ ..] = operands else {
+        return Ok(None);
+    };
+    let fuel = number_up_to(MOST_FUEL, FUEL, value(matches, "fuel"));
+    match (fuel, cut_words(alloc, given)?) {
+        (Some(fuel), Some(given)) => Ok(Some(Command::Dry {
+            file: file.copy()?,
+            name: name.copy()?,
+            given,
+            inputs: value_of(alloc, matches, "inputs")?,
+            table: value_of(alloc, matches, "table")?,
+            fuel,
+        })),
         _ => Ok(None),
     }
 }
@@ -173,45 +266,58 @@ fn check_command(operands: &[Text]) -> Result<Option<Command>, AllocError>
     }
 }
 
-/// The command `submit` with these operands.
-fn submit_command(alloc: Global, operands: &[Text]) -> Result<Option<Command>, AllocError>
-    ensures { IfOk result (λ c. c ≡ submit_of operands.now) }
+/// The command `submit` with these operands and options.
+fn submit_command(
+    alloc: Global,
+    operands: &[Text],
+    matches: &ArgMatches,
+) -> Result<Option<Command>, AllocError>
+    ensures { IfOk result (λ c. c ≡ submit_of operands.now (values_in (rows_of (found_of matches.now)))) }
 {
-    match operands {
-        [file, name, given @ ..] => match cut_words(alloc, given)? {
-            Some(given) => Ok(Some(Command::Submit {
-                file: file.copy()?,
-                name: name.copy()?,
-                given,
-            })),
-            None => Ok(None),
-        },
+    let [file, name, given @ ..] = operands else {
+        return Ok(None);
+    };
+    match cut_words(alloc, given)? {
+        Some(given) => Ok(Some(Command::Submit {
+            file: file.copy()?,
+            name: name.copy()?,
+            given,
+            inputs: value_of(alloc, matches, "inputs")?,
+            settings: value_of(alloc, matches, "settings")?,
+        })),
+        None => Ok(None),
+    }
+}
+
+/// The command `run` with these operands and options.
+fn run_command(
+    alloc: Global,
+    operands: &[Text],
+    matches: &ArgMatches,
+) -> Result<Option<Command>, AllocError>
+    ensures { IfOk result (λ c. c ≡ run_of operands.now (values_in (rows_of (found_of matches.now)))) }
+{
+    if !operands.is_empty() {
+        return Ok(None);
+    }
+    let turns = number_up_to(MOST_TURNS, TURNS, value(matches, "turns"));
+    let seed = number_up_to(MOST_SEED, 0, value(matches, "seed"));
+    match (turns, seed) {
+        (Some(turns), Some(seed)) => Ok(Some(Command::Run {
+            turns,
+            seed,
+            settings: value_of(alloc, matches, "settings")?,
+        })),
         _ => Ok(None),
     }
 }
 
-/// The command `tree` with these operands.
-fn tree_command(operands: &[Text]) -> Option<Command>
-    ensures { result ≡ tree_of operands.now }
+/// The number of a node or a process, where it is the one operand.
+fn numbered(operands: &[Text]) -> Option<u32>
+    ensures { result ≡ one_number operands.now }
 {
     match operands {
-        [text] => match number_of(text.as_str()) {
-            Some(pid) => Some(Command::View(View::Tree { pid })),
-            None => None,
-        },
-        _ => None,
-    }
-}
-
-/// The command `show` with these operands.
-fn show_command(operands: &[Text]) -> Option<Command>
-    ensures { result ≡ show_of operands.now }
-{
-    match operands {
-        [text] => match number_of(text.as_str()) {
-            Some(node) => Some(Command::View(View::Show { node })),
-            None => None,
-        },
+        [text] => number_of(text.as_str()),
         _ => None,
     }
 }
@@ -227,48 +333,72 @@ fn alone(command: Command, operands: &[Text]) -> Option<Command>
     }
 }
 
-/// The command of this name with these operands, of the commands that take no option.
-fn plain_command(
-    alloc: Global,
-    word: &Text,
-    operands: &[Text],
-) -> Result<Option<Command>, AllocError>
-    ensures { IfOk result (λ c. c ≡ plain_command word.now operands.now) }
+/// The command with the number that is the one operand.
+fn numbered_command(word: &str, number: u32) -> Option<Command>
+    ensures { result ≡ with_number word.now number }
 {
-    match word.as_str() {
-        "check" => check_command(operands),
-        "init" => Ok(alone(Command::Init, operands)),
-        "submit" => submit_command(alloc, operands),
-        "run" => Ok(alone(Command::Run, operands)),
-        "list" => Ok(alone(Command::View(View::List), operands)),
-        "tree" => Ok(tree_command(operands)),
-        "show" => Ok(show_command(operands)),
-        "graph" => Ok(alone(Command::View(View::Graph), operands)),
-        "pack" => Ok(alone(Command::Pack, operands)),
-        _ => Ok(None),
+    match word {
+        "tree" => Some(Command::View(View::Tree { pid: number })),
+        "show" => Some(Command::View(View::Show { node: number })),
+        "pause" => Some(Command::Pause { pid: number }),
+        "play" => Some(Command::Play { pid: number }),
+        "kill" => Some(Command::Kill { pid: number }),
+        _ => None,
     }
 }
 
-/// The command of this name with this line.
-fn named(alloc: Global, word: &Text, line: &Line) -> Result<Option<Command>, AllocError>
-    ensures { IfOk result (λ c. c ≡ named_command word.now line.now) }
+/// The command with this name, and what was read of the words behind it.
+fn named(alloc: Global, word: &str, matches: &ArgMatches) -> Result<Option<Command>, AllocError>
+    ensures { IfOk result (λ c. c ≡ named_command word.now (operands_in (rows_of (found_of matches.now))) (values_in (rows_of (found_of matches.now)))) }
 {
-    match word.as_str() {
-        "dry" => dry_command(alloc, line.operands.as_slice(), fuel_of(&line.fuel)),
-        _ if line.fuel.is_none() => plain_command(alloc, word, line.operands.as_slice()),
-        _ => Ok(None),
+    let words = operands_of(alloc, matches)?;
+    let operands = words.as_slice();
+    match word {
+        "dry" => dry_command(alloc, operands, matches),
+        "check" => check_command(operands),
+        "submit" => submit_command(alloc, operands, matches),
+        "run" => run_command(alloc, operands, matches),
+        "init" => Ok(alone(Command::Init, operands)),
+        "list" => Ok(alone(Command::View(View::List), operands)),
+        "graph" => Ok(alone(Command::View(View::Graph), operands)),
+        "pack" => Ok(alone(Command::Pack, operands)),
+        _ => match numbered(operands) {
+            Some(number) => Ok(numbered_command(word, number)),
+            None => Ok(None),
+        },
     }
+}
+
+/// The command that was read, if it is one.
+fn command_met(alloc: Global, matches: &ArgMatches) -> Result<Option<Command>, AllocError>
+    ensures { IfOk result (λ c. c ≡ command_met (subcommand_rows_of matches.now)) }
+{
+    let Some((word, behind)) = matches.subcommand() else {
+        return Ok(None);
+    };
+    named(alloc, word, behind)
+}
+
+/// The words as `clap` takes them.
+fn texts_of<'a>(alloc: Global, words: &'a [Text]) -> Result<Vec<&'a str>, AllocError>
+    ensures value { IfOk result (λ texts. map (λ text. text.now) texts.items ≡ words.entry.now) }
+    ensures utf8 { IfOk result (λ texts. list_all is_utf8 words.entry.now ≡ true) }
+{
+    let mut texts = Vec::new(alloc);
+    for word in words {
+        word.bytes();
+        texts.push(word.as_str())?;
+    }
+    Ok(texts)
 }
 
 /// The command that the words are, or none where they are no command.
 pub fn command_of(alloc: Global, words: &Words) -> Result<Option<Command>, AllocError>
     ensures { IfOk result (λ c. c ≡ command_of words.now) }
 {
-    match words.as_slice() {
-        [word, rest @ ..] => match read_line(alloc, rest)? {
-            Some(line) => named(alloc, word, &line),
-            None => Ok(None),
-        },
-        [] => Ok(None),
+    let texts = texts_of(alloc, words.as_slice())?;
+    match matches_of(alloc, texts.as_slice())? {
+        Some(matches) => command_met(alloc, &matches),
+        None => Ok(None),
     }
 }

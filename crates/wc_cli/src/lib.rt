@@ -5,4 +5,3 @@ mod command;
 mod line;
 
 pub use command::{Command, Given, Givens, View, command_of};
-pub use line::Line;

@@ -1,117 +1,200 @@
-//! Operands and options.
+//! The command line, as `clap` is set up to read it.
 
-ghost use Rattle.std.specs.Prelude.{◌≡◌, ◌++◌, ◌∷◌, [], IfOk, drop, take, if◌then◌else◌, Some, None};
-ghost use Rattle.wc_cli.specs.Words.{is_option, ends_options, is_fuel, has_fuel, with_fuel, with_operands, line_after, line_of};
+ghost use Rattle.std.specs.Prelude.{◌≡◌, ◌≢◌, [], false, map, IfOk, MatchOption};
+ghost use Rattle.clap.specs.Words.{app_of, rule_of, kind_of, fault_of, subcommand_of, subcommand_rows_of, with_rule, with_subcommand};
+ghost use Rattle.clap.specs.declared.builder.command.Command.TheViews.{out-Command};
+ghost use Rattle.wc_cli.specs.Line.{option, operands, plain_app, dry_app, submit_app, run_app, base_app, with_plain, with_options_app, with_store_app, with_views_app, line_app};
 
+use clap::error::ErrorKind;
+use clap::{Arg, ArgAction, ArgMatches, Command, Error};
 use std::alloc::{AllocError, Global};
-use wc_value::{Duplicate, Text, Words};
 
-/// The words behind the command.
-#[derive(Drop)]
-pub struct Line {
-    /// The operands, in order.
-    pub operands: Words,
-    /// What is written for `--fuel`, where that stands.
-    pub fuel: Option<Text>,
+/// What the operands are called.
+pub const OPERAND: &str = "operand";
+
+/// An option that stands at most once, and has a value.
+fn option_named<'a>(alloc: Global, name: &'a str) -> Arg<'a>
+    ensures rule { rule_of result ≡ option name.entry.now }
+    ensures local { result.global ≡ false }
+{
+    Arg::new(alloc, name).long(name).action(ArgAction::Set)
 }
 
-/// Whether a word stands in the place of an option: it begins with `-` and has more bytes.
-fn stands_as_option(word: &Text) -> bool
-    ensures { result ≡ is_option word.now }
+/// Any number of operands.
+fn operands<'a>(alloc: Global) -> Arg<'a>
+    ensures rule { rule_of result ≡ operands }
+    ensures local { result.global ≡ false }
 {
-    let bytes = word.bytes();
-    bytes.len() > 1 && bytes[0] == b'-'
+    Arg::new(alloc, "operand").action(ArgAction::Append)
 }
 
-/// What is written behind `--fuel=`, where a word begins so.
-fn fuel_in(alloc: Global, word: &Text) -> Result<Option<Text>, AllocError>
-    ensures { IfOk result (λ value. value ≡ (if has_fuel word.now then Some (drop 7 word.now) else None)) }
+/// The command with one option more.
+fn with_option<'a>(
+    alloc: Global,
+    command: Command<'a>,
+    name: &'a str,
+) -> Result<Command<'a>, AllocError>
+    requires { (out-Command command).has_globals ≡ false }
+    ensures shape { IfOk result (λ c. app_of c ≡ with_rule (app_of command.entry) (option name.entry.now)) }
+    ensures local { IfOk result (λ c. (out-Command c).has_globals ≡ false) }
 {
-    match word.as_str().strip_prefix("--fuel=") {
-        Some(value) => Ok(Some(Text::of_str(alloc, value)?)),
-        None => Ok(None),
-    }
+    let option = option_named(alloc, name);
+    let added = command.arg(option)?;
+    Ok(added)
 }
 
-/// The line with a value for `--fuel`, or none where one stood before.
-fn with_fuel(line: Line, value: Text) -> Option<Line>
-    ensures { result ≡ with_fuel value line }
+/// A command with operands, and no option.
+fn plain<'a>(alloc: Global, name: &'a str) -> Result<Command<'a>, AllocError>
+    ensures shape { IfOk result (λ c. app_of c ≡ plain_app name.entry.now) }
+    ensures local { IfOk result (λ c. (out-Command c).has_globals ≡ false) }
 {
-    match line.fuel {
-        Some(_) => None,
-        None => Some(Line {
-            operands: line.operands,
-            fuel: Some(value),
-        }),
-    }
+    let command = Command::new(alloc, name);
+    let operands = operands(alloc);
+    let added = command.arg(operands)?;
+    Ok(added)
 }
 
-/// These words with others behind them.
-fn appended(words: Words, others: &[Text]) -> Result<Words, AllocError>
-    ensures { IfOk result (λ all. all ≡ words ++ others.now) }
+/// The command `dry` with its options.
+fn dry<'a>(alloc: Global) -> Result<Command<'a>, AllocError>
+    ensures shape { IfOk result (λ c. app_of c ≡ dry_app) }
+    ensures local { IfOk result (λ c. (out-Command c).has_globals ≡ false) }
 {
-    let mut all = words;
-    for word in others {
-        all.push(word.copy()?)?;
-    }
-    Ok(all)
+    let command = plain(alloc, "dry")?;
+    let with_inputs = with_option(alloc, command, "inputs")?;
+    let with_table = with_option(alloc, with_inputs, "table")?;
+    let with_fuel = with_option(alloc, with_table, "fuel")?;
+    Ok(with_fuel)
 }
 
-/// The line with these operands behind its own.
-fn with_operands(line: Line, words: &[Text]) -> Result<Line, AllocError>
-    ensures { IfOk result (λ longer. longer ≡ with_operands words.now line) }
+/// The command `submit` with its options.
+fn submit<'a>(alloc: Global) -> Result<Command<'a>, AllocError>
+    ensures shape { IfOk result (λ c. app_of c ≡ submit_app) }
+    ensures local { IfOk result (λ c. (out-Command c).has_globals ≡ false) }
 {
-    let Line { operands, fuel } = line;
-    Ok(Line {
-        operands: appended(operands, words)?,
-        fuel,
-    })
+    let command = plain(alloc, "submit")?;
+    let with_inputs = with_option(alloc, command, "inputs")?;
+    let with_settings = with_option(alloc, with_inputs, "settings")?;
+    Ok(with_settings)
 }
 
-/// The line with one operand behind its own.
-fn with_operand(line: Line, word: &Text) -> Result<Line, AllocError>
-    ensures { IfOk result (λ longer. longer ≡ with_operands (word.now ∷ []) line) }
+/// The command `run` with its options.
+fn run<'a>(alloc: Global) -> Result<Command<'a>, AllocError>
+    ensures shape { IfOk result (λ c. app_of c ≡ run_app) }
+    ensures local { IfOk result (λ c. (out-Command c).has_globals ≡ false) }
 {
-    let Line { operands, fuel } = line;
-    let mut operands = operands;
-    operands.push(word.copy()?)?;
-    Ok(Line { operands, fuel })
+    let command = plain(alloc, "run")?;
+    let with_turns = with_option(alloc, command, "turns")?;
+    let with_seed = with_option(alloc, with_turns, "seed")?;
+    let with_settings = with_option(alloc, with_seed, "settings")?;
+    Ok(with_settings)
 }
 
-/// The operands and options that the words behind the command are, or none where they are something else.
-pub fn read_line(alloc: Global, words: &[Text]) -> Result<Option<Line>, AllocError>
-    ensures { IfOk result (λ line. line ≡ line_of words.now) }
+/// The command line before it has a command. There is no help.
+fn base<'a>(alloc: Global) -> Command<'a>
+    ensures { app_of result ≡ base_app }
 {
-    let mut line = Line {
-        operands: Words::new(alloc),
-        fuel: None,
-    };
-    let mut is_value = false;
-    for at in 0..words.len() {
-        let word = &words[at];
-        if is_value {
-            if stands_as_option(word) {
-                return Ok(None);
+    Command::new(alloc, "wc")
+        .no_binary_name(true)
+        .disable_help_flag(true)
+        .disable_help_subcommand(true)
+        .disable_version_flag(true)
+        .subcommand_required(true)
+}
+
+/// The command line with one command more.
+fn with_command<'a>(line: Command<'a>, command: Command<'a>) -> Result<Command<'a>, AllocError>
+    requires { (out-Command command).has_globals ≡ false }
+    ensures { IfOk result (λ c. app_of c ≡ with_subcommand (app_of line.entry) (app_of command.entry).top) }
+{
+    line.subcommand(command)
+}
+
+/// The command line with one command more, which has no option.
+fn with_plain<'a>(
+    alloc: Global,
+    line: Command<'a>,
+    name: &'a str,
+) -> Result<Command<'a>, AllocError>
+    ensures { IfOk result (λ c. app_of c ≡ with_plain (app_of line.entry) name.entry.now) }
+{
+    let command = plain(alloc, name)?;
+    let added = with_command(line, command)?;
+    Ok(added)
+}
+
+/// The commands with options.
+fn with_options<'a>(alloc: Global) -> Result<Command<'a>, AllocError>
+    ensures { IfOk result (λ c. app_of c ≡ with_options_app) }
+{
+    let line = base(alloc);
+    let dry = dry(alloc)?;
+    let to_dry = with_command(line, dry)?;
+    let submit = submit(alloc)?;
+    let to_submit = with_command(to_dry, submit)?;
+    let run = run(alloc)?;
+    let to_run = with_command(to_submit, run)?;
+    Ok(to_run)
+}
+
+/// The commands up to `tree`.
+fn up_to_tree<'a>(alloc: Global) -> Result<Command<'a>, AllocError>
+    ensures { IfOk result (λ c. app_of c ≡ with_store_app) }
+{
+    let line = with_options(alloc)?;
+    let to_check = with_plain(alloc, line, "check")?;
+    let to_init = with_plain(alloc, to_check, "init")?;
+    let to_list = with_plain(alloc, to_init, "list")?;
+    let to_tree = with_plain(alloc, to_list, "tree")?;
+    Ok(to_tree)
+}
+
+/// The commands up to `play`.
+fn up_to_play<'a>(alloc: Global) -> Result<Command<'a>, AllocError>
+    ensures { IfOk result (λ c. app_of c ≡ with_views_app) }
+{
+    let line = up_to_tree(alloc)?;
+    let to_show = with_plain(alloc, line, "show")?;
+    let to_graph = with_plain(alloc, to_show, "graph")?;
+    let to_pause = with_plain(alloc, to_graph, "pause")?;
+    let to_play = with_plain(alloc, to_pause, "play")?;
+    Ok(to_play)
+}
+
+/// The whole command line.
+fn whole<'a>(alloc: Global) -> Result<Command<'a>, AllocError>
+    ensures { IfOk result (λ c. app_of c ≡ line_app) }
+{
+    let line = up_to_play(alloc)?;
+    let to_kill = with_plain(alloc, line, "kill")?;
+    let to_pack = with_plain(alloc, to_kill, "pack")?;
+    Ok(to_pack)
+}
+
+/// Whether memory ran out.
+fn is_memory(error: &Error) -> bool
+    ensures { result ≡ false → kind_of error.now ≢ ErrorKind.OutOfMemory }
+{
+    matches!(error.kind(), ErrorKind::OutOfMemory)
+}
+
+/// What `clap` reads of the words, or none where it refuses them.
+pub fn matches_of<'a>(
+    alloc: Global,
+    words: &'a [&'a str],
+) -> Result<Option<ArgMatches<'a>>, AllocError>
+    ensures { IfOk result (λ read. MatchOption read (fault_of line_app (map (λ w. w.now) words.entry.now) ≢ [])
+        (λ m. (fault_of line_app (map (λ w. w.now) words.entry.now) ≡ [])
+        × (subcommand_rows_of m ≡ subcommand_of line_app (map (λ w. w.now) words.entry.now)))) }
+{
+    let line = whole(alloc)?;
+    match line.try_get_matches_from(words) {
+        Ok(matches) => Ok(Some(matches)),
+        Err(error) => {
+            if is_memory(&error) {
+                Err(AllocError)
+            } else {
+                Ok(None)
             }
-            match with_fuel(line, word.copy()?) {
-                Some(longer) => line = longer,
-                None => return Ok(None),
-            }
-            is_value = false;
-        } else if word.as_str() == "--" {
-            return Ok(Some(with_operands(line, &words[at + 1..])?));
-        } else if word.as_str() == "--fuel" {
-            is_value = true;
-        } else if let Some(value) = fuel_in(alloc, word)? {
-            match with_fuel(line, value) {
-                Some(longer) => line = longer,
-                None => return Ok(None),
-            }
-        } else if stands_as_option(word) {
-            return Ok(None);
-        } else {
-            line = with_operand(line, word)?;
         }
     }
-    Ok(if is_value { None } else { Some(line) })
 }

@@ -1,11 +1,9 @@
-//! Tests alone: what bytes, words and files are read as, and what expressions and calculations give. What is wanted was
+//! Tests alone: what bytes, tokens and files are read as, and what expressions and calculations give. What is wanted was
 //! worked out by hand from the rules.
 #![tactic(auto)]
 
 #[cfg(test)]
 mod calculations;
-#[cfg(test)]
-mod commands;
 #[cfg(test)]
 mod environments;
 #[cfg(test)]
@@ -28,8 +26,6 @@ mod printed;
 mod requests;
 #[cfg(test)]
 mod rows;
-#[cfg(test)]
-mod settings;
 #[cfg(test)]
 mod shown;
 #[cfg(test)]

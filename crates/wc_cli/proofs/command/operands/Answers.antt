@@ -1,0 +1,8 @@
+use Rattle.std.proofs.Common.{◌∙◌}
+use Rattle.clap.specs.Words.{found_of}
+use Rattle.clap.proofs.WalkLemmas.{raw_values-rows}
+use Rattle.wc_cli.specs.Line.{operand_id}
+use Rattle.wc_cli.proofs.command.operands.Goals as goal
+
+pub returns : goal.returns
+returns c = c.get_raw.ensures ∙ raw_values-rows (found_of c.args.matches.now) operand_id

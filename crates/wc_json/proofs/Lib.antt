@@ -3,3 +3,6 @@ mod Members
 mod Contents
 mod Steps
 mod Parsed
+mod Asked
+mod Rows
+pub mod Single

@@ -1,4 +1,6 @@
 pub mod Writing
 pub mod Reading
 pub mod Limits
+pub mod Tables
 pub mod Answers
+pub mod Documents

@@ -73,8 +73,13 @@ abbrev mutual
 
 -- ---- folders
 
+-- why something else than a number is asked for: the number is none of 64 bits with sign, or else it is a number
+abbrev pub or_other_shape : Result ℤ Refusal → Refusal
+or_other_shape (Ok z) = (other_shape, [])
+or_other_shape (Err r) = r
+
 abbrev pub not_a_number : {A : Type 0} → Num → Result A Refusal
-not_a_number n = read_number n >>= (λ z. shape)
+not_a_number n = Err (or_other_shape (read_number n))
 
 abbrev pub or_shape : Result (List ℕ) FromHexError → List ℕ → Result (List ℕ) Refusal
 or_shape (Err e) digits = shape

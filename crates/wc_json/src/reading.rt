@@ -1,14 +1,13 @@
 //! Values from JSON.
 
-ghost use Rattle.std.specs.Prelude.{◌≡◌, ℕ, List, Ok, [], IfOk, option_map};
+ghost use Rattle.std.specs.Prelude.{◌≡◌, Ok, [], IfOk, option_map};
 ghost use Rattle.std.specs.Option.{option_copied};
 ghost use Rattle.hex.specs.Hex.{decode_of};
 ghost use Rattle.serde_json.specs.View.{view, items_view, members_view, number_view};
-ghost use Rattle.wc_value.specs.declared.value.Value.{Value};
 ghost use Rattle.wc_value.specs.declared.value.Value.TheVariants.{Text as TheText};
-ghost use Rattle.wc_json.specs.Answers.{Answers, AnswersFor, IsTold, Lifts, Parses, Tells};
+ghost use Rattle.wc_json.specs.Answers.{Answers, AnswersFor, IsTold, Lifts, Parses};
 ghost use Rattle.wc_json.specs.Limits.{fits, within, all_within, read_value, read_fields};
-ghost use Rattle.wc_json.specs.Reading.{other_shape, path_under, read_number, read_int, read_any, read_items, read_members, or_shape, read_digits, digits_in, read_hex, read_content, read_files, not_a_number, read_object, read_number_as, read_as, read_port, read_ports, read_inputs};
+ghost use Rattle.wc_json.specs.Reading.{other_shape, path_under, read_number, read_int, read_any, read_items, read_members, or_shape, read_digits, digits_in, read_hex, read_content, read_files, or_other_shape, read_object, read_number_as, read_as, read_port, read_ports, read_inputs};
 
 use crate::error::JsonError;
 use hex::FromHexError;
@@ -25,7 +24,7 @@ const MOST_BYTES: usize = 4_194_304;
 const MOST_DEPTH: u32 = 32;
 
 /// What stands there isn't what is asked for.
-fn shape(alloc: Global) -> JsonError
+pub(crate) fn shape(alloc: Global) -> JsonError
     ensures { IsTold (other_shape, []) result }
 {
     match Text::of_str(alloc, "") {
@@ -42,7 +41,7 @@ fn path_under(alloc: Global, step: &str, path: &Text) -> Result<Text, AllocError
 }
 
 /// What is refused inside a step.
-fn under(alloc: Global, step: &str, error: JsonError) -> JsonError
+pub(crate) fn under(alloc: Global, step: &str, error: JsonError) -> JsonError
     ensures { Lifts step.now error result }
 {
     match error {
@@ -64,7 +63,7 @@ fn under(alloc: Global, step: &str, error: JsonError) -> JsonError
 }
 
 /// A whole number within 64 bits with sign.
-fn read_number(alloc: Global, number: &Number) -> Result<i64, JsonError>
+pub(crate) fn read_number(alloc: Global, number: &Number) -> Result<i64, JsonError>
     ensures { Answers (read_number (number_view number.now)) result }
 {
     match number.as_i64() {
@@ -80,9 +79,8 @@ fn read_number(alloc: Global, number: &Number) -> Result<i64, JsonError>
 }
 
 /// Why a number isn't what is asked for: it is no whole number within 64 bits with sign, or else it is a number.
-fn not_a_number(alloc: Global, number: &Number) -> JsonError
-    ensures bytes { Tells (not_a_number {A = List ℕ} (number_view number.now)) result }
-    ensures inputs { Tells (not_a_number {A = List (List ℕ × Value)} (number_view number.now)) result }
+pub(crate) fn not_a_number(alloc: Global, number: &Number) -> JsonError
+    ensures { IsTold (or_other_shape (read_number (number_view number.now))) result }
 {
     match read_number(alloc, number) {
         Ok(_) => shape(alloc),
@@ -237,7 +235,7 @@ fn read_content(alloc: Global, json: &Json) -> Result<Bytes, JsonError>
 }
 
 /// The files of an object from names to contents.
-fn read_files(alloc: Global, members: &Map<String, Json>) -> Result<Files, JsonError>
+pub(crate) fn read_files(alloc: Global, members: &Map<String, Json>) -> Result<Files, JsonError>
     ensures { Answers (read_files [] (members_view members.now.entries)) result }
 {
     let mut files = Files::new(alloc);
@@ -297,7 +295,7 @@ fn read_as(alloc: Global, kind: Kind, json: &Json) -> Result<Value, JsonError>
 }
 
 /// Whether a value is within the limits.
-fn fits(value: &Value) -> bool
+pub(crate) fn fits(value: &Value) -> bool
     ensures { result ≡ fits value.now }
 {
     is_within(value, MOST_BYTES, MOST_DEPTH)
@@ -367,7 +365,7 @@ fn read_inputs(alloc: Global, ports: &Ports, json: &Json) -> Result<Fields, Json
 }
 
 /// The JSON that the bytes spell.
-fn parse(alloc: Global, bytes: &[u8]) -> Result<Json, JsonError>
+pub(crate) fn parse(alloc: Global, bytes: &[u8]) -> Result<Json, JsonError>
     ensures { Parses bytes.now result }
 {
     match Json::from_slice(alloc, bytes) {

@@ -16,6 +16,16 @@ initialised_text = codes "initialised\n"
 abbrev pub submitted_text : ℕ → List ℕ
 submitted_text pid = concat (codes "submitted " ∷ decimal pid ∷ codes "\n" ∷ [])
 
+-- the number of the process that has the pause mark, plays, or was killed
+abbrev pub paused_text : ℕ → List ℕ
+paused_text pid = concat (codes "paused " ∷ decimal pid ∷ codes "\n" ∷ [])
+
+abbrev pub playing_text : ℕ → List ℕ
+playing_text pid = concat (codes "playing " ∷ decimal pid ∷ codes "\n" ∷ [])
+
+abbrev pub killed_text : ℕ → List ℕ
+killed_text pid = concat (codes "killed " ∷ decimal pid ∷ codes "\n" ∷ [])
+
 -- how many batches were committed, how many processes are live then, and how many of these have the pause mark
 abbrev pub committed_text : ℕ → ℕ → ℕ → List ℕ
 committed_text committed live paused = concat (codes "committed " ∷ decimal committed ∷ codes " live " ∷ decimal live ∷ codes " paused " ∷ decimal paused ∷ codes "\n" ∷ [])

@@ -1,7 +1,7 @@
 //! The lines that tell what was done to a store, or why nothing was.
 
 ghost use Rattle.std.specs.Prelude.{◌≡◌, IfOk, string_bytes};
-ghost use Rattle.wc_report.specs.Lines.{initialised_text, submitted_text, committed_text, packed_text, found_text, damaged_text, what_text, full_text, is_live, is_paused, live_count, paused_count};
+ghost use Rattle.wc_report.specs.Lines.{initialised_text, submitted_text, paused_text, playing_text, killed_text, committed_text, packed_text, found_text, damaged_text, what_text, full_text, is_live, is_paused, live_count, paused_count};
 
 use std::alloc::{AllocError, Global};
 use wc_state::{ProcessRecord, What};
@@ -20,6 +20,27 @@ pub fn submitted_text(alloc: Global, pid: u32) -> Result<Text, AllocError>
     ensures { IfOk result (λ text. text ≡ submitted_text pid) }
 {
     Text::of_string(format!(in alloc; "submitted {pid}\n")?)
+}
+
+/// The line of `pause`, with the number of the process.
+pub fn paused_text(alloc: Global, pid: u32) -> Result<Text, AllocError>
+    ensures { IfOk result (λ text. text ≡ paused_text pid) }
+{
+    Text::of_string(format!(in alloc; "paused {pid}\n")?)
+}
+
+/// The line of `play`, with the number of the process.
+pub fn playing_text(alloc: Global, pid: u32) -> Result<Text, AllocError>
+    ensures { IfOk result (λ text. text ≡ playing_text pid) }
+{
+    Text::of_string(format!(in alloc; "playing {pid}\n")?)
+}
+
+/// The line of `kill`, with the number of the process.
+pub fn killed_text(alloc: Global, pid: u32) -> Result<Text, AllocError>
+    ensures { IfOk result (λ text. text ≡ killed_text pid) }
+{
+    Text::of_string(format!(in alloc; "killed {pid}\n")?)
 }
 
 /// The line of `run`: how many batches it committed, how many processes are live, and how many of these are paused.

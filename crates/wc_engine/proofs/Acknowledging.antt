@@ -1,15 +1,18 @@
 -- What is acknowledged stands.
-use Rattle.std.proofs.Common.{◌≡◌, inl, inr, ℕ, List, Option, Some, None, Ok, IsTrue, sym, ap, subst}
+use Rattle.std.proofs.Common.{◌≡◌, inl, inr, ⊎_elim, ℕ, List, [], Option, Some, None, Result, Ok, Err, IsTrue, sym, ap, subst, ◌∙◌}
 use Rattle.wc_disk.specs.declared.disk.Disk as disk
 use Rattle.wc_journal.specs.declared.error.Found.{Found}
 use Rattle.wc_state.specs.declared.record.What.{What}
 use Rattle.wc_world.specs.World.{World, empty}
 use Rattle.wc_world.specs.Applied.{applied}
-use Rattle.wc_machine.specs.Submitting.{submitted_number}
+use Rattle.wc_machine.specs.Machine.{after_changes}
+use Rattle.wc_core.proofs.Happening.{after_some}
 use Rattle.wc_store.specs.Held.{Standing, nothing, damage, a_world}
 use Rattle.wc_store.specs.Laws.{HeldIsReached}
+use Rattle.wc_state.specs.Ranges.{AreLimits}
+use Rattle.wc_config.specs.declared.settings.Settings.{Settings}
 use Rattle.wc_cli.specs.declared.command.Command.{Command}
-use Rattle.wc_cli.specs.declared.command.Command.TheVariants.{Dry, Check, Init, Submit, Run, View, Pack}
+use Rattle.wc_cli.specs.declared.command.Command.TheVariants.{Dry, Check, Init, Submit, Run, View, Pause, Play, Kill, Pack}
 use Rattle.wc_cli.specs.Words.{command_of}
 use Rattle.wc_engine.specs.declared.deed.Asked.TheVariants as asked
 use Rattle.wc_engine.specs.declared.deed.Begin.TheVariants as begin
@@ -28,19 +31,25 @@ use Rattle.wc_engine.specs.declared.submission.Prepared.{Prepared}
 use Rattle.wc_engine.specs.declared.submission.Prepared.TheVariants as prepared
 use Rattle.wc_engine.specs.Crashes.{AreDurable, Stands}
 use Rattle.wc_engine.specs.Owed.{visit, OwedPlan, IsOwed, NeedDisks}
-use Rattle.wc_engine.specs.Plans.{Plans, IsReadyDeed, IsReadyWork, plan_of_prepared}
+use Rattle.wc_engine.specs.Plans.{Plans, PlansSubmission, IsReadyDeed, IsReadyWork, plan_of_prepared, plan_of_run}
 use Rattle.wc_engine.specs.Replies.{refuses, IsDoneOrFull, OwesStatus, Writes}
-use Rattle.wc_engine.specs.Rows.{row, work_row}
+use Rattle.wc_engine.specs.Events.{TellsAlone}
+use Rattle.wc_engine.specs.Rows.{HasHappened, row, work_row}
 use Rattle.wc_engine.specs.Stored.{Images, Hold, is_damaged, is_full}
+use Rattle.wc_engine.specs.Settings.{SettingsReady, submitted_with}
 use Rattle.wc_engine.specs.Submits.{PreparesFrom}
-use Rattle.wc_engine.proofs.Entered.{has_process}
+use Rattle.wc_engine.proofs.Configured.{settings_ready, submission_ready}
+use Rattle.wc_engine.proofs.Happened.{has_happened}
 use Rattle.wc_engine.proofs.Exits.{durable_same}
-use Rattle.wc_engine.proofs.Submitted.{result_ready}
+use Rattle.wc_engine.proofs.Submitted.{read_ready}
 
 -- ---- what wasn't done
 
+no_refusal : (c : Cause) → status.Refused c ≡ status.Ok → ⊥
+no_refusal c h = cc
+
 not_refused : (c : Cause) (r : Reply) → r ≡ refuses c → r.status ≡ status.Ok → ⊥
-not_refused c r is ok = cc
+not_refused c r is ok = no_refusal c (sym (ap (λ (x : Reply). x.status) is) ∙ ok)
 
 not_damaged : (disk at : ℕ) (found : Found) (r : Reply) → r ≡ is_damaged disk at found → r.status ≡ status.Ok → ⊥
 not_damaged disk at found r is ok = cc
@@ -53,20 +62,33 @@ not_full what count limit r is ok = cc
 same_deed : (d e : Deed) → plan.On d ≡ plan.On e → e ≡ d
 same_deed d e h = cc
 
-prepared_ready : (told : Option (List ℕ → Option (List ℕ))) (file name : List ℕ) (given : List (List ℕ × List ℕ)) (p : Prepared) (d : Deed)
-    → PreparesFrom told file name given p → plan.On d ≡ plan_of_prepared p → IsReadyDeed d
-prepared_ready told file name given (prepared.Refused c) d prepares is = absurd (cc)
-prepared_ready told file name given (prepared.Submits s) d prepares is =
-    subst IsReadyDeed (same_deed d (deed.Work (work.Event (asked.Submit s))) is)
-    (result_ready {E = Unit {0}} name given prepares.2.0 (Ok (prepared.Submits s)) prepares.2.2)
+prepared_ready : (told : Option (List ℕ → Option (List ℕ))) (file name : List ℕ) (given : List (List ℕ × List ℕ)) (inputs : Option (List ℕ)) (t : Settings) (p : Prepared) (d : Deed)
+    → AreLimits t.limits → PreparesFrom told file name given inputs p → plan.On d ≡ plan_of_prepared t p → IsReadyDeed d
+prepared_ready told file name given inputs t (prepared.Refused c) d limits prepares is = absurd (cc)
+prepared_ready told file name given inputs t (prepared.Submits i) d limits prepares is =
+    subst IsReadyDeed (same_deed d (deed.Work (work.Event (asked.Submit (submitted_with t i)))) is)
+    (submission_ready t i (read_ready told inputs name given prepares.0 (prepared.Submits i) prepares.2) limits)
+
+planned_ready : (told : Option (List ℕ → Option (List ℕ))) (file name : List ℕ) (given : List (List ℕ × List ℕ)) (inputs : Option (List ℕ)) (s : Result Settings Cause) (d : Deed) → SettingsReady s
+    → PlansSubmission told file name given inputs s (plan.On d) → IsReadyDeed d
+planned_ready told file name given inputs (Err c) d limits p = absurd (cc)
+planned_ready told file name given inputs (Ok t) d limits p = prepared_ready told file name given inputs t p.0 d limits p.1 p.2
+
+run_ready : (turns seed : ℕ) (s : Result Settings Cause) (d : Deed) → SettingsReady s → plan.On d ≡ plan_of_run turns seed s → IsReadyDeed d
+run_ready turns seed (Err c) d limits is = absurd (cc)
+run_ready turns seed (Ok t) d limits is = subst IsReadyDeed (same_deed d _ is) limits
 
 plan_ready : (told : Option (List ℕ → Option (List ℕ))) (command : Option Command) (d : Deed) → Plans told command (plan.On d) → IsReadyDeed d
 plan_ready told None d p = absurd (cc)
 plan_ready told (Some (Check file)) d p = absurd (cc p.2)
-plan_ready told (Some (Dry file name given fuel)) d p = absurd (cc p.2)
+plan_ready told (Some (Dry file name given inputs table fuel)) d p = absurd (cc p.4)
 plan_ready told (Some Init) d p = subst IsReadyDeed (same_deed d _ p) tt
-plan_ready told (Some (Submit file name given)) d p = prepared_ready told file name given p.0 d p.1 p.2
-plan_ready told (Some Run) d p = subst IsReadyDeed (same_deed d _ p) tt
+plan_ready told (Some (Submit file name given inputs settings)) d p =
+    planned_ready told file name given inputs p.0 d (settings_ready told settings p.0 p.1) p.2
+plan_ready told (Some (Pause pid)) d p = subst IsReadyDeed (same_deed d _ p) tt
+plan_ready told (Some (Play pid)) d p = subst IsReadyDeed (same_deed d _ p) tt
+plan_ready told (Some (Kill pid)) d p = subst IsReadyDeed (same_deed d _ p) tt
+plan_ready told (Some (Run turns seed settings)) d p = run_ready turns seed p.0 d (settings_ready told settings p.0 p.1) p.2
 plan_ready told (Some (View v)) d p = subst IsReadyDeed (same_deed d _ p) tt
 plan_ready told (Some Pack) d p = subst IsReadyDeed (same_deed d _ p) tt
 
@@ -79,13 +101,24 @@ HoldsAcknowledged after P = (w : World) × Hold after (a_world w) × P w
 work_acknowledged : HeldIsReached → (k : Work) → IsReadyWork k → (before : Images) (w : World) (after : Images) (r : Reply) → Hold before (a_world w) → r.status ≡ status.Ok
     → (work_row k).does before w after r → HoldsAcknowledged after ((work_row k).acknowledges r.text)
 work_acknowledged law (work.View v) ready before w after r held ok shows = (w, subst (λ (x : Images). Hold x (a_world w)) (sym shows.0) held, tt)
-work_acknowledged law (work.Event (asked.Submit s)) ready before w after r held ok (inl e) = (
+work_acknowledged law (work.Event a) ready before w after r held ok (inl e) = (
   applied w e.changes,
   e.held,
-  (submitted_number w s.inputs, ap (λ (x : Reply). x.text) e.reply, has_process w s e.changes (law before.0 before.1 w held) ready e.submits),
+  subst (λ (v : World). HasHappened a r.text v) (after_some w e.changes e.some)
+      (subst (λ (t : List ℕ). HasHappened a t (after_changes w e.changes)) (sym (ap (λ (x : Reply). x.text) e.reply))
+      (has_happened a w e.changes (law before.0 before.1 w held) ready e.submits)),
 )
-work_acknowledged law (work.Event (asked.Submit s)) ready before w after r held ok (inr full) = absurd (not_full full.what full.count full.limit r full.reply ok)
-work_acknowledged law work.Run ready before w after r held ok runs = (runs.later, runs.held, tt)
+work_acknowledged law (work.Event a) ready before w after r held ok (inr u) = ⊎_elim alone (λ full. absurd (not_full full.0 full.1 full.2 r full.4 ok)) u.tells
+  where
+    alone : TellsAlone a w r → HoldsAcknowledged after (HasHappened a r.text)
+    alone (inl idle) = (
+      w,
+      u.held,
+      subst (λ (t : List ℕ). HasHappened a t w) (sym (ap (λ (x : Reply). x.text) idle.1)) (has_happened a w [] (law before.0 before.1 w held) ready idle.0),
+    )
+    alone (inr (inl refused)) = absurd (not_refused refused.0 r refused.2 ok)
+    alone (inr (inr full)) = absurd (not_full full.0 full.1 full.2 r full.4 ok)
+work_acknowledged law (work.Run o) ready before w after r held ok runs = (runs.later, runs.held, tt)
 work_acknowledged law work.Pack ready before w after r held ok packs = (w, packs.0, tt)
 
 row_acknowledged : HeldIsReached → (d : Deed) → IsReadyDeed d → (before : Images) (s : Standing) (after : Images) (r : Reply) → Hold before s → r.status ≡ status.Ok

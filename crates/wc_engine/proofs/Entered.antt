@@ -5,7 +5,6 @@ use Rattle.std.proofs.lemmas.Bool.{ne_eqb}
 use Rattle.std.proofs.lemmas.List.Elements.{All-head, All-tail}
 use Rattle.wc_syntax.specs.Findings.{definition_named}
 use Rattle.wc_syntax.specs.declared.definition.Definition.{Definition}
-use Rattle.wc_syntax.specs.declared.definition.Definition.TheVariants as definition
 use Rattle.wc_state.specs.declared.record.ProcessRecord.{ProcessRecord}
 use Rattle.wc_world.specs.declared.change.Change.{Change}
 use Rattle.wc_world.specs.World.{World, Known}
@@ -15,6 +14,7 @@ use Rattle.wc_world.specs.Consistent.{IsConsistent}
 use Rattle.wc_world.specs.Records.{find_record, library_at, kind_of_definition}
 use Rattle.wc_world.proofs.ReachedWorlds.{reached_is_consistent}
 use Rattle.wc_world.proofs.SnapshotLists.{IsFree, find_here}
+use Rattle.wc_machine.specs.Calling.{caching_of, caching_in}
 use Rattle.wc_machine.specs.Recorded.{recorded_inputs}
 use Rattle.wc_machine.specs.Submitting.{Submits, submitted_number}
 use Rattle.wc_machine.proofs.Frames.{records_below}
@@ -23,8 +23,7 @@ use Rattle.wc_machine.proofs.SubmittedAccepted.{inputs_are}
 use Rattle.wc_machine.proofs.SubmittedInputs.{inputs_gathered}
 use Rattle.wc_engine.specs.declared.submission.Submission.{Submission}
 use Rattle.wc_engine.specs.Acknowledged.{HasProcess}
-use Rattle.wc_engine.specs.Events.{Changes, event_of}
-use Rattle.wc_engine.specs.Stored.{usual_limits}
+use Rattle.wc_engine.specs.Events.{Changes}
 use Rattle.wc_engine.specs.declared.deed.Asked.TheVariants as asked
 use Rattle.wc_engine.proofs.Asking.{submits_of}
 use Rattle.wc_engine.specs.Submits.{IsReady}
@@ -41,10 +40,10 @@ same_definition o d e p q = cc
 
 module _ (w : World) (h : IsConsistent w) (s : Submission) (ready : IsReady s) (d : Definition) (there : definition_named s.name s.library ≡ Some d) where
   abbrev after : World
-  after = submitted_world w s.library [] s.name s.inputs d
+  after = submitted_world w s.library s.caching s.name s.inputs d
 
   abbrev process : ProcessRecord
-  process = new_record w s.library [] s.name s.inputs d
+  process = new_record w s.library s.caching s.name s.inputs d
 
   found : find_record (submitted_number w s.inputs) after.records ≡ Some process
   found =
@@ -53,12 +52,15 @@ module _ (w : World) (h : IsConsistent w) (s : Submission) (ready : IsReady s) (
       (free_beyond (submitted_number w s.inputs) (suc (length w.nodes)) w.records le (records_below w.nodes w.records h.numbered)) refl
 
   its_library : library_at after.libraries process.library ≡ Some s.library
-  its_library = ap (λ (o : Option Known). option_map (λ k. k.0) o) (at_length w.libraries (s.library, []) [])
+  its_library = ap (λ (o : Option Known). option_map (λ k. k.0) o) (at_length w.libraries (s.library, s.caching) [])
+
+  its_names : caching_in after.libraries process.library ≡ s.caching
+  its_names = ap caching_of (at_length w.libraries (s.library, s.caching) [])
 
   its_inputs : recorded_inputs after (submitted_number w s.inputs) ≡ s.inputs
   its_inputs =
-      inputs_gathered (kind_of_definition d) w.nodes (new_nodes w s.library [] s.name s.inputs d) w.links (length w.nodes + 1) (submitted_number w s.inputs) s.inputs
-      (omega arith) h.links.ends (inputs_are w h s.library [] s.name s.inputs d there) ready.ascends
+      inputs_gathered (kind_of_definition d) w.nodes (new_nodes w s.library s.caching s.name s.inputs d) w.links (length w.nodes + 1) (submitted_number w s.inputs) s.inputs
+      (omega arith) h.links.ends (inputs_are w h s.library s.caching s.name s.inputs d there) ready.callable.ascends
 
   is_there : HasProcess after (submitted_number w s.inputs) s
   is_there = record {
@@ -67,16 +69,17 @@ module _ (w : World) (h : IsConsistent w) (s : Submission) (ready : IsReady s) (
     kind = λ e named. ap kind_of_definition (same_definition (definition_named s.name s.library) d e there named);
     first = refl;
     library = its_library;
+    names = its_names;
     name = refl;
     inputs = its_inputs;
-    uncached = refl;
+    caching = refl;
   }
 
 pub has_process : (w : World) (s : Submission) (cs : List Change) → IsReached w → IsReady s → Changes w (asked.Submit s) cs
     → HasProcess (applied w cs) (submitted_number w s.inputs) s
 has_process w s cs reached ready leads =
-    let submits : Submits w s.library [] s.name s.inputs cs = submits_of usual_limits.poll_ms w (event_of (asked.Submit s)) cs leads in
+    let submits : Submits w s.library s.caching s.name s.inputs cs = submits_of w s cs leads in
     let d : Definition = submits.definition in
-    let gives : applied w cs ≡ submitted_world w s.library [] s.name s.inputs d
-    = ap (applied w) submits.changes ∙ submission_gives w s.library [] s.name s.inputs d in
+    let gives : applied w cs ≡ submitted_world w s.library s.caching s.name s.inputs d
+    = ap (applied w) submits.changes ∙ submission_gives w s.library s.caching s.name s.inputs d in
     subst (λ (v : World). HasProcess v (submitted_number w s.inputs) s) (sym gives) (is_there w (reached_is_consistent w reached) s ready d submits.is_there)

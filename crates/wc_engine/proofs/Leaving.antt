@@ -19,10 +19,10 @@ use Rattle.wc_runner.specs.Laws.{TurnsKeepSound, WorldsContinueThemselves}
 use Rattle.wc_runner.specs.Leaves.{LeavesWorlds, SomeTurns}
 use Rattle.wc_runner.specs.Outside.{Outside}
 use Rattle.wc_engine.specs.Crashes.{Keeps, HoldsKeeping, Kept, WritesOne, LeavesPairs, LeavesKept}
-use Rattle.wc_engine.specs.Running.{usual_turns, widest}
+use Rattle.wc_engine.specs.declared.deed.RunOptions.{RunOptions}
+use Rattle.wc_engine.specs.Running.{widest}
 use Rattle.wc_engine.proofs.Widening.{some_turns}
 use Rattle.wc_engine.specs.Rows.{Stays, TakesSome}
-use Rattle.wc_engine.specs.Stored.{usual_limits}
 
 keeps_itself : WorldsContinueThemselves → (w : World) → IsReached w → Keeps w w
 keeps_itself law w reached sound = record { sound = sound; continues = law w reached; reached = reached }
@@ -88,19 +88,19 @@ module _ {D : Type 0} (g : disk.Ghosts D) (at_now : (d : D) (image : List ℕ) �
         (then_pack g at_now one two one two (none_asked one) (none_asked two) stands.durable_one stands.durable_two store.place store.world.world one_new two_new leaves)
         (λ a b held. (store.world.world, held, refl, keeps_itself same_law store.world.world reached)) (other_writes store.place one two one_new two_new leaves.untouched)
 
-    -- turns and rests, within the usual limits
-    pub taken : (o : Outside) → TurnsKeepSound o → o.limits ≡ usual_limits → (one_new two_new : D)
-        → LeavesWorlds g store.place (SomeTurns o usual_turns store.world.world) one two one_new two_new
-        → LeavesPairs g one two one_new two_new (HoldsKeeping TakesSome store.world.world)
-    taken o law usual one_new two_new leaves =
+    -- turns and rests, within the limits that are given
+    pub taken : (o : Outside) (p : RunOptions) → TurnsKeepSound o → o.limits ≡ p.limits → (one_new two_new : D)
+        → LeavesWorlds g store.place (SomeTurns o p.turns store.world.world) one two one_new two_new
+        → LeavesPairs g one two one_new two_new (HoldsKeeping (TakesSome p) store.world.world)
+    taken o p law given one_new two_new leaves =
         let w = store.world.world in
-        let P : World → Type 0 = SomeTurns o usual_turns w in
-        with_one TakesSome (λ a b. (v : World) × P v × IsHeld a b (a_world v)) one_new two_new
+        let P : World → Type 0 = SomeTurns o p.turns w in
+        with_one (TakesSome p) (λ a b. (v : World) × P v × IsHeld a b (a_world v)) one_new two_new
         (then_worlds g at_now one two one two (none_asked one) (none_asked two) stands.durable_one stands.durable_two store.place P one_new two_new leaves.untouched leaves.each)
         (λ a b held. (
           held.0,
           held.2,
-          inr (subst (λ (l : Limits). SomeTurns (widest l) usual_turns w held.0) usual (some_turns o usual_turns w held.0 held.1)),
+          inr (subst (λ (l : Limits). SomeTurns (widest l) p.turns w held.0) given (some_turns o p.turns w held.0 held.1)),
           λ sound. law held.1.0.count held.1.0.rests w held.0 reached sound held.1.0.turns,
         ))
         (own_writes store.place one two one_new two_new leaves.untouched)

@@ -3,10 +3,6 @@ use Rattle.std.proofs.Common.{◌≡◌, inl, inr, ℕ, List, Some, Result, Ok, 
 use Rattle.wc_journal.specs.declared.journal.Journal.{Journal}
 use Rattle.wc_world.specs.declared.change.Change.{Change}
 use Rattle.wc_world.specs.World.{World}
-use Rattle.wc_world.specs.Applied.{applied}
-use Rattle.wc_refusal.specs.Refusals.{HasRoom}
-use Rattle.wc_refusal.specs.declared.error.TurnError.{TurnError}
-use Rattle.wc_refusal.specs.declared.error.TurnError.TheVariants as turn_error
 use Rattle.wc_store.specs.declared.error.StoreError.{StoreError}
 use Rattle.wc_store.specs.declared.error.StoreError.TheVariants as error
 use Rattle.wc_store.specs.Held.{Standing}
@@ -18,11 +14,12 @@ use Rattle.wc_engine.specs.declared.deed.Deed.TheVariants as deed
 use Rattle.wc_engine.specs.declared.deed.Work.{Work}
 use Rattle.wc_engine.specs.declared.deed.Work.TheVariants as work
 use Rattle.wc_engine.specs.declared.reply.Reply.{Reply}
-use Rattle.wc_engine.specs.Opening.{NoWorld, TellsDamage, store_reply, turn_reply}
+use Rattle.wc_engine.specs.Opening.{NoWorld, TellsDamage, store_reply}
 use Rattle.wc_engine.specs.Replies.{IsReplied}
-use Rattle.wc_engine.specs.Events.{Changes, RefusesAsked}
+use Rattle.wc_engine.specs.Entries.{IsStorable}
+use Rattle.wc_engine.specs.Events.{TellsAlone, limits_of}
 use Rattle.wc_engine.specs.Rows.{row, work_row, event_row, pack_row}
-use Rattle.wc_engine.specs.Stored.{usual_limits, is_damaged, is_full}
+use Rattle.wc_engine.specs.Stored.{is_damaged, is_full}
 use Rattle.wc_engine.proofs.Doing.{some_is}
 use Rattle.wc_engine.proofs.Turns.{run_replied}
 use Rattle.wc_engine.proofs.Viewing.{is_replied, view_shown}
@@ -39,12 +36,18 @@ none_replied : (r : Reply) → NoWorld r → IsReplied r.status
 none_replied r (inl is) = same_replied r _ is tt
 none_replied r (inr d) = damage_replied r d
 
+alone_replied : (a : Asked) (w : World) (r : Reply) → TellsAlone a w r → IsReplied r.status
+alone_replied a w r (inl idle) = same_replied r _ idle.1 tt
+alone_replied a w r (inr (inl refused)) = same_replied r _ refused.2 tt
+alone_replied a w r (inr (inr full)) = same_replied r _ full.4 tt
+
 work_replied : (w : Work) (r : Reply) → (work_row w).may r → IsReplied r.status
 work_replied (work.View v) r p = is_replied r.status (view_shown v p.0 r p.1)
 work_replied (work.Event a) r (w, inl p) = same_replied r _ p.2 tt
-work_replied (work.Event a) r (w, inr f) = same_replied r _ f.4 tt
-work_replied work.Run r (w, v, takes, inl h) = same_replied r _ h.reply (run_replied h.end)
-work_replied work.Run r (w, v, takes, inr f) = same_replied r _ f.1.reply tt
+work_replied (work.Event a) r (w, inr (inl t)) = alone_replied a w r t
+work_replied (work.Event a) r (w, inr (inr f)) = same_replied r _ f.4 tt
+work_replied (work.Run o) r (w, v, takes, inl h) = same_replied r _ h.reply (run_replied h.end)
+work_replied (work.Run o) r (w, v, takes, inr f) = same_replied r _ f.1.reply tt
 work_replied work.Pack r (generation, w, inl p) = same_replied r _ p.1 tt
 work_replied work.Pack r (generation, w, inr f) = same_replied r _ f.4 tt
 
@@ -74,33 +77,20 @@ refused_packing generation w (error.Full what count limit) (Ok r) refused reply 
 refused_packing generation w error.AlreadyThere (Ok r) refused reply = absurd refused
 refused_packing generation w error.OutOfMemory (Ok r) refused reply = absurd (cc)
 
-pub refused_commit : {E : Type 0} (a : Asked) (journal : Journal) (w : World) (cs : List Change) (e : StoreError) (result : Result Reply E) → Changes w a cs
-    → HasRoom usual_limits.max_nodes (applied w cs) → RefusesCommit journal usual_limits w cs e → IfOk result (λ r. store_reply e ≡ Some r)
-    → IfOk result (λ r. (event_row a).may r)
-refused_commit a journal w cs e (Err x) leads room refused reply = reply
-refused_commit a journal w cs error.DiskFault (Ok r) leads room refused reply = absurd (cc)
-refused_commit a journal w cs (error.Damaged disk at found) (Ok r) leads room refused reply = absurd refused
-refused_commit a journal w cs (error.Full what count limit) (Ok r) leads room refused reply = (
+pub refused_commit : {E : Type 0} (a : Asked) (journal : Journal) (w : World) (cs : List Change) (e : StoreError) (result : Result Reply E) → IsStorable a w cs
+    → RefusesCommit journal (limits_of a) w cs e → IfOk result (λ r. store_reply e ≡ Some r) → IfOk result (λ r. (event_row a).may r)
+refused_commit a journal w cs e (Err x) storable refused reply = reply
+refused_commit a journal w cs error.DiskFault (Ok r) storable refused reply = absurd (cc)
+refused_commit a journal w cs (error.Damaged disk at found) (Ok r) storable refused reply = absurd refused
+refused_commit a journal w cs (error.Full what count limit) (Ok r) storable refused reply = (
   w,
-  inr (
+  inr (inr (
     what,
     count,
     limit,
-    inr (journal, record { changes = cs; submits = leads; room = room; refused = refused }),
+    (journal, record { changes = cs; submits = storable.leads; some = storable.some; room = storable.room; refused = refused }),
     sym (some_is (is_full what count limit) r reply),
-  ),
+  )),
 )
-refused_commit a journal w cs error.AlreadyThere (Ok r) leads room refused reply = absurd refused
-refused_commit a journal w cs error.OutOfMemory (Ok r) leads room refused reply = absurd (cc)
-
-pub refused_changes : {E : Type 0} (a : Asked) (w : World) (e : TurnError) (result : Result Reply E) → RefusesAsked a w e → IfOk result (λ r. turn_reply e ≡ Some r)
-    → IfOk result (λ r. (event_row a).may r)
-refused_changes a w e (Err x) refused reply = reply
-refused_changes a w turn_error.NotReady (Ok r) refused reply = absurd (cc)
-refused_changes a w (turn_error.Full what count limit) (Ok r) refused reply =
-    (w, inr (what, count, limit, inl refused, sym (some_is (is_full what count limit) r reply)))
-refused_changes a w turn_error.UnknownProcess (Ok r) refused reply = absurd (cc)
-refused_changes a w (turn_error.Ended state) (Ok r) refused reply = absurd (cc)
-refused_changes a w turn_error.UnknownName (Ok r) refused reply = absurd (cc)
-refused_changes a w (turn_error.BadInputs port) (Ok r) refused reply = absurd (cc)
-refused_changes a w turn_error.OutOfMemory (Ok r) refused reply = absurd (cc)
+refused_commit a journal w cs error.AlreadyThere (Ok r) storable refused reply = absurd refused
+refused_commit a journal w cs error.OutOfMemory (Ok r) storable refused reply = absurd (cc)

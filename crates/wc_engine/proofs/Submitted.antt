@@ -28,28 +28,53 @@ use Rattle.wc_meaning.proofs.Least.{no_least}
 use Rattle.wc_engine.specs.declared.reading.Read.{Read}
 use Rattle.wc_engine.specs.declared.reading.Read.TheVariants as read
 use Rattle.wc_engine.specs.declared.submission.Prepared.{Prepared}
-use Rattle.wc_engine.specs.Given.{bool_in_words, value_in_words, allowed, value_of_kind, given_value, unread, times_given, is_ill, ill_given, bad_given, with_field, fields_of}
-use Rattle.wc_engine.specs.Submits.{inputs_of, inputs_for, prepared_with, prepared_of, IsWithinLimits, SubmitsReady}
-use Rattle.wc_engine.proofs.Bares.{bad_given_bare, fields_bare}
+use Rattle.wc_json.specs.declared.error.JsonError.{JsonError}
+use Rattle.wc_json.specs.Documents.{answer_of}
+use Rattle.wc_json.specs.Limits.{read_fields}
+use Rattle.wc_engine.specs.declared.status.Cause.{Cause}
+use Rattle.wc_engine.specs.declared.status.Cause.TheVariants as cause
+use Rattle.wc_engine.specs.Further.{InputsFrom, kinds_of, or_cause, read_file}
+use Rattle.wc_engine.specs.Given.{bool_in_words, value_in_words, allowed, value_of_kind, given_value, unread, times_given, is_in, is_ill, ill_given, bad_given, with_field, fields_of}
+use Rattle.wc_engine.specs.Submits.{inputs_of, inputs_beside, InputsFor, prepared_with, PreparesRead, IsWithinLimits, SubmitsReady}
+use Rattle.wc_engine.proofs.Bares.{bad_given_bare, fields_bare, inputs_from_bare}
+use Rattle.wc_engine.proofs.Filed.{Takes, Holds, all_put, bytes_taken}
 
 -- ---- offsets play no part
 
-with_bare : (bad : Option (List ℕ)) (ports : List Port) (given : List (List ℕ × List ℕ)) → inputs_of bad (map bare_port ports) given ≡ inputs_of bad ports given
-with_bare None ports given = ap Ok (fields_bare ports given [])
-with_bare (Some port) ports given = refl
+of_bare : (bad : Option (List ℕ)) (ports : List Port) (given : List (List ℕ × List ℕ)) (file : List (List ℕ × Value)) → inputs_of bad (map bare_port ports) given file ≡ inputs_of bad ports given file
+of_bare None ports given file = ap Ok (fields_bare ports given file)
+of_bare (Some port) ports given file = refl
 
-ports_bare : (ports : List Port) (given : List (List ℕ × List ℕ)) → inputs_of (bad_given (map bare_port ports) given) (map bare_port ports) given ≡ inputs_of (bad_given ports given) ports given
-ports_bare ports given =
-    ap (λ (bad : Option (List ℕ)). inputs_of bad (map bare_port ports) given) (bad_given_bare ports given) ∙ with_bare (bad_given ports given) ports given
+beside_bare : (file : Result (List (List ℕ × Value)) Cause) (ports : List Port) (given : List (List ℕ × List ℕ)) → inputs_beside file (map bare_port ports) given ≡ inputs_beside file ports given
+beside_bare (Ok file) ports given =
+    ap (λ (bad : Option (List ℕ)). inputs_of bad (map bare_port ports) given file) (bad_given_bare ports given file) ∙ of_bare (bad_given ports given file) ports given file
+beside_bare (Err c) ports given = refl
 
-definition_bare : (d : Option Definition) (name : List ℕ) (given : List (List ℕ × List ℕ)) → inputs_for (option_map bare_definition d) name given ≡ inputs_for d name given
-definition_bare None name given = refl
-definition_bare (Some (definition.Function f)) name given = ports_bare f.head.inputs given
-definition_bare (Some (definition.Job j)) name given = ports_bare j.head.inputs given
-definition_bare (Some (definition.Chain c)) name given = ports_bare c.head.inputs given
+module _ (told : Option (List ℕ → Option (List ℕ))) (inputs : Option (List ℕ)) (name : List ℕ) (given : List (List ℕ × List ℕ)) (r : Result (List (List ℕ × Value)) Cause) where
+  -- with a file of inputs for these ports
+  abbrev ForPorts : List Port → Type 0
+  ForPorts ports = (file : Result (List (List ℕ × Value)) Cause) × InputsFrom told inputs ports file × (r ≡ inputs_beside file ports given)
 
-pub inputs_bare : (ds : List Definition) (name : List ℕ) (given : List (List ℕ × List ℕ)) → inputs_for (definition_named name (bare_library ds)) name given ≡ inputs_for (definition_named name ds) name given
-inputs_bare ds name given = ap (λ (d : Option Definition). inputs_for d name given) (named_bare name ds) ∙ definition_bare (definition_named name ds) name given
+  ports_bare : (ports : List Port) → ForPorts ports → ForPorts (map bare_port ports)
+  ports_bare ports i = (i.0, inputs_from_bare told inputs ports i.0 i.1, i.2 ∙ sym (beside_bare i.0 ports given))
+
+  definition_bare : (d : Option Definition) → InputsFor told inputs d name given r → InputsFor told inputs (option_map bare_definition d) name given r
+  definition_bare None i = i
+  definition_bare (Some (definition.Function f)) i = ports_bare f.head.inputs i
+  definition_bare (Some (definition.Job j)) i = ports_bare j.head.inputs i
+  definition_bare (Some (definition.Chain c)) i = ports_bare c.head.inputs i
+
+  inputs_bare : (ds : List Definition) → InputsFor told inputs (definition_named name ds) name given r → InputsFor told inputs (definition_named name (bare_library ds)) name given r
+  inputs_bare ds i =
+      subst (λ (d : Option Definition). InputsFor told inputs d name given r) (sym (named_bare name ds)) (definition_bare (definition_named name ds) i)
+
+-- what holds of the library with offsets holds of the checked one
+pub result_bare : {E : Type 0} (told : Option (List ℕ → Option (List ℕ))) (inputs : Option (List ℕ)) (name : List ℕ) (given : List (List ℕ × List ℕ)) (ds library : List Definition)
+    (result : Result (Result (List (List ℕ × Value)) Cause) E) → bare_library ds ≡ library
+    → IfOk result (λ r. InputsFor told inputs (definition_named name ds) name given r) → IfOk result (λ r. InputsFor told inputs (definition_named name library) name given r)
+result_bare told inputs name given ds library (Ok r) same h =
+    subst (λ (l : List Definition). InputsFor told inputs (definition_named name l) name given r) same (inputs_bare told inputs name given r ds h)
+result_bare told inputs name given ds library (Err e) same h = h
 
 -- ---- a value in words is of its port's kind, and within the limits
 
@@ -87,10 +112,6 @@ limits v name h = both (length (spelling v)) (depth v) h
     both : (m n : ℕ) → (nat_le m 4194304 && nat_le n 32) ≡ true → (m ≤ 4194304) × (n ≤ 32)
     both m n h = grind (arith, nat_tests)
 
--- what is held of each input
-abbrev Takes : List Port → List ℕ × Value → Type 0
-Takes ports i = (is_good ports i ≡ true) × IsWithinLimits i
-
 kind_taken : (o : Option Kind) (name text : List ℕ) (v : Value) → value_of_kind o text ≡ Some v → (fits_port o v ≡ true) × IsWithinLimits (name, v)
 kind_taken None name text v h = absurd (cc)
 kind_taken (Some k) name text v h = let a = allowed_value (value_in_words k text) v h in (words_kind k text v a.0, limits v name a.1)
@@ -99,19 +120,6 @@ value_taken : (ports : List Port) (g : List ℕ × List ℕ) (v : Value) → giv
 value_taken ports g v h = kind_taken (kind_of_port g.0 ports) g.0 g.1 v h
 
 -- ---- the inputs are held so, in order
-
-all_put : (P : List ℕ × Value → Type 0) (name : List ℕ) (v : Value) (es : List (List ℕ × Value)) → AllByRecursion P es → P (name, v) → AllByRecursion P (put name v es)
-all_put P name v [] a p = (p, tt)
-all_put P name v (e ∷ es) a p = at (before e.0 name) (bytes_eq e.0 name) (all_put P name v es a.1 p)
-  where
-    at : (b c : Bool) → AllByRecursion P (put name v es) → AllByRecursion P (if b then e ∷ put name v es else if c then (name, v) ∷ es else (name, v) ∷ e ∷ es)
-    at true c rest = (a.0, rest)
-    at false true rest = (p, a.1)
-    at false false rest = (p, a)
-
--- what is held of inputs
-abbrev Holds : List Port → List (List ℕ × Value) → Type 0
-Holds ports fields = AllByRecursion (Takes ports) fields × Ascends fields
 
 field_holds : (ports : List Port) (name : List ℕ) (o : Option Value) (fields : List (List ℕ × Value)) → ((v : Value) → o ≡ Some v → Takes ports (name, v))
     → Holds ports fields → Holds ports (with_field name o fields)
@@ -223,20 +231,22 @@ given_there name ports (g ∷ gs) fields r h = at (bytes_eq g.0 name) refl h (λ
 
 -- ---- so no input is missing
 
-well : (p : Port) (n : ℕ) → is_ill p n ≡ false → (not p.optional ≡ false) ⊎ ((n == 0) ≡ false)
-well p n h = at (nat_lt 1 n) (n == 0) (not p.optional) h
+well : (p : Port) (n : ℕ) (filed : Bool) → is_ill p n filed ≡ false → (not p.optional ≡ false) ⊎ (((n == 0) ≡ false) ⊎ (filed ≡ true))
+well p n filed h = at (nat_lt 1 n) (nat_lt 0 n) (n == 0) filed (not p.optional) h
   where
-    at : (a b c : Bool) → (a || (b && c)) ≡ false → (c ≡ false) ⊎ (b ≡ false)
-    at true b c q = absurd (cc)
-    at false true true q = absurd (cc)
-    at false true false q = inl refl
-    at false false c q = inr refl
+    at : (a b c f o : Bool) → (a || ((b && f) || (c && (not f && o)))) ≡ false → (o ≡ false) ⊎ ((c ≡ false) ⊎ (f ≡ true))
+    at true b c f o q = absurd (cc)
+    at false b c true o q = inr (inr refl)
+    at false b c f false q = inl refl
+    at false b false f o q = inr (inl refl)
+    at false true true false true q = absurd (cc)
+    at false false true false true q = absurd (cc)
 
-none_ill : (p : Port) (ps : List Port) (given : List (List ℕ × List ℕ)) → ill_given (p ∷ ps) given ≡ []
-    → (is_ill p (times_given p.name.text given) ≡ false) × (ill_given ps given ≡ [])
-none_ill p ps given h = at (is_ill p (times_given p.name.text given)) h
+none_ill : (p : Port) (ps : List Port) (given : List (List ℕ × List ℕ)) (file : List (List ℕ × Value)) → ill_given (p ∷ ps) given file ≡ []
+    → (is_ill p (times_given p.name.text given) (is_in p.name.text file) ≡ false) × (ill_given ps given file ≡ [])
+none_ill p ps given file h = at (is_ill p (times_given p.name.text given) (is_in p.name.text file)) h
   where
-    at : (b : Bool) → (if b then p.name.text ∷ ill_given ps given else ill_given ps given) ≡ [] → (b ≡ false) × (ill_given ps given ≡ [])
+    at : (b : Bool) → (if b then p.name.text ∷ ill_given ps given file else ill_given ps given file) ≡ [] → (b ≡ false) × (ill_given ps given file ≡ [])
     at true q = absurd (cc)
     at false q = (refl, q)
 
@@ -246,16 +256,24 @@ not_missing true true (inr h) = absurd (cc)
 not_missing true false h = refl
 not_missing false c h = refl
 
-none_missing : (all ps : List Port) (given : List (List ℕ × List ℕ)) → unread all given ≡ [] → ill_given ps given ≡ [] → missing_inputs ps (fields_of all given []) ≡ []
-none_missing all [] given r h = refl
-none_missing all (p ∷ ps) given r h =
-    let rest = none_missing all ps given r (none_ill p ps given h).1 in
-    subst (λ (b : Bool). (if b then p.name.text ∷ missing_inputs ps (fields_of all given []) else missing_inputs ps (fields_of all given [])) ≡ [])
-    (sym (not_missing (not p.optional) (is_none (lookup p.name.text (fields_of all given []))) (either (well p (times_given p.name.text given) (none_ill p ps given h).0)))) rest
+filed_there : (b : Bool) → not b ≡ true → b ≡ false
+filed_there true h = absurd (cc)
+filed_there false h = refl
+
+none_missing : (all ps : List Port) (given : List (List ℕ × List ℕ)) (file : List (List ℕ × Value)) → unread all given ≡ [] → ill_given ps given file ≡ []
+    → missing_inputs ps (fields_of all given file) ≡ []
+none_missing all [] given file r h = refl
+none_missing all (p ∷ ps) given file r h =
+    let ill = none_ill p ps given file h in
+    let rest = none_missing all ps given file r ill.1 in
+    subst (λ (b : Bool). (if b then p.name.text ∷ missing_inputs ps (fields_of all given file) else missing_inputs ps (fields_of all given file)) ≡ [])
+    (sym (not_missing (not p.optional) (is_none (lookup p.name.text (fields_of all given file))) (either (well p (times_given p.name.text given) (is_in p.name.text file) ill.0)))) rest
   where
-    either : (not p.optional ≡ false) ⊎ ((times_given p.name.text given == 0) ≡ false) → (not p.optional ≡ false) ⊎ (is_none (lookup p.name.text (fields_of all given [])) ≡ false)
+    either : (not p.optional ≡ false) ⊎ (((times_given p.name.text given == 0) ≡ false) ⊎ (is_in p.name.text file ≡ true))
+        → (not p.optional ≡ false) ⊎ (is_none (lookup p.name.text (fields_of all given file)) ≡ false)
     either (inl q) = inl q
-    either (inr q) = inr (given_there p.name.text all given [] r q)
+    either (inr (inl q)) = inr (given_there p.name.text all given file r q)
+    either (inr (inr q)) = inr (fields_keep p.name.text all given file (filed_there (is_none (lookup p.name.text file)) q))
 
 -- ---- a submission is ready
 
@@ -264,37 +282,63 @@ two_empty [] ys h = (refl, h)
 two_empty (x ∷ xs) ys h = absurd (cc)
 
 -- what the ports take, where nothing is given badly
-pub given_fits : (ports : List Port) (given : List (List ℕ × List ℕ)) → bad_given ports given ≡ None → bad_input ports (fields_of ports given []) ≡ None
-given_fits ports given h =
-    let e = two_empty (unread ports given) (ill_given ports given) (no_least (unread ports given ++ ill_given ports given) h) in
-    let held = fields_hold ports given [] (tt, none_ascends) in
-    (λ i. least (none_wrong ports (fields_of ports given []) held.0 i ++ none_missing ports ports given e.0 e.1 i))
+pub given_fits : (ports : List Port) (given : List (List ℕ × List ℕ)) (file : List (List ℕ × Value)) → Holds ports file → bad_given ports given file ≡ None
+    → bad_input ports (fields_of ports given file) ≡ None
+given_fits ports given file filed h =
+    let e = two_empty (unread ports given) (ill_given ports given file) (no_least (unread ports given ++ ill_given ports given file) h) in
+    let held = fields_hold ports given file filed in
+    (λ i. least (none_wrong ports (fields_of ports given file) held.0 i ++ none_missing ports ports given file e.0 e.1 i))
 
-inputs_ready : (library : List Definition) (name : List ℕ) (given : List (List ℕ × List ℕ)) (d : Option Definition) → definition_named name library ≡ d
-    → SubmitsReady (prepared_with library name (inputs_for d name given))
-inputs_ready library name given None p = tt
-inputs_ready library name given (Some d) p = at (bad_given ports given) refl
+-- the inputs of a file, if one is named
+filed_taken : (told : Option (List ℕ → Option (List ℕ))) (inputs : Option (List ℕ)) (ports : List Port) (file : List (List ℕ × Value)) → InputsFrom told inputs ports (Ok file) → Holds ports file
+filed_taken told None ports file h = let none : [] ≡ file = cc in subst (Holds ports) none (tt, none_ascends)
+filed_taken told (Some name) ports file h = at h.0 h.2
   where
-    ports : List Port
-    ports = (head_of d).inputs
+    answer : List ℕ → Result (List (List ℕ × Value)) JsonError
+    answer = answer_of (read_fields (kinds_of ports))
 
-    at : (bad : Option (List ℕ)) → bad_given ports given ≡ bad → SubmitsReady (prepared_with library name (inputs_of bad ports given))
-    at (Some port) q = tt
-    at None q =
-        let held = fields_hold ports given [] (tt, none_ascends) in
-        record {
-          defined = d;
-          named = p;
-          fits = given_fits ports given q;
-          ascends = held.1;
-          within = all_within ports (fields_of ports given []) held.0;
-        }
+    gave : (r : Result (List (List ℕ × Value)) JsonError) → Ok file ≡ or_cause cause.Inputs r → r ≡ Ok file
+    gave (Ok x) e = let same : x ≡ file = cc in ap Ok same
+    gave (Err x) e = absurd (cc)
 
-read_ready : (name : List ℕ) (given : List (List ℕ × List ℕ)) (r : Read) → SubmitsReady (prepared_of name given r)
-read_ready name given (read.Refused c) = tt
-read_ready name given (read.Library library) = inputs_ready library name given (definition_named name library) refl
+    at : (content : Option (List ℕ)) → Ok file ≡ read_file cause.Inputs (read_fields (kinds_of ports)) name content → Holds ports file
+    at None e = absurd (cc)
+    at (Some bytes) e = bytes_taken ports bytes file none_ascends (gave (answer bytes) e)
+
+module _ (told : Option (List ℕ → Option (List ℕ))) (inputs : Option (List ℕ)) (name : List ℕ) (given : List (List ℕ × List ℕ)) (library : List Definition) where
+  with_ready : (d : Definition) → definition_named name library ≡ Some d → (file : List (List ℕ × Value)) → Holds (head_of d).inputs file → (bad : Option (List ℕ))
+      → bad_given (head_of d).inputs given file ≡ bad → SubmitsReady (prepared_with library name (inputs_of bad (head_of d).inputs given file))
+  with_ready d named file filed (Some port) q = tt
+  with_ready d named file filed None q =
+      let held = fields_hold (head_of d).inputs given file filed in
+      record {
+        defined = d;
+        named = named;
+        fits = given_fits (head_of d).inputs given file filed q;
+        ascends = held.1;
+        within = all_within (head_of d).inputs (fields_of (head_of d).inputs given file) held.0;
+      }
+
+  beside_ready : (d : Definition) → definition_named name library ≡ Some d → (file : Result (List (List ℕ × Value)) Cause) → InputsFrom told inputs (head_of d).inputs file
+      → SubmitsReady (prepared_with library name (inputs_beside file (head_of d).inputs given))
+  beside_ready d named (Ok file) from =
+      with_ready d named file (filed_taken told inputs (head_of d).inputs file from) (bad_given (head_of d).inputs given file) refl
+  beside_ready d named (Err c) from = tt
+
+  for_ready : (d : Option Definition) → definition_named name library ≡ d → (i : Result (List (List ℕ × Value)) Cause) → InputsFor told inputs d name given i
+      → SubmitsReady (prepared_with library name i)
+  for_ready None named i h = subst (λ (x : Result (List (List ℕ × Value)) Cause). SubmitsReady (prepared_with library name x)) (sym h) tt
+  for_ready (Some d) named i h =
+      subst (λ (x : Result (List (List ℕ × Value)) Cause). SubmitsReady (prepared_with library name x)) (sym h.2) (beside_ready d named h.0 h.1)
 
 -- what is made of a file that is read as this
-pub result_ready : {E : Type 0} (name : List ℕ) (given : List (List ℕ × List ℕ)) (r : Read) (result : Result Prepared E) → IfOk result (λ p. p ≡ prepared_of name given r) → IfOk result (λ p. SubmitsReady p)
-result_ready name given r (Ok p) h = subst SubmitsReady (sym h) (read_ready name given r)
-result_ready name given r (Err e) h = h
+pub read_ready : (told : Option (List ℕ → Option (List ℕ))) (inputs : Option (List ℕ)) (name : List ℕ) (given : List (List ℕ × List ℕ)) (r : Read) (p : Prepared)
+    → PreparesRead told inputs name given r p → SubmitsReady p
+read_ready told inputs name given (read.Refused c) p h = subst SubmitsReady (sym h) tt
+read_ready told inputs name given (read.Library library) p h =
+    subst SubmitsReady (sym h.2) (for_ready told inputs name given library (definition_named name library) refl h.0 h.1)
+
+pub result_ready : {E : Type 0} (told : Option (List ℕ → Option (List ℕ))) (inputs : Option (List ℕ)) (name : List ℕ) (given : List (List ℕ × List ℕ)) (r : Read) (result : Result Prepared E)
+    → IfOk result (λ p. PreparesRead told inputs name given r p) → IfOk result (λ p. SubmitsReady p)
+result_ready told inputs name given r (Ok p) h = read_ready told inputs name given r p h
+result_ready told inputs name given r (Err e) h = h

@@ -17,13 +17,14 @@ use Rattle.wc_runner.specs.declared.running.RunEnd.TheVariants.{AllEnded, Spent,
 use Rattle.wc_runner.specs.Outside.{Outside}
 use Rattle.wc_runner.specs.Refusals.{IsFullAt, RefusesStep}
 use Rattle.wc_runner.specs.Running.{TakesTurns, TakesFewer, FitsAfter}
+use Rattle.wc_engine.specs.declared.deed.RunOptions.{RunOptions}
 use Rattle.wc_engine.specs.declared.reply.Reply.{Reply}
 use Rattle.wc_engine.specs.Replies.{IsReplied}
-use Rattle.wc_engine.specs.Running.{status_of, usual_turns, widest, has_run, EndsSo, FillsAt, Runs, TakesFewer as FewerTaken}
+use Rattle.wc_engine.specs.Running.{status_of, widest, has_run, EndsSo, FillsAt, Runs, TakesFewer as FewerTaken}
 use Rattle.wc_engine.specs.Undone.{IsBeforeTurns}
 use Rattle.wc_engine.proofs.Doing.{journal_held}
 use Rattle.wc_engine.proofs.Widening.{refuses_step, takes_fewer}
-use Rattle.wc_engine.specs.Stored.{HasJournal, GoesOn, usual_limits, Fits, is_full}
+use Rattle.wc_engine.specs.Stored.{HasJournal, GoesOn, Fits, is_full}
 
 pub run_replied : (e : RunEnd) → IsReplied (status_of e)
 run_replied AllEnded = tt
@@ -54,23 +55,23 @@ module _ {D : Type 0} (g : disk.Ghosts D) where
       }
 
   -- a store within the limits
-  within : (w : World) (new : Store) (one two : D) → StandsFor g new one two → FitsAfter usual_limits w new
-      → (new.world.world ≡ w) ⊎ Fits (g.seen one, g.seen two) new.world.world
-  within w new one two stands (inl same) = inl same
-  within w new one two stands (inr fits) =
+  within : (limits : Limits) (w : World) (new : Store) (one two : D) → StandsFor g new one two → FitsAfter limits w new
+      → (new.world.world ≡ w) ⊎ Fits limits (g.seen one, g.seen two) new.world.world
+  within limits w new one two stands (inl same) = inl same
+  within limits w new one two stands (inr fits) =
       inr (record { nodes = fits.0; journal = new.journal; kept = journal_held g new one two stands; bytes = fits.1 })
 
-  module _ (store new : Store) (one two one_new two_new : D) (r : Reply) where
+  module _ (p : RunOptions) (store new : Store) (one two one_new two_new : D) (r : Reply) where
     -- a run came to its end
-    pub has_come : (end : RunEnd) → StandsFor g new one_new two_new → TakesTurns (widest usual_limits) usual_turns store.world.world new.world.world
-        → FitsAfter usual_limits store.world.world new → GoesOn (g.seen one, g.seen two) (g.seen one_new, g.seen two_new) store.journal new.journal
-        → EndsSo usual_limits store.world.world new.world.world end → r ≡ has_run end store.world.world new.world.world
-        → Runs (g.seen one, g.seen two) store.world.world (g.seen one_new, g.seen two_new) r
+    pub has_come : (end : RunEnd) → StandsFor g new one_new two_new → TakesTurns (widest p.limits) p.turns store.world.world new.world.world
+        → FitsAfter p.limits store.world.world new → GoesOn (g.seen one, g.seen two) (g.seen one_new, g.seen two_new) store.journal new.journal
+        → EndsSo p.limits p.turns store.world.world new.world.world end → r ≡ has_run end store.world.world new.world.world
+        → Runs p (g.seen one, g.seen two) store.world.world (g.seen one_new, g.seen two_new) r
     has_come end stands takes fits goes ends reply = record {
       later = new.world.world;
       takes = takes;
       held = stands.held;
-      fits = within store.world.world new one_new two_new stands fits;
+      fits = within p.limits store.world.world new one_new two_new stands fits;
       journal = store.journal;
       next = new.journal;
       goes = goes;
@@ -79,14 +80,14 @@ module _ {D : Type 0} (g : disk.Ghosts D) where
 
     -- or found the store full
     pub has_filled : (journal : Journal) → StandsFor g new one_new two_new → IsSettled g journal (its new.place one_new two_new)
-        → TakesTurns (widest usual_limits) usual_turns store.world.world new.world.world → FitsAfter usual_limits store.world.world new
-        → GoesOn (g.seen one, g.seen two) (g.seen one_new, g.seen two_new) store.journal new.journal → FillsAt store.world.world new.world.world journal r
-        → Runs (g.seen one, g.seen two) store.world.world (g.seen one_new, g.seen two_new) r
+        → TakesTurns (widest p.limits) p.turns store.world.world new.world.world → FitsAfter p.limits store.world.world new
+        → GoesOn (g.seen one, g.seen two) (g.seen one_new, g.seen two_new) store.journal new.journal → FillsAt p store.world.world new.world.world journal r
+        → Runs p (g.seen one, g.seen two) store.world.world (g.seen one_new, g.seen two_new) r
     has_filled journal stands settled takes fits goes full = record {
       later = new.world.world;
       takes = takes;
       held = stands.held;
-      fits = within store.world.world new one_new two_new stands fits;
+      fits = within p.limits store.world.world new one_new two_new stands fits;
       journal = store.journal;
       next = new.journal;
       goes = goes;
@@ -94,18 +95,18 @@ module _ {D : Type 0} (g : disk.Ghosts D) where
     }
 
 -- why a run found the store full
-pub fills_at : {D : Type 0} (g : disk.Ghosts D) (told : Type 0) (o : Outside) (w : World) (store : Store) (one two : D) (begun now : ℕ) (what : What) (count limit : ℕ) (r : Reply)
-    → o.limits ≡ usual_limits → (full : IsFullAt g told o store one two (Full what count limit)) → TakesFewer o usual_turns w store.world.world begun now
-    → r ≡ is_full what count limit → FillsAt w store.world.world full.journal r
-fills_at g told o w store one two begun now what count limit r usual full left reply =
+pub fills_at : {D : Type 0} (g : disk.Ghosts D) (told : Type 0) (o : Outside) (p : RunOptions) (w : World) (store : Store) (one two : D) (begun now : ℕ) (what : What) (count limit : ℕ) (r : Reply)
+    → o.limits ≡ p.limits → (full : IsFullAt g told o store one two (Full what count limit)) → TakesFewer o p.turns w store.world.world begun now
+    → r ≡ is_full what count limit → FillsAt p w store.world.world full.journal r
+fills_at g told o p w store one two begun now what count limit r given full left reply =
     let v = store.world.world in
     let e = Full what count limit in
     record {
-      left = subst (λ (l : Limits). FewerTaken l usual_turns w v) usual (takes_fewer o usual_turns w v begun now left);
+      left = subst (λ (l : Limits). FewerTaken l p.turns w v) given (takes_fewer o p.turns w v begun now left);
       what = what;
       count = count;
       limit = limit;
       pid = full.pid;
-      refused = subst (λ (l : Limits). RefusesStep (widest l) full.journal v full.pid e) usual (refuses_step o full.journal v full.pid e full.refused);
+      refused = subst (λ (l : Limits). RefusesStep (widest l) full.journal v full.pid e) given (refuses_step o full.journal v full.pid e full.refused);
       reply = reply;
     }

@@ -7,6 +7,7 @@ use Rattle.wc_world.specs.World.{World}
 use Rattle.wc_store.specs.Held.{Standing, nothing, damage, a_world}
 use Rattle.wc_store.specs.Laws.{HeldIsOne}
 use Rattle.wc_cli.specs.declared.command.Command.{Command}
+use Rattle.wc_engine.specs.declared.deed.Asked.{Asked}
 use Rattle.wc_engine.specs.declared.deed.Begin.TheVariants as begin
 use Rattle.wc_engine.specs.declared.deed.Deed.{Deed}
 use Rattle.wc_engine.specs.declared.deed.Deed.TheVariants as deed
@@ -18,6 +19,7 @@ use Rattle.wc_engine.specs.declared.reply.Reply.{Reply}
 use Rattle.wc_engine.specs.declared.status.Status.{Status}
 use Rattle.wc_engine.specs.declared.status.Status.TheVariants as status
 use Rattle.wc_engine.specs.Crashes.{HoldsSound}
+use Rattle.wc_engine.specs.Events.{TellsAlone}
 use Rattle.wc_engine.specs.Owed.{Visit, OwedPlan}
 use Rattle.wc_engine.specs.Plans.{Plans}
 use Rattle.wc_engine.specs.Replies.{OwesStatus}
@@ -59,11 +61,16 @@ run_tells Resting w v = tt
 
 -- ---- what is done on a store
 
+alone_tells : (a : Asked) (w : World) (r : Reply) → TellsAlone a w r → TellsWhole r
+alone_tells a w r (inl idle) = same_tells r _ idle.1 tt
+alone_tells a w r (inr (inl refused)) = same_tells r _ refused.2 tt
+alone_tells a w r (inr (inr full)) = same_tells r _ full.4 tt
+
 work_tells : (k : Work) (before : Images) (w : World) (after : Images) (r : Reply) → (work_row k).does before w after r → TellsWhole r
 work_tells (work.View v) before w after r shows = told_whole r.status (view_shown v w r shows.1)
 work_tells (work.Event a) before w after r (inl e) = same_tells r _ e.reply tt
-work_tells (work.Event a) before w after r (inr full) = same_tells r _ full.reply tt
-work_tells work.Run before w after r runs =
+work_tells (work.Event a) before w after r (inr u) = ⊎_elim (alone_tells a w r) (λ full. same_tells r _ full.4 tt) u.tells
+work_tells (work.Run o) before w after r runs =
     ⊎_elim (λ has. same_tells r _ has.reply (run_tells has.end w runs.later)) (λ full. same_tells r _ full.2.reply tt) runs.ends
 work_tells work.Pack before w after r packs = ⊎_elim (λ packed. same_tells r _ packed.reply tt) (λ full. same_tells r _ full.1.reply tt) packs.1.2
 

@@ -42,7 +42,7 @@ work_undone : (w : Work) (owed ended : Status) → OwesStatus owed ended → (en
     → (work_row w).undone ended → (work_row w).undone owed
 work_undone (work.View v) owed ended h memory reading disks u = tt
 work_undone (work.Event a) owed ended h memory reading disks u = said_of_reply IsBeforeStoring (λ never. never) owed ended h memory reading disks u
-work_undone work.Run owed ended h memory reading disks u = said_of_reply IsBeforeTurns (λ never. never) owed ended h memory reading disks u
+work_undone (work.Run o) owed ended h memory reading disks u = said_of_reply IsBeforeTurns (λ never. never) owed ended h memory reading disks u
 work_undone work.Pack owed ended h memory reading disks u = said_of_reply IsBeforePacking (λ never. never) owed ended h memory reading disks u
 
 pub row_undone : (d : Deed) (owed ended : Status) → OwesStatus owed ended → (ended ≡ status.OutOfMemory → ⊥) → (ended ≡ status.ReadFault → ⊥) → (ended ≡ status.DiskFault → ⊥)

@@ -1,5 +1,5 @@
 -- Turns of a run are turns where any moment may be said, and any reply given.
-use Rattle.std.proofs.Common.{◌≡◌, ◌⊎◌, inl, inr, ◌≤◌, ◌<◌, ◌+◌, ℕ, refl, arith}
+use Rattle.std.proofs.Common.{inl, inr, ◌≤◌, ◌+◌, ℕ, refl, arith}
 use Rattle.wc_world.specs.World.{World}
 use Rattle.wc_journal.specs.declared.journal.Journal.{Journal}
 use Rattle.wc_runner.specs.declared.error.RunError.{RunError}
@@ -11,7 +11,7 @@ use Rattle.wc_runner.specs.Outside.{Outside}
 use Rattle.wc_runner.specs.Refusals.{RefusesStep}
 use Rattle.wc_runner.specs.Running.{TakesTurns, TakesAll, TakesUpTo, TakesFewer, EndsAs}
 use Rattle.wc_runner.proofs.Widened.{Widens, turn_widened, turns_widened}
-use Rattle.wc_engine.specs.Running.{widest, usual_turns, TakesJust, EndsSo, TakesFewer as FewerTaken}
+use Rattle.wc_engine.specs.Running.{widest, TakesJust, EndsSo, TakesFewer as FewerTaken}
 
 module _ (o : Outside) where
   wide : Widens o (widest o.limits)
@@ -42,10 +42,10 @@ module _ (o : Outside) where
   takes_fewer most w v begun now h = (h.0, h.1, takes_just h.0 w v begun now h.2)
 
   -- how it ends
-  pub ends_so : (w v : World) (begun now : ℕ) (e : RunEnd) → EndsAs o usual_turns w v begun now e → EndsSo o.limits w v e
-  ends_so w v begun now AllEnded h = h
-  ends_so w v begun now Spent h = (h.0, h.1, takes_just usual_turns w v begun now h.2)
-  ends_so w v begun now Resting h = h
+  pub ends_so : (most : ℕ) (w v : World) (begun now : ℕ) (e : RunEnd) → EndsAs o most w v begun now e → EndsSo o.limits most w v e
+  ends_so most w v begun now AllEnded h = h
+  ends_so most w v begun now Spent h = (h.0, h.1, takes_just most w v begun now h.2)
+  ends_so most w v begun now Resting h = h
 
   -- why it breaks off
   pub refuses_step : (journal : Journal) (w : World) (pid : ℕ) (e : RunError) → RefusesStep o journal w pid e → RefusesStep (widest o.limits) journal w pid e

@@ -1,7 +1,7 @@
--- Inputs that are given in words, and the least port that is given badly.
+-- Inputs that are given in words and in a file, and the least port that is given badly.
 use Rattle.std.specs.Prelude.{ℕ, suc, ◌==◌, nat_lt, Bool, true, false, not, ◌&&◌, ◌||◌, is_none, if◌then◌else◌, List, [], ◌∷◌, ◌++◌, Option, Some, None, option_map, codes}
 use Rattle.std.specs.Str.{bytes_eq}
-use Rattle.wc_value.specs.Ascending.{put}
+use Rattle.wc_value.specs.Ascending.{lookup, put}
 use Rattle.wc_value.specs.declared.value.Kind.{Kind}
 use Rattle.wc_value.specs.declared.value.Kind.TheVariants as kind
 use Rattle.wc_value.specs.declared.value.Value.{Value}
@@ -46,23 +46,28 @@ abbrev pub times_given : List ℕ → List (List ℕ × List ℕ) → ℕ
 times_given name [] = 0
 times_given name (g ∷ gs) = if bytes_eq g.0 name then suc (times_given name gs) else times_given name gs
 
--- a port is given more than once, or is required and not given
-abbrev pub is_ill : Port → ℕ → Bool
-is_ill p n = nat_lt 1 n || (n == 0 && not p.optional)
+-- a file of inputs gives the name
+abbrev pub is_in : List ℕ → List (List ℕ × Value) → Bool
+is_in name file = not (is_none (lookup name file))
 
-abbrev pub ill_given : List Port → List (List ℕ × List ℕ) → List (List ℕ)
-ill_given [] given = []
-ill_given (p ∷ ps) given = if is_ill p (times_given p.name.text given) then p.name.text ∷ ill_given ps given else ill_given ps given
+-- a port that the words give so often is given more than once, in words or in words and the file, or is required and not given
+abbrev pub is_ill : Port → ℕ → Bool → Bool
+is_ill p n filed = nat_lt 1 n || ((nat_lt 0 n && filed) || (n == 0 && (not filed && not p.optional)))
 
--- the least port that is given badly
-abbrev pub bad_given : List Port → List (List ℕ × List ℕ) → Option (List ℕ)
-bad_given ports given = least (unread ports given ++ ill_given ports given)
+abbrev pub ill_given : List Port → List (List ℕ × List ℕ) → List (List ℕ × Value) → List (List ℕ)
+ill_given [] given file = []
+ill_given (p ∷ ps) given file =
+    if is_ill p (times_given p.name.text given) (is_in p.name.text file) then p.name.text ∷ ill_given ps given file else ill_given ps given file
+
+-- the least port that is given badly in words, beside what a file gives
+abbrev pub bad_given : List Port → List (List ℕ × List ℕ) → List (List ℕ × Value) → Option (List ℕ)
+bad_given ports given file = least (unread ports given ++ ill_given ports given file)
 
 abbrev pub with_field : List ℕ → Option Value → List (List ℕ × Value) → List (List ℕ × Value)
 with_field name None fields = fields
 with_field name (Some v) fields = put name v fields
 
--- the inputs that the words give, after these
+-- the inputs that the words give, beside these
 abbrev pub fields_of : List Port → List (List ℕ × List ℕ) → List (List ℕ × Value) → List (List ℕ × Value)
 fields_of ports [] fields = fields
 fields_of ports (g ∷ gs) fields = fields_of ports gs (with_field g.0 (given_value ports g) fields)

@@ -1,9 +1,11 @@
 pub mod Given
+pub mod Further
 pub mod Texts
 pub mod Files
 pub mod Replies
 pub mod Dry
 pub mod Submits
+pub mod Settings
 pub mod Calls
 pub mod Stored
 pub mod Opening
@@ -16,3 +18,4 @@ pub mod Plans
 pub mod Rows
 pub mod Owed
 pub mod Crashes
+pub mod Entries

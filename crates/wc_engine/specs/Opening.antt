@@ -1,5 +1,5 @@
 -- What a store is opened as, and what is told of its refusals.
-use Rattle.std.specs.Prelude.{◌≡◌, ◌⊎◌, ℕ, true, Option, Some, None, Result, Err}
+use Rattle.std.specs.Prelude.{◌≡◌, ◌⊎◌, ℕ, true, IsSome, Option, Some, None, Result, Err}
 use Rattle.wc_disk.specs.declared.disk.Disk as disk
 use Rattle.wc_journal.specs.declared.error.Found.{Found}
 use Rattle.wc_refusal.specs.declared.error.TurnError.{TurnError}
@@ -10,6 +10,7 @@ use Rattle.wc_store.specs.Held.{Standing, nothing, damage, a_world}
 use Rattle.wc_store.specs.declared.store.Store.{Store}
 use Rattle.wc_store.specs.Stores.{StandsFor}
 use Rattle.wc_engine.specs.declared.reply.Reply.{Reply}
+use Rattle.wc_engine.specs.declared.status.Cause.{Cause}
 use Rattle.wc_engine.specs.declared.status.Cause.TheVariants as cause
 use Rattle.wc_engine.specs.declared.opening.Opened.{Opened}
 use Rattle.wc_engine.specs.declared.opening.Opened.TheVariants as opened
@@ -34,15 +35,30 @@ TellsFault (store_error.Full what count limit) result = Unit {0}
 TellsFault store_error.AlreadyThere result = Unit {0}
 TellsFault store_error.OutOfMemory result = Unit {0}
 
--- what is told where a submission has no changes, if anything is
-abbrev pub turn_reply : TurnError → Option Reply
-turn_reply turn_error.NotReady = None
-turn_reply (turn_error.Full what count limit) = Some (is_full what count limit)
-turn_reply turn_error.UnknownProcess = None
-turn_reply (turn_error.Ended state) = None
-turn_reply turn_error.UnknownName = None
-turn_reply (turn_error.BadInputs port) = None
-turn_reply turn_error.OutOfMemory = None
+-- what is told where there is no process of this number, or it has ended
+abbrev pub process_reply : Option ℕ → (ℕ → Cause) → Option Reply
+process_reply None c = None
+process_reply (Some pid) c = Some (refuses (c pid))
+
+-- what is told where an event, which may be one of the process of this number, has no changes, if anything is
+abbrev pub turn_reply : Option ℕ → TurnError → Option Reply
+turn_reply pid turn_error.NotReady = None
+turn_reply pid (turn_error.Full what count limit) = Some (is_full what count limit)
+turn_reply pid turn_error.UnknownProcess = process_reply pid cause.UnknownProcess
+turn_reply pid (turn_error.Ended state) = process_reply pid (λ n. cause.Ended n state)
+turn_reply pid turn_error.UnknownName = None
+turn_reply pid (turn_error.BadInputs port) = None
+turn_reply pid turn_error.OutOfMemory = None
+
+-- something is told, or memory ran out
+abbrev pub IsTold : Option ℕ → TurnError → Type 0
+IsTold pid turn_error.NotReady = ⊥
+IsTold pid (turn_error.Full what count limit) = Unit {0}
+IsTold pid turn_error.UnknownProcess = IsSome pid
+IsTold pid (turn_error.Ended state) = IsSome pid
+IsTold pid turn_error.UnknownName = ⊥
+IsTold pid (turn_error.BadInputs port) = ⊥
+IsTold pid turn_error.OutOfMemory = Unit {0}
 
 -- some damage is told
 abbrev pub TellsDamage : Reply → Type 0

@@ -1,5 +1,5 @@
 -- What each deed promises: one row each.
-use Rattle.std.specs.Prelude.{◌≡◌, ◌⊎◌, ◌+◌, ℕ, List}
+use Rattle.std.specs.Prelude.{◌≡◌, ◌⊎◌, ◌+◌, ℕ, false, true, List}
 use Rattle.wc_state.specs.declared.record.What.{What}
 use Rattle.wc_world.specs.World.{World}
 use Rattle.wc_runner.specs.Leaves.{SomeTurns}
@@ -7,7 +7,7 @@ use Rattle.wc_store.specs.Held.{Standing}
 use Rattle.wc_store.specs.Preparing.{HasGeneration}
 use Rattle.wc_store.specs.Refusals.{RefusesPack}
 use Rattle.wc_store.specs.declared.error.StoreError.TheVariants.{Full}
-use Rattle.wc_report.specs.Lines.{initialised_text, submitted_text, packed_text}
+use Rattle.wc_report.specs.Lines.{initialised_text, submitted_text, paused_text, playing_text, killed_text, packed_text}
 use Rattle.wc_engine.specs.declared.deed.Asked.{Asked}
 use Rattle.wc_engine.specs.declared.deed.Asked.TheVariants as asked
 use Rattle.wc_engine.specs.declared.deed.Begin.{Begin}
@@ -15,17 +15,18 @@ use Rattle.wc_engine.specs.declared.deed.Begin.TheVariants as begin
 use Rattle.wc_engine.specs.declared.deed.Deed.{Deed}
 use Rattle.wc_engine.specs.declared.deed.Deed.TheVariants as deed
 use Rattle.wc_cli.specs.declared.command.View.{View}
+use Rattle.wc_engine.specs.declared.deed.RunOptions.{RunOptions}
 use Rattle.wc_engine.specs.declared.deed.Work.{Work}
 use Rattle.wc_engine.specs.declared.deed.Work.TheVariants as work
 use Rattle.wc_engine.specs.declared.reply.Reply.{Reply}
 use Rattle.wc_engine.specs.declared.status.Cause.TheVariants as cause
 use Rattle.wc_engine.specs.declared.status.Status.{Status}
-use Rattle.wc_engine.specs.Acknowledged.{HasProcess}
+use Rattle.wc_engine.specs.Acknowledged.{HasProcess, HasMark, IsKilled}
 use Rattle.wc_engine.specs.Events.{MayHappen, MayEnter, Enters}
 use Rattle.wc_engine.specs.Opening.{NoWorld, TellsDamage}
 use Rattle.wc_engine.specs.Replies.{refuses, prints}
-use Rattle.wc_engine.specs.Running.{usual_turns, widest, MayRun, Runs}
-use Rattle.wc_engine.specs.Stored.{Images, usual_limits, is_full, InitAt, AtStore, Packs}
+use Rattle.wc_engine.specs.Running.{widest, MayRun, Runs}
+use Rattle.wc_engine.specs.Stored.{Images, is_full, InitAt, AtStore, Packs}
 use Rattle.wc_engine.specs.Undone.{IsBeforeStoring, IsBeforeTurns, IsBeforePacking}
 use Rattle.wc_engine.specs.Views.{Shows, ShowsStill}
 
@@ -59,9 +60,13 @@ view_row v = record {
   acknowledges = λ text w. Unit {0};
 }
 
--- the process that is submitted is there, with the number that was written
+-- the process that is submitted is there, with the number that was written; or the process of the number that was written is paused, plays,
+-- or is killed
 abbrev pub HasHappened : Asked → List ℕ → World → Type 0
 HasHappened (asked.Submit s) text w = (pid : ℕ) × (text ≡ submitted_text pid) × HasProcess w pid s
+HasHappened (asked.Pause pid) text w = (text ≡ paused_text pid) × HasMark w pid true
+HasHappened (asked.Play pid) text w = (text ≡ playing_text pid) × HasMark w pid false
+HasHappened (asked.Kill pid) text w = (text ≡ killed_text pid) × IsKilled w pid
 
 abbrev pub event_row : Asked → WorkRow
 event_row a = record {
@@ -73,16 +78,16 @@ event_row a = record {
   acknowledges = HasHappened a;
 }
 
--- the same world, or what at most as many turns and rests as a run takes make of it, within the limits
-abbrev pub TakesSome : World → World → Type 0
-TakesSome w v = (v ≡ w) ⊎ SomeTurns (widest usual_limits) usual_turns w v
+-- the same world, or what at most as many turns and rests as are given make of it, within the run's limits
+abbrev pub TakesSome : RunOptions → World → World → Type 0
+TakesSome o w v = (v ≡ w) ⊎ SomeTurns (widest o.limits) o.turns w v
 
 -- any ready process may be the one for which the store is too full, so that its reply isn't certain
-abbrev pub run_row : WorkRow
-run_row = record {
-  makes = TakesSome;
-  does = Runs;
-  may = MayRun;
+abbrev pub run_row : RunOptions → WorkRow
+run_row o = record {
+  makes = TakesSome o;
+  does = Runs o;
+  may = MayRun o;
   certain = ⊥;
   undone = IsBeforeTurns;
   acknowledges = λ text w. Unit {0};
@@ -107,7 +112,7 @@ pack_row = record {
 abbrev pub work_row : Work → WorkRow
 work_row (work.View v) = view_row v
 work_row (work.Event a) = event_row a
-work_row work.Run = run_row
+work_row (work.Run o) = run_row o
 work_row work.Pack = pack_row
 
 -- ---- deeds

@@ -14,14 +14,11 @@ use Rattle.wc_runner.specs.Refusals.{RefusesStep}
 use Rattle.wc_runner.specs.Running.{TakesTurns}
 use Rattle.wc_runner.specs.Trips.{Turns}
 use Rattle.wc_report.specs.Lines.{committed_text, live_count, paused_count}
+use Rattle.wc_engine.specs.declared.deed.RunOptions.{RunOptions}
 use Rattle.wc_engine.specs.declared.reply.Reply.{Reply}
 use Rattle.wc_engine.specs.declared.status.Status.{Status}
 use Rattle.wc_engine.specs.declared.status.Status.TheVariants as status
-use Rattle.wc_engine.specs.Stored.{Images, Hold, HasJournal, GoesOn, usual_limits, Fits, is_full}
-
--- how many turns and rests a run takes at most, where nothing is said
-abbrev pub usual_turns : ℕ
-usual_turns = 1000000
+use Rattle.wc_engine.specs.Stored.{Images, Hold, HasJournal, GoesOn, Fits, is_full}
 
 abbrev pub status_of : RunEnd → Status
 status_of AllEnded = status.Ok
@@ -58,44 +55,44 @@ TakesFewer limits most w v = (all : ℕ) × (all < most) × TakesJust limits all
 
 -- ---- how a run ends
 
--- no process is live, or else each live one is held up, or else all turns and rests were taken
-abbrev pub EndsSo : Limits → World → World → RunEnd → Type 0
-EndsSo limits w v AllEnded = is_any_live v ≡ false
-EndsSo limits w v Spent = (is_any_live v ≡ true) × (is_resting v ≡ false) × TakesJust limits usual_turns w v
-EndsSo limits w v Resting = (is_any_live v ≡ true) × (is_resting v ≡ true)
+-- no process is live, or else each live one is held up, or else as many turns and rests were taken as are given
+abbrev pub EndsSo : Limits → (turns : ℕ) → World → World → RunEnd → Type 0
+EndsSo limits turns w v AllEnded = is_any_live v ≡ false
+EndsSo limits turns w v Spent = (is_any_live v ≡ true) × (is_resting v ≡ false) × TakesJust limits turns w v
+EndsSo limits turns w v Resting = (is_any_live v ≡ true) × (is_resting v ≡ true)
 
 -- The run came to its end.
-pub record HasRun (w v : World) (r : Reply) : Type 0 where
+pub record HasRun (o : RunOptions) (w v : World) (r : Reply) : Type 0 where
   pub end : RunEnd
-  pub ends : EndsSo usual_limits w v end
+  pub ends : EndsSo o.limits o.turns w v end
   pub reply : r ≡ has_run end w v
 
--- Before all turns and rests were taken, the store would be too full with the turn of a process, by this journal.
-pub record FillsAt (w v : World) (journal : Journal) (r : Reply) : Type 0 where
-  pub left : TakesFewer usual_limits usual_turns w v
+-- Before all turns and rests that are given were taken, the store would be too full with the turn of a process, by this journal.
+pub record FillsAt (o : RunOptions) (w v : World) (journal : Journal) (r : Reply) : Type 0 where
+  pub left : TakesFewer o.limits o.turns w v
   pub what : What
   pub count : ℕ
   pub limit : ℕ
   pub pid : ℕ
-  pub refused : RefusesStep (widest usual_limits) journal v pid (Full what count limit)
+  pub refused : RefusesStep (widest o.limits) journal v pid (Full what count limit)
   pub reply : r ≡ is_full what count limit
 
 -- by the journal that the disks hold then
-abbrev pub IsRunFull : World → World → Images → Reply → Type 0
-IsRunFull w v after r = (journal : Journal) × HasJournal after journal × FillsAt w v journal r
+abbrev pub IsRunFull : RunOptions → World → World → Images → Reply → Type 0
+IsRunFull o w v after r = (journal : Journal) × HasJournal after journal × FillsAt o w v journal r
 
 -- Turns and rests lead from the world to the one that the disks hold then, which is within the limits where any turn was taken; the
 -- journal goes on.
-pub record Runs (before : Images) (w : World) (after : Images) (r : Reply) : Type 0 where
+pub record Runs (o : RunOptions) (before : Images) (w : World) (after : Images) (r : Reply) : Type 0 where
   pub later : World
-  pub takes : TakesTurns (widest usual_limits) usual_turns w later
+  pub takes : TakesTurns (widest o.limits) o.turns w later
   pub held : Hold after (a_world later)
-  pub fits : (later ≡ w) ⊎ Fits after later
+  pub fits : (later ≡ w) ⊎ Fits o.limits after later
   pub journal : Journal
   pub next : Journal
   pub goes : GoesOn before after journal next
-  pub ends : HasRun w later r ⊎ IsRunFull w later after r
+  pub ends : HasRun o w later r ⊎ IsRunFull o w later after r
 
 -- what is replied at a world: turns and rests led to another one, where the run came to its end, or the store would be too full by some journal
-abbrev pub MayRun : Reply → Type 0
-MayRun r = (w : World) × (v : World) × TakesTurns (widest usual_limits) usual_turns w v × (HasRun w v r ⊎ ((journal : Journal) × FillsAt w v journal r))
+abbrev pub MayRun : RunOptions → Reply → Type 0
+MayRun o r = (w : World) × (v : World) × TakesTurns (widest o.limits) o.turns w v × (HasRun o w v r ⊎ ((journal : Journal) × FillsAt o w v journal r))

@@ -46,12 +46,16 @@ pub record HasJournal (images : Images) (journal : Journal) : Type 0 where
 abbrev pub usual_limits : Limits
 usual_limits = record { max_nodes = 1000000; max_bytes = 268435456; poll_ms = 1000 }
 
+-- the greatest limits that may be set
+abbrev pub greatest_limits : Limits
+greatest_limits = record { max_nodes = 8000000; max_bytes = 2147483648; poll_ms = 600000 }
+
 -- The world has no more nodes, and the journal that keeps it in the images no more bytes, than the limits say.
-pub record Fits (images : Images) (w : World) : Type 0 where
-  pub nodes : length w.nodes ≤ usual_limits.max_nodes
+pub record Fits (limits : Limits) (images : Images) (w : World) : Type 0 where
+  pub nodes : length w.nodes ≤ limits.max_nodes
   pub journal : Journal
   pub kept : HasJournal images journal
-  pub bytes : journal.end + 1 ≤ byte_limit journal.version usual_limits.max_bytes
+  pub bytes : journal.end + 1 ≤ byte_limit journal.version limits.max_bytes
 
 -- ---- refusals
 

@@ -29,7 +29,7 @@ IsBeforePacking status.ReadFault = Unit {0}
 IsBeforePacking (status.Full what count limit) = Unit {0}
 IsBeforePacking _ = ⊥
 
--- `init` or `submit` was refused, or memory ran out, or the store was too full for `submit`
+-- `init` or an event was refused, or memory ran out, or the store was too full for the event
 abbrev pub IsBeforeStoring : Status → Type 0
 IsBeforeStoring (status.Refused c) = Unit {0}
 IsBeforeStoring (status.Damaged disk at found) = Unit {0}

@@ -53,7 +53,7 @@ fn worked<D: Disk, T: Transport, P: Pacer>(
     match work {
         Work::View(view) => Ok(view_reply(alloc, store.world(), view)?),
         Work::Event(asked) => event_reply(alloc, store, asked, one, two),
-        Work::Run => run_reply(alloc, store, one, two, transport, pacer),
+        Work::Run(options) => run_reply(alloc, store, options, one, two, transport, pacer),
         Work::Pack => pack_reply(alloc, store, one, two),
     }
 }

@@ -4,4 +4,5 @@ mod check;
 mod dry;
 
 pub(crate) use check::reply_to_check;
+pub use dry::Trial;
 pub(crate) use dry::reply_to_dry;

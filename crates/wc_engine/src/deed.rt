@@ -3,12 +3,19 @@
 use crate::reply::Reply;
 use crate::submission::Submission;
 use wc_cli::View;
+use wc_state::Limits;
 
 /// An event that is asked for.
 #[derive(Drop)]
 pub enum Asked {
     /// A process is submitted.
     Submit(Submission),
+    /// The process of this number gets the pause mark.
+    Pause(u32),
+    /// The process of this number loses the pause mark.
+    Play(u32),
+    /// The process of this number is killed, with all live ones that it called.
+    Kill(u32),
 }
 
 /// How a store is begun.
@@ -16,6 +23,17 @@ pub enum Asked {
 pub enum Begin {
     /// An empty store.
     Init,
+}
+
+/// How a run goes.
+#[derive(Clone, Copy, Debug, PartialEq, Eq)]
+pub struct RunOptions {
+    /// How many turns and rests it takes at most.
+    pub turns: u64,
+    /// In which order the ready processes have their turns.
+    pub seed: u32,
+    /// How large the store may grow, and how often a running job is asked.
+    pub limits: Limits,
 }
 
 /// What is done on a store that is there.
@@ -26,7 +44,7 @@ pub enum Work {
     /// An event happens, if it may.
     Event(Asked),
     /// Its processes take their turns.
-    Run,
+    Run(RunOptions),
     /// It is written anew in its shortest form.
     Pack,
 }

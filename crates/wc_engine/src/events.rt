@@ -1,47 +1,76 @@
 //! Events that are asked for.
 
-ghost use Rattle.std.specs.Prelude.{◌≡◌, ◌≤◌, ℕ, true, None, Some, IsSome, IsTrue, IfOk, IfErr, IfSome};
-ghost use Rattle.wc_world.specs.Accepted.{IsAccepted};
-ghost use Rattle.wc_world.specs.Applied.{applied};
-ghost use Rattle.wc_refusal.specs.Refusals.{HasRoom};
-ghost use Rattle.wc_store.specs.Held.{is_plain};
+ghost use Rattle.std.specs.Prelude.{◌≡◌, ◌≢◌, ◌≤◌, ℕ, [], true, None, Some, IsSome, IsTrue, IfOk, IfErr, IfSome};
 ghost use Rattle.wc_machine.specs.Submitting.{submitted_number};
-ghost use Rattle.wc_runner.specs.Turning.{IsRoomOrMemory};
+ghost use Rattle.wc_state.specs.Ranges.{AreLimits};
 ghost use Rattle.wc_store.specs.Stores.{StandsFor};
 ghost use Rattle.wc_engine.specs.Calls.{CountsDisks};
-ghost use Rattle.wc_engine.specs.Crashes.{AreDurable, Keeps, LeavesPairs, HoldsKeeping};
-ghost use Rattle.wc_engine.specs.Events.{Changes, IsLine, RefusesAsked};
-ghost use Rattle.wc_engine.specs.Opening.{turn_reply};
+ghost use Rattle.wc_engine.specs.Crashes.{AreDurable, LeavesPairs, HoldsKeeping};
+ghost use Rattle.wc_engine.specs.Entries.{IsEntryOf, IsStorable};
+ghost use Rattle.wc_engine.specs.Events.{Changes, IsLine, RefusesAsked, limits_of, line_of, process_of};
+ghost use Rattle.wc_engine.specs.Opening.{IsTold, turn_reply};
 ghost use Rattle.wc_engine.specs.Plans.{IsReadyAsked};
 ghost use Rattle.wc_engine.specs.Rows.{event_row};
-ghost use Rattle.wc_engine.specs.Stored.{usual_limits};
+ghost use Rattle.wc_engine.specs.Stored.{greatest_limits};
 ghost use Rattle.wc_engine.specs.Submits.{IsReady};
 ghost use Rattle.wc_engine.specs.Undone.{EndsWith};
-ghost use Rattle.wc_engine.specs.declared.deed.Asked.TheVariants.{Submit};
+ghost use Rattle.wc_engine.specs.declared.deed.Asked.TheVariants.{Submit, Pause, Play, Kill};
 
 use crate::deed::Asked;
 use crate::error::ActError;
 use crate::laws::worlds_are_kept;
 use crate::opening::{full, refused};
-use crate::reply::{Reply, print};
+use crate::reply::{Reply, print, refuse};
+use crate::status::Cause;
 use crate::submission::Submission;
 use std::alloc::{AllocError, Global};
-use wc_core::{TurnError, submit_changes};
+use wc_core::{TurnError, kill_changes, pause_changes, play_changes, submit_changes};
 use wc_disk::Disk;
-use wc_report::submitted_text;
+use wc_report::{killed_text, paused_text, playing_text, submitted_text};
 use wc_state::Limits;
 use wc_store::Store;
-use wc_value::{Fields, Text, Words};
+use wc_value::{Fields, Text};
 use wc_world::{Changes, World};
 
-/// The limits where none are set.
-pub(crate) fn usual_limits() -> Limits
-    ensures { result ≡ usual_limits }
+/// What is done for an event at a world.
+#[derive(Drop)]
+pub enum Entry {
+    /// Nothing is stored, and this is told.
+    Told(Reply),
+    /// These changes are stored, and then this line is written.
+    Stored(Changes, Text),
+}
+
+/// The greatest limits that may be set.
+fn greatest_limits() -> Limits
+    ensures { result ≡ greatest_limits }
 {
     Limits {
-        max_nodes: 1_000_000,
-        max_bytes: 268_435_456,
-        poll_ms: 1000,
+        max_nodes: 8_000_000,
+        max_bytes: 2_147_483_648,
+        poll_ms: 600_000,
+    }
+}
+
+/// The limits within which an event is stored.
+fn limits_of(asked: &Asked) -> Limits
+    requires ready { IsReadyAsked asked.now }
+    ensures value { result ≡ limits_of asked.now }
+    ensures ranges { AreLimits result }
+{
+    match asked {
+        Asked::Submit(submission) => submission.limits,
+        Asked::Pause(_) | Asked::Play(_) | Asked::Kill(_) => greatest_limits(),
+    }
+}
+
+/// The number of the process that an event is for, if that is there already.
+fn process_of(asked: &Asked) -> Option<u32>
+    ensures { result ≡ process_of asked.now }
+{
+    match asked {
+        Asked::Submit(_) => None,
+        Asked::Pause(pid) | Asked::Play(pid) | Asked::Kill(pid) => Some(*pid),
     }
 }
 
@@ -77,6 +106,9 @@ fn line_of(alloc: Global, world: &World, asked: &Asked) -> Result<Option<Text>, 
 {
     match asked {
         Asked::Submit(submission) => submitted_line(alloc, world, submission),
+        Asked::Pause(pid) => Ok(Some(paused_text(alloc, *pid)?)),
+        Asked::Play(pid) => Ok(Some(playing_text(alloc, *pid)?)),
+        Asked::Kill(pid) => Ok(Some(killed_text(alloc, *pid)?)),
     }
 }
 
@@ -99,16 +131,16 @@ fn changes_of(
     asked: Asked,
 ) -> Result<Changes, TurnError>
     requires ready { IsReadyAsked asked }
-    requires limits { limits.now ≡ usual_limits }
+    requires limits { limits.now ≡ limits_of asked }
     ensures leads { IfOk result (Changes world.now.world asked) }
-    ensures room { IfOk result (λ cs. HasRoom usual_limits.max_nodes (applied world.now.world cs)) }
-    ensures accepted { IfOk result (IsAccepted world.now.world) }
-    ensures plain { IfOk result (λ cs. is_plain cs ≡ true) }
-    ensures keeps { IfOk result (λ cs. Keeps world.now.world (applied world.now.world cs)) }
+    ensures storable { IfOk result (λ cs. cs ≢ [] → IsStorable asked world.now.world cs) }
     ensures refused { IfErr result (RefusesAsked asked world.now.world) }
 {
     match asked {
         Asked::Submit(submission) => changes_for(alloc, world, limits, submission),
+        Asked::Pause(pid) => paused(alloc, world, pid),
+        Asked::Play(pid) => played(alloc, world, pid),
+        Asked::Kill(pid) => killed(alloc, world, pid),
     }
 }
 
@@ -120,12 +152,9 @@ fn changes_for(
     submission: Submission,
 ) -> Result<Changes, TurnError>
     requires ready { IsReady submission }
-    requires limits { limits.now ≡ usual_limits }
+    requires limits { limits.now ≡ submission.limits }
     ensures leads { IfOk result (Changes world.now.world (Submit submission)) }
-    ensures room { IfOk result (λ cs. HasRoom usual_limits.max_nodes (applied world.now.world cs)) }
-    ensures accepted { IfOk result (IsAccepted world.now.world) }
-    ensures plain { IfOk result (λ cs. is_plain cs ≡ true) }
-    ensures keeps { IfOk result (λ cs. Keeps world.now.world (applied world.now.world cs)) }
+    ensures storable { IfOk result (λ cs. cs ≢ [] → IsStorable (Submit submission) world.now.world cs) }
     ensures refused { IfErr result (RefusesAsked (Submit submission) world.now.world) }
 {
     // What accepted changes make is told by the graph.
@@ -134,21 +163,73 @@ fn changes_for(
         library,
         name,
         inputs,
+        caching,
+        ..
     } = submission;
-    let caching = Words::new(alloc);
     submit_changes(alloc, world, limits, library, caching, &name, inputs)
 }
 
-/// What is told where the event has no changes: the world would be too full.
-fn crowded(alloc: Global, error: TurnError) -> Result<Reply, ActError>
-    requires { IsRoomOrMemory error }
-    ensures reply { IfOk result (λ r. turn_reply error ≡ Some r) }
-    ensures cause { (one two : ℕ) → CountsDisks result one one two two }
+/// The changes of a pause.
+fn paused(alloc: Global, world: &World, pid: u32) -> Result<Changes, TurnError>
+    ensures leads { IfOk result (Changes world.now.world (Pause pid)) }
+    ensures storable { IfOk result (λ cs. cs ≢ [] → IsStorable (Pause pid) world.now.world cs) }
+    ensures refused { IfErr result (RefusesAsked (Pause pid) world.now.world) }
 {
-    match error {
-        TurnError::Full(what, count, limit) => Ok(full(alloc, what, count, limit)?),
-        TurnError::OutOfMemory => Err(ActError::OutOfMemory),
+    let _graph = world.graph();
+    pause_changes(alloc, world, pid)
+}
+
+/// The changes of a play.
+fn played(alloc: Global, world: &World, pid: u32) -> Result<Changes, TurnError>
+    ensures leads { IfOk result (Changes world.now.world (Play pid)) }
+    ensures storable { IfOk result (λ cs. cs ≢ [] → IsStorable (Play pid) world.now.world cs) }
+    ensures refused { IfErr result (RefusesAsked (Play pid) world.now.world) }
+{
+    let _graph = world.graph();
+    play_changes(alloc, world, pid)
+}
+
+/// The changes of a kill.
+fn killed(alloc: Global, world: &World, pid: u32) -> Result<Changes, TurnError>
+    ensures leads { IfOk result (Changes world.now.world (Kill pid)) }
+    ensures storable { IfOk result (λ cs. cs ≢ [] → IsStorable (Kill pid) world.now.world cs) }
+    ensures refused { IfErr result (RefusesAsked (Kill pid) world.now.world) }
+{
+    let _graph = world.graph();
+    kill_changes(alloc, world, pid)
+}
+
+/// What is told where the event has no changes to give: the world would be too full, or the process isn't there or has ended.
+fn refusal(alloc: Global, pid: Option<u32>, error: TurnError) -> Result<Reply, AllocError>
+    requires { IsTold pid error }
+    ensures { IfOk result (λ r. turn_reply pid error ≡ Some r) }
+{
+    match (error, pid) {
+        (TurnError::Full(what, count, limit), _) => full(alloc, what, count, limit),
+        (TurnError::UnknownProcess, Some(pid)) => refuse(alloc, Cause::UnknownProcess(pid)),
+        (TurnError::Ended(state), Some(pid)) => refuse(alloc, Cause::Ended(pid, state)),
+        (TurnError::OutOfMemory, _) => Err(AllocError),
         _ => unreachable!(),
+    }
+}
+
+/// What is done for an event at a world.
+fn entry_of(
+    alloc: Global,
+    world: &World,
+    limits: &Limits,
+    asked: Asked,
+) -> Result<Entry, AllocError>
+    requires ready { IsReadyAsked asked }
+    requires limits { limits.now ≡ limits_of asked }
+    ensures { IfOk result (IsEntryOf asked world.now.world) }
+{
+    let line = line_of(alloc, world, &asked)?;
+    let pid = process_of(&asked);
+    match changes_of(alloc, world, limits, asked) {
+        Ok(changes) if changes.is_empty() => Ok(Entry::Told(print(there(line)))),
+        Ok(changes) => Ok(Entry::Stored(changes, there(line))),
+        Err(error) => Ok(Entry::Told(refusal(alloc, pid, error)?)),
     }
 }
 
@@ -173,13 +254,12 @@ pub(crate) fn event_reply<D: Disk>(
     ensures cause { CountsDisks result (D.faults one.old) (D.faults one.new) (D.faults two.old) (D.faults two.new) }
 {
     worlds_are_kept();
-    let limits = usual_limits();
-    let line = line_of(alloc, store.world(), &asked)?;
-    match changes_of(alloc, store.world(), &limits, asked) {
-        Ok(changes) => match store.commit(alloc, one, two, changes, &limits) {
-            Ok(()) => Ok(print(there(line))),
+    let limits = limits_of(&asked);
+    match entry_of(alloc, store.world(), &limits, asked)? {
+        Entry::Told(reply) => Ok(reply),
+        Entry::Stored(changes, line) => match store.commit(alloc, one, two, changes, &limits) {
+            Ok(()) => Ok(print(line)),
             Err(error) => refused(alloc, error),
         },
-        Err(error) => crowded(alloc, error),
     }
 }

@@ -1,12 +1,12 @@
-//! Inputs that are given in words.
+//! Inputs that are given in words, beside those of a file.
 
-ghost use Rattle.std.specs.Prelude.{◌≡◌, [], IfOk};
+ghost use Rattle.std.specs.Prelude.{◌≡◌, IfOk};
 ghost use Rattle.std.specs.Option.{option_copied};
 ghost use Rattle.wc_meaning.specs.Inputs.{least_after};
 ghost use Rattle.wc_expression.specs.Val.{is_allowed};
 ghost use Rattle.wc_engine.specs.Given.{bool_in_words, value_in_words, allowed, given_value, times_given, unread, ill_given, bad_given, fields_of};
 
-use std::alloc::{AllocError, Global};
+use std::alloc::AllocError;
 use wc_calculation::port_kind;
 use wc_cli::Given;
 use wc_expression::read_number;
@@ -108,41 +108,44 @@ fn count_given(given: &[Given], name: &[u8]) -> usize
     count
 }
 
-/// The least of a name and the ports that are given more than once, or are required and not given.
+/// The least of a name and the ports that are given more than once, in words or in words and a file, or are required and not given.
 fn least_ill_given<'a>(
     best: Option<&'a Text>,
     ports: &'a [Port],
     given: &[Given],
+    file: &Fields,
 ) -> Option<&'a Text>
-    ensures { option_copied result ≡ least_after (option_copied best.entry) (ill_given ports.entry.now given.now) }
+    ensures { option_copied result ≡ least_after (option_copied best.entry) (ill_given ports.entry.now given.now file.now) }
 {
     let mut best = best;
     for port in ports {
         let count = count_given(given, port.name.text.bytes());
-        if count > 1 || (count == 0 && !port.optional) {
+        let filed = file.find(port.name.text.bytes()).is_some();
+        if count > 1 || (count > 0 && filed) || (count == 0 && !filed && !port.optional) {
             best = lesser_name(best, &port.name.text);
         }
     }
     best
 }
 
-/// The least port, by the bytes of its name, that is given badly: it isn't there, is given twice, isn't given a value
-/// of its kind, or is required and not given. None where all is well.
+/// The least port, by the bytes of its name, that is given badly: it isn't there, is given twice, in words or in words and the file, isn't
+/// given a value of its kind, or is required and not given. None where all is well.
 pub fn find_bad_given<'a>(
     ports: &'a [Port],
     given: &'a [Given],
+    file: &Fields,
 ) -> Result<Option<&'a Text>, AllocError>
-    ensures { IfOk result (λ bad. option_copied bad ≡ bad_given ports.entry.now given.entry.now) }
+    ensures { IfOk result (λ bad. option_copied bad ≡ bad_given ports.entry.now given.entry.now file.now) }
 {
     let unread = least_unread(ports, given)?;
-    Ok(least_ill_given(unread, ports, given))
+    Ok(least_ill_given(unread, ports, given, file))
 }
 
-/// The inputs that the words give, by port.
-pub fn read_given(alloc: Global, ports: &[Port], given: &[Given]) -> Result<Fields, AllocError>
-    ensures { IfOk result (λ fields. fields ≡ fields_of ports.now given.now []) }
+/// The inputs that the words give, by port, beside those of a file.
+pub fn read_given(ports: &[Port], given: &[Given], file: Fields) -> Result<Fields, AllocError>
+    ensures { IfOk result (λ fields. fields ≡ fields_of ports.now given.now file) }
 {
-    let mut fields = Fields::new(alloc);
+    let mut fields = file;
     for one in given {
         if let Some(value) = value_given(ports, one)? {
             fields.set(one.0.copy()?, value)?;

@@ -1,72 +1,189 @@
-//! What words ask for, as the shelf's file makes it. No disk is in scope.
+//! What words ask for, as the shelf's files make it. No disk is in scope.
 
-ghost use Rattle.std.specs.Prelude.{◌≡◌, IfOk};
+ghost use Rattle.std.specs.Prelude.{◌≡◌, None, Some, IfOk};
+ghost use Rattle.wc_state.specs.Ranges.{AreLimits};
 ghost use Rattle.wc_cli.specs.Words.{command_of};
 ghost use Rattle.wc_engine.specs.Calls.{CountsShelf};
-ghost use Rattle.wc_engine.specs.Files.{ReadsFrom};
-ghost use Rattle.wc_engine.specs.Plans.{IsReadyPlan, NamesNoFile, Plans, plan_of_prepared};
-ghost use Rattle.wc_engine.specs.Submits.{PreparesFrom, SubmitsReady};
+ghost use Rattle.wc_engine.specs.Plans.{IsReadyPlan, NamesNoFile, Plans, PlansSubmission, plan_of_prepared, plan_of_run, seed_of};
+ghost use Rattle.wc_engine.specs.Settings.{SettingsFrom, SettingsReady};
+ghost use Rattle.wc_engine.specs.Submits.{SubmitsReady};
 
-use crate::commands::{reply_to_check, reply_to_dry};
-use crate::deed::{Asked, Begin, Deed, Plan, Work};
+use crate::commands::{Trial, reply_to_check, reply_to_dry};
+use crate::deed::{Asked, Begin, Deed, Plan, RunOptions, Work};
 use crate::error::PlanError;
-use crate::reading::{Read, read_content};
+use crate::reading::read_from;
 use crate::reply::refuse;
+use crate::settings::{read_settings_content, submitted_with, usual_settings};
 use crate::status::Cause;
 use crate::submission::{Prepared, prepare};
 use std::alloc::{AllocError, Global};
 use wc_cli::{Command, Given, command_of};
+use wc_config::Settings;
 use wc_io::{Shelf, ShelfError};
 use wc_value::{Text, Words};
 
-/// What a file of the shelf is read as.
-fn read_from<R: Shelf>(alloc: Global, shelf: &mut R, file: &Text) -> Result<Read, PlanError>
-    ensures read { IfOk result (λ r. ReadsFrom (R.contents shelf.old) file.now r) }
-    ensures counts { CountsShelf result (R.faults shelf.old) (R.faults shelf.new) }
-    ensures kept { R.contents shelf.new ≡ R.contents shelf.old }
-{
-    match shelf.read(alloc, file) {
-        Ok(content) => Ok(read_content(alloc, file, content)?),
-        Err(ShelfError::OutOfMemory) => Err(PlanError::OutOfMemory),
-        Err(ShelfError::Failed) => Err(PlanError::ReadFault),
-    }
-}
-
-/// What the words of `submit` are prepared as, with a file of the shelf.
-fn prepare_from<R: Shelf>(
+/// The settings of a command that names this file of the shelf, or none, or why there are none.
+fn read_settings_from<R: Shelf>(
     alloc: Global,
     shelf: &mut R,
-    file: &Text,
-    name: &Text,
-    given: &[Given],
-) -> Result<Prepared, PlanError>
-    ensures prepared { IfOk result (λ p. PreparesFrom (R.contents shelf.old) file.now name.now given.now p) }
-    ensures ready { IfOk result (λ p. SubmitsReady p) }
+    file: &Option<Text>,
+) -> Result<Result<Settings, Cause>, PlanError>
+    ensures settings { IfOk result (λ s. SettingsFrom (R.contents shelf.old) file.now s) }
+    ensures ready { IfOk result (λ s. SettingsReady s) }
     ensures counts { CountsShelf result (R.faults shelf.old) (R.faults shelf.new) }
+    ensures unasked { file.now ≡ None → shelf.new ≡ shelf.old }
     ensures kept { R.contents shelf.new ≡ R.contents shelf.old }
 {
+    let Some(file) = file else {
+        return Ok(Ok(usual_settings(alloc)));
+    };
     match shelf.read(alloc, file) {
-        Ok(content) => Ok(prepare(alloc, file, name, given, content)?),
+        Ok(content) => Ok(read_settings_content(alloc, file, content)?),
         Err(ShelfError::OutOfMemory) => Err(PlanError::OutOfMemory),
         Err(ShelfError::Failed) => Err(PlanError::ReadFault),
     }
 }
 
-/// A refusal, or that a process is submitted.
-fn plan_of_prepared(alloc: Global, prepared: Prepared) -> Result<Plan, AllocError>
+/// A refusal, or that a process is submitted with these settings.
+fn plan_of_prepared(
+    alloc: Global,
+    settings: &Settings,
+    prepared: Prepared,
+) -> Result<Plan, AllocError>
     requires ready { SubmitsReady prepared }
-    ensures plan { IfOk result (λ p. p ≡ plan_of_prepared prepared) }
+    requires limits { AreLimits settings.now.limits }
+    ensures plan { IfOk result (λ p. p ≡ plan_of_prepared settings.now prepared) }
     ensures ready { IfOk result (λ p. IsReadyPlan p) }
 {
     match prepared {
         Prepared::Refused(cause) => Ok(Plan::Told(refuse(alloc, cause)?)),
-        Prepared::Submits(submission) => {
+        Prepared::Submits(invocation) => {
+            let submission = submitted_with(alloc, settings, invocation)?;
             Ok(Plan::On(Deed::Work(Work::Event(Asked::Submit(submission)))))
         }
     }
 }
 
-/// What words ask for. A file that they name is read and understood wholly here.
+/// What the words of `submit` plan with these settings.
+fn plan_submission<R: Shelf>(
+    alloc: Global,
+    shelf: &mut R,
+    file: &Text,
+    name: &Text,
+    given: &[Given],
+    inputs: &Option<Text>,
+    settings: Result<Settings, Cause>,
+) -> Result<Plan, PlanError>
+    requires ready { SettingsReady settings }
+    ensures plans { IfOk result (λ p. PlansSubmission (R.contents shelf.old) file.now name.now given.now inputs.now settings p) }
+    ensures ready { IfOk result (λ p. IsReadyPlan p) }
+    ensures counts { CountsShelf result (R.faults shelf.old) (R.faults shelf.new) }
+    ensures kept { R.contents shelf.new ≡ R.contents shelf.old }
+{
+    match settings {
+        Err(cause) => Ok(Plan::Told(refuse(alloc, cause)?)),
+        Ok(settings) => {
+            let prepared = prepare(alloc, shelf, file, name, given, inputs)?;
+            Ok(plan_of_prepared(alloc, &settings, prepared)?)
+        }
+    }
+}
+
+/// A seed in 32 bits; words give none that is greater.
+fn seed_of(seed: u64) -> u32
+    ensures { result ≡ seed_of seed }
+{
+    u32::try_from(seed).unwrap_or(u32::MAX)
+}
+
+/// What the words of `run` plan with these settings.
+fn plan_of_run(
+    alloc: Global,
+    turns: u64,
+    seed: u64,
+    settings: Result<Settings, Cause>,
+) -> Result<Plan, AllocError>
+    requires ready { SettingsReady settings }
+    ensures plan { IfOk result (λ p. p ≡ plan_of_run turns seed settings) }
+    ensures ready { IfOk result (λ p. IsReadyPlan p) }
+{
+    match settings {
+        Err(cause) => Ok(Plan::Told(refuse(alloc, cause)?)),
+        Ok(settings) => Ok(Plan::On(Deed::Work(Work::Run(RunOptions {
+            turns,
+            seed: seed_of(seed),
+            limits: settings.limits,
+        })))),
+    }
+}
+
+/// What a command asks for. Each file that it names is read and understood wholly here, before the next is read.
+fn plan_command<R: Shelf>(alloc: Global, command: Command, shelf: &mut R) -> Result<Plan, PlanError>
+    ensures plans { IfOk result (λ p. Plans (R.contents shelf.old) (Some command) p) }
+    ensures ready { IfOk result (λ p. IsReadyPlan p) }
+    ensures counts { CountsShelf result (R.faults shelf.old) (R.faults shelf.new) }
+    ensures unasked { NamesNoFile (Some command) → shelf.new ≡ shelf.old }
+    ensures kept { R.contents shelf.new ≡ R.contents shelf.old }
+{
+    match command {
+        Command::Check { file } => {
+            let read = read_from(alloc, shelf, &file)?;
+            Ok(Plan::Told(reply_to_check(alloc, read)?))
+        }
+        Command::Dry {
+            file,
+            name,
+            given,
+            inputs,
+            table,
+            fuel,
+        } => {
+            let read = read_from(alloc, shelf, &file)?;
+            let trial = Trial {
+                name,
+                given,
+                inputs,
+                table,
+                fuel,
+            };
+            Ok(Plan::Told(reply_to_dry(alloc, shelf, read, &trial)?))
+        }
+        Command::Submit {
+            file,
+            name,
+            given,
+            inputs,
+            settings,
+        } => {
+            let settings = read_settings_from(alloc, shelf, &settings)?;
+            plan_submission(
+                alloc,
+                shelf,
+                &file,
+                &name,
+                given.as_slice(),
+                &inputs,
+                settings,
+            )
+        }
+        Command::Init => Ok(Plan::On(Deed::Begin(Begin::Init))),
+        Command::Run {
+            turns,
+            seed,
+            settings,
+        } => {
+            let settings = read_settings_from(alloc, shelf, &settings)?;
+            Ok(plan_of_run(alloc, turns, seed, settings)?)
+        }
+        Command::Pause { pid } => Ok(Plan::On(Deed::Work(Work::Event(Asked::Pause(pid))))),
+        Command::Play { pid } => Ok(Plan::On(Deed::Work(Work::Event(Asked::Play(pid))))),
+        Command::Kill { pid } => Ok(Plan::On(Deed::Work(Work::Event(Asked::Kill(pid))))),
+        Command::View(view) => Ok(Plan::On(Deed::Work(Work::View(view)))),
+        Command::Pack => Ok(Plan::On(Deed::Work(Work::Pack))),
+    }
+}
+
+/// What words ask for.
 pub fn plan<R: Shelf>(alloc: Global, words: &Words, shelf: &mut R) -> Result<Plan, PlanError>
     ensures plans { IfOk result (λ p. Plans (R.contents shelf.old) (command_of words.now) p) }
     ensures ready { IfOk result (λ p. IsReadyPlan p) }
@@ -76,28 +193,6 @@ pub fn plan<R: Shelf>(alloc: Global, words: &Words, shelf: &mut R) -> Result<Pla
 {
     match command_of(alloc, words)? {
         None => Ok(Plan::Told(refuse(alloc, Cause::Words)?)),
-        Some(Command::Check { file }) => {
-            let read = read_from(alloc, shelf, &file)?;
-            Ok(Plan::Told(reply_to_check(alloc, read)?))
-        }
-        Some(
-            Command::Dry {
-                file,
-                name,
-                given,
-                fuel,
-            },
-        ) => {
-            let read = read_from(alloc, shelf, &file)?;
-            Ok(Plan::Told(reply_to_dry(alloc, read, &name, given.as_slice(), fuel)?))
-        }
-        Some(Command::Submit { file, name, given }) => {
-            let prepared = prepare_from(alloc, shelf, &file, &name, given.as_slice())?;
-            Ok(plan_of_prepared(alloc, prepared)?)
-        }
-        Some(Command::Init) => Ok(Plan::On(Deed::Begin(Begin::Init))),
-        Some(Command::Run) => Ok(Plan::On(Deed::Work(Work::Run))),
-        Some(Command::View(view)) => Ok(Plan::On(Deed::Work(Work::View(view)))),
-        Some(Command::Pack) => Ok(Plan::On(Deed::Work(Work::Pack))),
+        Some(command) => plan_command(alloc, command, shelf),
     }
 }

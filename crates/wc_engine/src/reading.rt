@@ -3,11 +3,15 @@
 ghost use Rattle.std.specs.Prelude.{◌≡◌, IfOk};
 ghost use Rattle.std.specs.Str.{is_utf8};
 ghost use Rattle.wc_syntax.specs.Writable.{IsWritable};
-ghost use Rattle.wc_engine.specs.Files.{ReadsLibrary, ReadsText, ReadsBytes, Reads};
+ghost use Rattle.wc_engine.specs.Calls.{CountsShelf};
+ghost use Rattle.wc_engine.specs.Files.{ReadsLibrary, ReadsText, ReadsBytes, Reads, ReadsFrom};
 
+use crate::error::PlanError;
+use crate::further::content_from;
 use crate::status::Cause;
 use std::alloc::{AllocError, Global};
 use wc_check::{first_finding, rules_are_kept_where_nothing_is_found};
+use wc_io::Shelf;
 use wc_parser::{ParseError, parse};
 use wc_syntax::{Checked, Library};
 use wc_value::{Bytes, Duplicate, Text};
@@ -64,4 +68,18 @@ pub fn read_content(alloc: Global, file: &Text, content: Option<Bytes>) -> Resul
         None => Ok(Read::Refused(Cause::NoFile(file.copy()?))),
         Some(bytes) => read_bytes(alloc, file, bytes),
     }
+}
+
+/// What a file of the shelf is read as.
+pub(crate) fn read_from<R: Shelf>(
+    alloc: Global,
+    shelf: &mut R,
+    file: &Text,
+) -> Result<Read, PlanError>
+    ensures read { IfOk result (λ r. ReadsFrom (R.contents shelf.old) file.now r) }
+    ensures counts { CountsShelf result (R.faults shelf.old) (R.faults shelf.new) }
+    ensures kept { R.contents shelf.new ≡ R.contents shelf.old }
+{
+    let content = content_from(alloc, shelf, file)?;
+    Ok(read_content(alloc, file, content)?)
 }

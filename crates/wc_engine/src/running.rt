@@ -1,6 +1,7 @@
 //! How processes take their turns.
 
 ghost use Rattle.std.specs.Prelude.{◌≡◌, ◌-◌, true, IsTrue, IfOk};
+ghost use Rattle.wc_state.specs.Ranges.{AreLimits};
 ghost use Rattle.wc_store.specs.Stores.{StandsFor};
 ghost use Rattle.wc_engine.specs.Calls.{CountsDisks};
 ghost use Rattle.wc_engine.specs.Crashes.{AreDurable, LeavesPairs, HoldsKeeping};
@@ -9,8 +10,8 @@ ghost use Rattle.wc_engine.specs.Running.{status_of, has_run};
 ghost use Rattle.wc_engine.specs.Undone.{EndsWith};
 ghost use Rattle.wc_world.specs.World.{World as AWorld};
 
+use crate::deed::RunOptions;
 use crate::error::ActError;
-use crate::events::usual_limits;
 use crate::laws::worlds_are_kept;
 use crate::opening::full;
 use crate::reply::Reply;
@@ -23,9 +24,6 @@ use wc_runner::{RunEnd, RunError, run, turns_keep_sound};
 use wc_store::Store;
 use wc_transport::Transport;
 use wc_world::World;
-
-/// How many turns and rests a run takes at most, where nothing is said.
-const USUAL_TURNS: u64 = 1_000_000;
 
 /// The status of a run that ended so.
 fn status_of(end: RunEnd) -> Status
@@ -54,20 +52,22 @@ fn has_run(alloc: Global, end: RunEnd, begun: u32, world: &World) -> Result<Repl
 pub(crate) fn run_reply<D: Disk, T: Transport, P: Pacer>(
     alloc: Global,
     mut store: Store,
+    options: RunOptions,
     one: &mut D,
     two: &mut D,
     transport: &mut T,
     pacer: &mut P,
 ) -> Result<Reply, ActError>
+    requires limits { AreLimits options.limits }
     requires live { store.live ≡ true }
     requires stands { IsTrue (D.tells one.old) → IsTrue (D.tells two.old) → StandsFor D.Disk store one.old two.old }
     ensures does { IfOk result (λ r. IsTrue (D.tells one.old) → IsTrue (D.tells two.old)
-        → run_row.does (D.seen one.old, D.seen two.old) store.world.world (D.seen one.new, D.seen two.new) r) }
-    ensures may { IfOk result (λ r. run_row.may r) }
-    ensures kept { IsTrue (D.tells one.old) → IsTrue (D.tells two.old) → LeavesPairs D.Disk one.old two.old one.new two.new (HoldsKeeping run_row.makes store.world.world) }
+        → (run_row options).does (D.seen one.old, D.seen two.old) store.world.world (D.seen one.new, D.seen two.new) r) }
+    ensures may { IfOk result (λ r. (run_row options).may r) }
+    ensures kept { IsTrue (D.tells one.old) → IsTrue (D.tells two.old) → LeavesPairs D.Disk one.old two.old one.new two.new (HoldsKeeping (run_row options).makes store.world.world) }
     ensures durable { IfOk result (λ r. IsTrue (D.tells one.old) → IsTrue (D.tells two.old) → AreDurable D.Disk one.new two.new) }
     ensures tells { (D.tells one.new ≡ D.tells one.old) × (D.tells two.new ≡ D.tells two.old) }
-    ensures untouched { EndsWith run_row.undone result → (one.new ≡ one.old) × (two.new ≡ two.old) }
+    ensures untouched { EndsWith (run_row options).undone result → (one.new ≡ one.old) × (two.new ≡ two.old) }
     ensures cause { CountsDisks result (D.faults one.old) (D.faults one.new) (D.faults two.old) (D.faults two.new) }
 {
     worlds_are_kept();
@@ -80,9 +80,9 @@ pub(crate) fn run_reply<D: Disk, T: Transport, P: Pacer>(
         two,
         transport,
         pacer,
-        &usual_limits(),
-        USUAL_TURNS,
-        0,
+        &options.limits,
+        options.turns,
+        options.seed,
     ) {
         Ok(end) => Ok(has_run(alloc, end, begun, store.world())?),
         Err(RunError::DiskFault) => Err(ActError::DiskFault),

@@ -58,11 +58,13 @@ fn answer<R: Shelf, D: Disk, T: Transport, P: Pacer>(
 /// to the sink.
 ///
 /// What comes first of these is the status, where the shelf and the disks tell and neither memory runs out nor a file, a disk or
-/// the sink fails: the words are no command; the file isn't there, isn't UTF-8, stands for no library, or its library breaks a
-/// rule; the library doesn't define the name; a port is given badly, of
-/// which the least is named; for `dry`: no result is known of a job, or the fuel doesn't suffice; for a command of a store: a disk
-/// is damaged; there is no store, or for `init` there is one; there is no such process; the store would be too full. Else the text of the command is written, also where `run` took as many turns as it
-/// may, or where each live process rests.
+/// the sink fails: the words are no command; the settings file isn't there or gives no settings; the file isn't there, isn't UTF-8, stands
+/// for no library, or its library breaks a rule; the library doesn't define the name; the file of inputs isn't there or
+/// gives none; for `dry`: the table file isn't there or has no table; a port is given badly, of
+/// which the least is named; for `dry`: the table has no result of a job, or the fuel doesn't suffice; for a command of a store: a disk
+/// is damaged; there is no store, or for `init` there is one; there is no such process; it has
+/// ended; the store would be too full. Else the text of the command is written, also where `run` took as many turns as it may, or where each
+/// live process rests.
 pub fn serve<R: Shelf, W: Sink, D: Disk, T: Transport, P: Pacer>(
     alloc: Global,
     words: &Words,
@@ -83,8 +85,8 @@ pub fn serve<R: Shelf, W: Sink, D: Disk, T: Transport, P: Pacer>(
     // At any moment of the call one of the disks has only images that a crash at entry might have left. Each image of the other, beside each
     // that the first may leave at exit, is such a pair, or holds what the words make of what the disks read as at entry: of nothing, where they
     // begin a store, nothing or the empty world; of a world, the same world, or what a deed that they plan makes of it, which for `submit` is
-    // the one submission as which its words are prepared, and for `run` what turns and rests make, within the limits, whatever the transport
-    // replies. What is made of a sound world is sound, and continues it.
+    // the one submission as which its words are prepared, within the limits of its settings, for `pause`, `play` and `kill` that event, and for
+    // `run` what at most as many turns and rests as are given make, within the limits of its settings, whatever the transport replies. What is made of a sound world is sound, and continues it.
     ensures crash { IsTrue (D.tells one.old) → IsTrue (D.tells two.old) → LeavesMade D.Disk (R.contents shelf.old) words.now one.old two.old one.new two.new }
     // Once a deed was done, or found the store too full, nothing is pending, and each pair of images holds what the disks then read as.
     ensures durable { NeedDisks (R.contents shelf.old) words.now → IsDoneOrFull result → IsTrue (D.tells one.old) → IsTrue (D.tells two.old) → AreDurable D.Disk one.new two.new
@@ -94,14 +96,15 @@ pub fn serve<R: Shelf, W: Sink, D: Disk, T: Transport, P: Pacer>(
     // and at exit, and no disk is told to be damaged. Two empty disks meet this.
     ensures sound { IsTrue (D.tells one.old) → IsTrue (D.tells two.old) → EachPair D.Disk one.old two.old HoldsSound → StaySound D.Disk one.old two.old one.new two.new result }
     // What was done with status Ok stands: each pair of images at exit holds the world of which the deed's row acknowledges what was written.
-    // After `submit` it has the process of the number that was written, with library, name, inputs and caching.
+    // After `submit` it has the process of the number that was written, with library, name, inputs and caching; after `pause`, `play` and `kill` that
+    // process has the pause mark, has none, or is killed, and then all that it called have ended.
     ensures acknowledged { NeedDisks (R.contents shelf.old) words.now → result ≡ Status.Ok → IsTrue (D.tells one.old) → IsTrue (D.tells two.old) → Stands D.Disk (R.contents shelf.old) words.now one.new two.new (W.taken sink.old) (W.taken sink.new) }
     // Nothing was written where the rows of the deeds that the words plan say so for this status: by a view, however it ends; by none that ends
-    // with Refused, Damaged or ReadFault; by `submit` and `pack` that end with Full; nor by `init` and `submit` that end with OutOfMemory. Then
+    // with Refused, Damaged or ReadFault; by events and `pack` that end with Full; nor by `init` and events that end with OutOfMemory. Then
     // each image at any moment of the call is one that a crash at entry might have left, and the disks read as before.
     ensures undone { LeaveUndone (R.contents shelf.old) words.now result → IsTrue (D.tells one.old) → IsTrue (D.tells two.old) → LeavesUnwritten D.Disk one.old two.old one.new two.new }
-    // No disk is asked for words that plan no deed: `check`, `dry`, words that are no command, and a `submit` that is refused for its words or
-    // its file, where the shelf tells its contents.
+    // No disk is asked for words that plan no deed: `check`, `dry`, words that are no command, and a `submit` or `run` that is refused for its
+    // words or its files, where the shelf tells its contents.
     ensures files { AskNoDisk (R.contents shelf.old) words.now → (one.new ≡ one.old) × (two.new ≡ two.old) × (result ≡ Status.DiskFault → ⊥) }
     // Nor is one asked where the cause of a refusal is none of a deed's, whether the shelf tells its contents or not.
     ensures early { (c : ACause) → result ≡ Status.Refused c → IsNoDeeds (R.contents shelf.old) words.now c → (one.new ≡ one.old) × (two.new ≡ two.old) }

@@ -2,9 +2,11 @@ ghost use Rattle.std.specs.Prelude.{◌≡◌};
 ghost use Rattle.wc_engine.specs.Replies.{code_of};
 
 use wc_check::CheckError;
+use wc_config::ConfigError;
+use wc_json::JsonError;
 use wc_parser::ParseError;
 use wc_state::What;
-use wc_value::Text;
+use wc_value::{ProcessState, Request, Text};
 
 /// Why a command was refused.
 #[derive(Debug, Drop)]
@@ -19,12 +21,18 @@ pub enum Cause {
     Parse(ParseError),
     /// The file's library breaks a rule of checked libraries.
     Check(CheckError),
+    /// The settings file gives no settings.
+    Settings(ConfigError),
     /// The library has no definition of this name.
     Name(Text),
+    /// The file of inputs gives none.
+    Inputs(JsonError),
+    /// The table file has no table.
+    Table(JsonError),
     /// The least port that is given badly.
     BadInput(Text),
-    /// No result is known of the first job that was asked for one; this is its program.
-    NoAnswer(Text),
+    /// The table has no result for this request, the first that was asked for one.
+    NoAnswer(Request),
     /// The fuel doesn't suffice.
     Fuel,
     /// There is no store.
@@ -35,6 +43,8 @@ pub enum Cause {
     UnknownProcess(u32),
     /// The store has no node of this number.
     UnknownNode(u32),
+    /// The process of this number has ended, in this state.
+    Ended(u32, ProcessState),
 }
 
 /// How a call of the program ended.

@@ -2,14 +2,17 @@
 
 ghost use Rattle.std.specs.Prelude.{◌≡◌, ◌∷◌, ◌++◌, [], IfOk, codes, string_bytes};
 ghost use Rattle.std.specs.Fmt.{decimal};
-ghost use Rattle.wc_engine.specs.Texts.{at_place, at_name, lex_text, parse_text, check_text, cause_text, refusal_text};
+ghost use Rattle.wc_engine.specs.Texts.{at_place, at_name, lex_text, parse_text, check_text, at_path, json_text, config_text, ended_text, cause_text, refusal_text};
 
 use crate::status::Cause;
 use std::alloc::{AllocError, Global};
 use wc_check::CheckError;
+use wc_config::ConfigError;
+use wc_json::JsonError;
 use wc_lexer::LexError;
 use wc_parser::ParseError;
-use wc_value::Text;
+use wc_report::state_text;
+use wc_value::{ProcessState, Text};
 
 /// A text, and a place behind it.
 fn placed(alloc: Global, text: &str, at: u32) -> Result<String, AllocError>
@@ -75,6 +78,64 @@ fn check_name(alloc: Global, error: &CheckError) -> Result<String, AllocError>
     }
 }
 
+/// A text, what is wrong, and the path.
+fn at_path(alloc: Global, text: &str, wrong: &str, path: &Text) -> Result<String, AllocError>
+    ensures { IfOk result (λ line. string_bytes line ≡ at_path text.now wrong.now path.now) }
+{
+    let mut line = String::from_str(alloc, text)?;
+    line.push_str(" ")?;
+    line.push_str(wrong)?;
+    line.push_str(" at ")?;
+    line.push_str(path.as_str())?;
+    Ok(line)
+}
+
+/// What a refusal of a file of JSON is called.
+fn json_name(alloc: Global, file: &str, error: &JsonError) -> Result<String, AllocError>
+    ensures { IfOk result (λ line. string_bytes line ≡ json_text file.now error.now) }
+{
+    match error {
+        JsonError::NotJson => format!(in alloc; "{file} not json"),
+        JsonError::Float(path) => at_path(alloc, file, "float", path),
+        JsonError::OutOfRange(path) => at_path(alloc, file, "out of range", path),
+        JsonError::Shape(path) => at_path(alloc, file, "shape", path),
+        JsonError::OutOfMemory => String::from_str(alloc, "out of memory"),
+    }
+}
+
+/// A process that has ended in this state.
+fn ended(alloc: Global, pid: u32, state: ProcessState) -> Result<String, AllocError>
+    ensures { IfOk result (λ line. string_bytes line ≡ ended_text pid state) }
+{
+    let number = format!(in alloc; "{pid}")?;
+    let state = state_text(alloc, state)?;
+    let mut line = String::from_str(alloc, "ended ")?;
+    line.push_str(number.as_str())?;
+    line.push_str(" ")?;
+    line.push_str(state.as_str())?;
+    Ok(line)
+}
+
+/// What a refusal of a settings file is called.
+fn config_name(alloc: Global, error: &ConfigError) -> Result<String, AllocError>
+    ensures { IfOk result (λ text. string_bytes text ≡ config_text error.now) }
+{
+    match error {
+        ConfigError::NotToml => String::from_str(alloc, "not toml"),
+        ConfigError::UnknownKey(key) => format!(in alloc; "unknown key {}", key.as_str()),
+        ConfigError::BadValue(key) => format!(in alloc; "bad value {}", key.as_str()),
+        ConfigError::OutOfMemory => String::from_str(alloc, "out of memory"),
+    }
+}
+
+/// The text of a refusal of a settings file.
+fn settings_name(alloc: Global, error: &ConfigError) -> Result<String, AllocError>
+    ensures { IfOk result (λ text. string_bytes text ≡ codes "settings " ++ config_text error.now) }
+{
+    let name = config_name(alloc, error)?;
+    format!(in alloc; "settings {}", name.as_str())
+}
+
 /// What a cause is called.
 fn cause_name(alloc: Global, cause: &Cause) -> Result<String, AllocError>
     ensures { IfOk result (λ text. string_bytes text ≡ cause_text cause.now) }
@@ -85,14 +146,18 @@ fn cause_name(alloc: Global, cause: &Cause) -> Result<String, AllocError>
         Cause::NotUtf8(file) => format!(in alloc; "not utf-8 {}", file.as_str()),
         Cause::Parse(error) => parse_name(alloc, *error),
         Cause::Check(error) => check_name(alloc, error),
+        Cause::Settings(error) => settings_name(alloc, error),
         Cause::Name(name) => format!(in alloc; "unknown name {}", name.as_str()),
+        Cause::Inputs(error) => json_name(alloc, "inputs", error),
+        Cause::Table(error) => json_name(alloc, "table", error),
         Cause::BadInput(port) => format!(in alloc; "bad input {}", port.as_str()),
-        Cause::NoAnswer(program) => format!(in alloc; "no answer {}", program.as_str()),
+        Cause::NoAnswer(request) => format!(in alloc; "no answer {}", request.program.as_str()),
         Cause::Fuel => String::from_str(alloc, "fuel"),
         Cause::NoStore => String::from_str(alloc, "no store"),
         Cause::StoreExists => String::from_str(alloc, "store exists"),
         Cause::UnknownProcess(pid) => format!(in alloc; "unknown process {pid}"),
         Cause::UnknownNode(node) => format!(in alloc; "unknown node {node}"),
+        Cause::Ended(pid, state) => ended(alloc, *pid, *state),
     }
 }
 

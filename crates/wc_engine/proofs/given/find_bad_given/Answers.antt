@@ -8,5 +8,6 @@ pub returns : goal.returns
 returns c =
     let ports = c.args.ports.now in
     let given = c.args.given.now in
-    c.least_ill_given.ensures ∙ ap (λ b. least_after b (ill_given ports given)) c.in_ok-unread.ensures
-    ∙ sym (least_after_append None (unread ports given) (ill_given ports given))
+    let file = c.args.file.now in
+    c.least_ill_given.ensures ∙ ap (λ b. least_after b (ill_given ports given file)) c.in_ok-unread.ensures
+    ∙ sym (least_after_append None (unread ports given) (ill_given ports given file))

@@ -5,4 +5,4 @@ use Rattle.wc_engine.specs.Given.{ill_given}
 use Rattle.wc_engine.proofs.given.least_ill_given.Given as goal
 
 abbrev pub invariant-loop-port : goal.invariant-loop-port
-invariant-loop-port l = least_after (option_copied l.best) (ill_given (drop l.port-index l.ports) l.given) ≡ least_after (option_copied l.fn.best) (ill_given l.ports l.given)
+invariant-loop-port l = least_after (option_copied l.best) (ill_given (drop l.port-index l.ports) l.given l.file) ≡ least_after (option_copied l.fn.best) (ill_given l.ports l.given l.file)

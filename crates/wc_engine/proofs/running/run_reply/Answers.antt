@@ -1,13 +1,10 @@
-use Rattle.std.proofs.Common.{◌≡◌, inl, inr, Err, IsTrue, sym, subst, ◌∙◌}
-use Rattle.wc_state.specs.declared.record.Limits.{Limits}
+use Rattle.std.proofs.Common.{◌≡◌, inl, inr, Err, IsTrue, refl, sym, subst, ◌∙◌}
 use Rattle.wc_runner.specs.declared.error.RunError.{RunError}
-use Rattle.wc_runner.specs.declared.error.RunError.TheVariants.{Full}
 use Rattle.wc_runner.specs.declared.running.RunEnd.{RunEnd}
 use Rattle.wc_runner.specs.Outside.{in_run}
 use Rattle.wc_runner.specs.Refusals.{RefusesRun, is_live_after}
-use Rattle.wc_runner.specs.Running.{TakesTurns, FitsAfter}
 use Rattle.wc_engine.specs.declared.reply.Reply.{Reply}
-use Rattle.wc_engine.specs.Running.{usual_turns, widest, has_run, EndsSo}
+use Rattle.wc_engine.specs.Running.{has_run}
 use Rattle.wc_engine.specs.Undone.{IsBeforeTurns}
 use Rattle.wc_engine.proofs.Leaving.{taken}
 use Rattle.wc_engine.proofs.Doing.{goes_on_journal}
@@ -18,115 +15,117 @@ use Rattle.wc_engine.proofs.running.run_reply.Goals as goal
 pub returns-in_err-has_run-in-Ok-clause-kept : goal.returns-in_err-has_run-in-Ok-clause-kept
 returns-in_err-has_run-in-Ok-clause-kept g c =
     λ told told_too.
-    let o = in_run g.T.Transport g.P.Pacer c.usual_limits.result c.args.transport.now c.run.new.transport c.run.new.pacer in
+    let o = in_run g.T.Transport g.P.Pacer c.args.options.limits c.args.transport.now c.run.new.transport c.run.new.pacer in
     taken g.D.Disk g.met.D.Disk.only_now c.worlds_are_kept.ensures.reached c.worlds_are_kept.ensures.same c.args.store c.args.one.now c.args.two.now (c.requires.stands told told_too)
-    o (c.turns_keep_sound.ensures.in_run c.usual_limits.result c.args.transport.now c.run.new.transport c.run.new.pacer) c.usual_limits.ensures c.run.new.one c.run.new.two (c.run.ensures.any_moment told told_too)
+    o c.args.options (c.turns_keep_sound.ensures.in_run c.args.options.limits c.args.transport.now c.run.new.transport c.run.new.pacer) refl c.run.new.one c.run.new.two (c.run.ensures.any_moment told told_too)
 
 pub returns-in-Ok-clause-kept : goal.returns-in-Ok-clause-kept
 returns-in-Ok-clause-kept g c =
     λ told told_too.
-    let o = in_run g.T.Transport g.P.Pacer c.usual_limits.result c.args.transport.now c.run.new.transport c.run.new.pacer in
+    let o = in_run g.T.Transport g.P.Pacer c.args.options.limits c.args.transport.now c.run.new.transport c.run.new.pacer in
     taken g.D.Disk g.met.D.Disk.only_now c.worlds_are_kept.ensures.reached c.worlds_are_kept.ensures.same c.args.store c.args.one.now c.args.two.now (c.requires.stands told told_too)
-    o (c.turns_keep_sound.ensures.in_run c.usual_limits.result c.args.transport.now c.run.new.transport c.run.new.pacer) c.usual_limits.ensures c.run.new.one c.run.new.two (c.run.ensures.any_moment told told_too)
+    o c.args.options (c.turns_keep_sound.ensures.in_run c.args.options.limits c.args.transport.now c.run.new.transport c.run.new.pacer) refl c.run.new.one c.run.new.two (c.run.ensures.any_moment told told_too)
 
 pub returns-in-Err-DiskFault-clause-kept : goal.returns-in-Err-DiskFault-clause-kept
 returns-in-Err-DiskFault-clause-kept g c =
     λ told told_too.
-    let o = in_run g.T.Transport g.P.Pacer c.usual_limits.result c.args.transport.now c.run.new.transport c.run.new.pacer in
+    let o = in_run g.T.Transport g.P.Pacer c.args.options.limits c.args.transport.now c.run.new.transport c.run.new.pacer in
     taken g.D.Disk g.met.D.Disk.only_now c.worlds_are_kept.ensures.reached c.worlds_are_kept.ensures.same c.args.store c.args.one.now c.args.two.now (c.requires.stands told told_too)
-    o (c.turns_keep_sound.ensures.in_run c.usual_limits.result c.args.transport.now c.run.new.transport c.run.new.pacer) c.usual_limits.ensures c.run.new.one c.run.new.two (c.run.ensures.any_moment told told_too)
+    o c.args.options (c.turns_keep_sound.ensures.in_run c.args.options.limits c.args.transport.now c.run.new.transport c.run.new.pacer) refl c.run.new.one c.run.new.two (c.run.ensures.any_moment told told_too)
 
 pub returns-in_err-full-in-Err-Full-clause-kept : goal.returns-in_err-full-in-Err-Full-clause-kept
 returns-in_err-full-in-Err-Full-clause-kept g c =
     λ told told_too.
-    let o = in_run g.T.Transport g.P.Pacer c.usual_limits.result c.args.transport.now c.run.new.transport c.run.new.pacer in
+    let o = in_run g.T.Transport g.P.Pacer c.args.options.limits c.args.transport.now c.run.new.transport c.run.new.pacer in
     taken g.D.Disk g.met.D.Disk.only_now c.worlds_are_kept.ensures.reached c.worlds_are_kept.ensures.same c.args.store c.args.one.now c.args.two.now (c.requires.stands told told_too)
-    o (c.turns_keep_sound.ensures.in_run c.usual_limits.result c.args.transport.now c.run.new.transport c.run.new.pacer) c.usual_limits.ensures c.run.new.one c.run.new.two (c.run.ensures.any_moment told told_too)
+    o c.args.options (c.turns_keep_sound.ensures.in_run c.args.options.limits c.args.transport.now c.run.new.transport c.run.new.pacer) refl c.run.new.one c.run.new.two (c.run.ensures.any_moment told told_too)
 
 pub returns-in-Err-Full-clause-kept : goal.returns-in-Err-Full-clause-kept
 returns-in-Err-Full-clause-kept g c =
     λ told told_too.
-    let o = in_run g.T.Transport g.P.Pacer c.usual_limits.result c.args.transport.now c.run.new.transport c.run.new.pacer in
+    let o = in_run g.T.Transport g.P.Pacer c.args.options.limits c.args.transport.now c.run.new.transport c.run.new.pacer in
     taken g.D.Disk g.met.D.Disk.only_now c.worlds_are_kept.ensures.reached c.worlds_are_kept.ensures.same c.args.store c.args.one.now c.args.two.now (c.requires.stands told told_too)
-    o (c.turns_keep_sound.ensures.in_run c.usual_limits.result c.args.transport.now c.run.new.transport c.run.new.pacer) c.usual_limits.ensures c.run.new.one c.run.new.two (c.run.ensures.any_moment told told_too)
+    o c.args.options (c.turns_keep_sound.ensures.in_run c.args.options.limits c.args.transport.now c.run.new.transport c.run.new.pacer) refl c.run.new.one c.run.new.two (c.run.ensures.any_moment told told_too)
 
 pub returns-clause-kept : goal.returns-clause-kept
 returns-clause-kept g c =
     λ told told_too.
-    let o = in_run g.T.Transport g.P.Pacer c.usual_limits.result c.args.transport.now c.run.new.transport c.run.new.pacer in
+    let o = in_run g.T.Transport g.P.Pacer c.args.options.limits c.args.transport.now c.run.new.transport c.run.new.pacer in
     taken g.D.Disk g.met.D.Disk.only_now c.worlds_are_kept.ensures.reached c.worlds_are_kept.ensures.same c.args.store c.args.one.now c.args.two.now (c.requires.stands told told_too)
-    o (c.turns_keep_sound.ensures.in_run c.usual_limits.result c.args.transport.now c.run.new.transport c.run.new.pacer) c.usual_limits.ensures c.run.new.one c.run.new.two (c.run.ensures.any_moment told told_too)
+    o c.args.options (c.turns_keep_sound.ensures.in_run c.args.options.limits c.args.transport.now c.run.new.transport c.run.new.pacer) refl c.run.new.one c.run.new.two (c.run.ensures.any_moment told told_too)
 
 pub returns-in-Ok-clause-may : goal.returns-in-Ok-clause-may
 returns-in-Ok-clause-may g c =
+    let p = c.args.options in
     let w = c.args.store.world.world in
     let v = c.run.new.store.world.world in
-    let o = in_run g.T.Transport g.P.Pacer c.usual_limits.result c.args.transport.now c.run.new.transport c.run.new.pacer in
+    let o = in_run g.T.Transport g.P.Pacer c.args.options.limits c.args.transport.now c.run.new.transport c.run.new.pacer in
     let begun : w.batches ≡ c.batches-begun.result = sym (c.batches-begun.ensures ∙ (λ i. (c.world.ensures i).world.batches)) in (
       w,
       v,
-      subst (λ (l : Limits). TakesTurns (widest l) usual_turns w v) c.usual_limits.ensures (takes_up_to o usual_turns w v (g.P.Pacer.rests c.args.pacer.now) (g.P.Pacer.rests c.run.new.pacer) c.run.ensures.takes),
+      takes_up_to o p.turns w v (g.P.Pacer.rests c.args.pacer.now) (g.P.Pacer.rests c.run.new.pacer) c.run.ensures.takes,
       inl (record {
         end = c.in-Ok.end;
-        ends = subst (λ (l : Limits). EndsSo l w v c.in-Ok.end) c.usual_limits.ensures
-            (ends_so o w v (g.P.Pacer.rests c.args.pacer.now) (g.P.Pacer.rests c.run.new.pacer) c.in-Ok.end c.in-Ok.ensures.ends);
+        ends = (ends_so o p.turns w v (g.P.Pacer.rests c.args.pacer.now) (g.P.Pacer.rests c.run.new.pacer) c.in-Ok.end c.in-Ok.ensures.ends);
         reply = c.in_ok-has_run-in-Ok.ensures w begun ∙ (λ i. has_run c.in-Ok.end w (c.world-in-Ok.ensures i).world);
       }),
     )
 
 pub returns-in-Err-Full-clause-may : goal.returns-in-Err-Full-clause-may
 returns-in-Err-Full-clause-may g c =
+    let p = c.args.options in
     let w = c.args.store.world.world in
     let v = c.run.new.store.world.world in
     let f = c.in-Err-Full in
-    let o = in_run g.T.Transport g.P.Pacer c.usual_limits.result c.args.transport.now c.run.new.transport c.run.new.pacer in
+    let o = in_run g.T.Transport g.P.Pacer c.args.options.limits c.args.transport.now c.run.new.transport c.run.new.pacer in
     let T : Type 0 = IsTrue (g.D.Disk.tells c.args.one.now) × IsTrue (g.D.Disk.tells c.args.two.now) in
     let full = subst (λ (e : RunError). RefusesRun g.D.Disk T o c.run.new.store c.run.new.one c.run.new.two e) f.field-0-is f.ensures.refused in (
       w,
       v,
-      subst (λ (l : Limits). TakesTurns (widest l) usual_turns w v) c.usual_limits.ensures (takes_up_to o usual_turns w v (g.P.Pacer.rests c.args.pacer.now) (g.P.Pacer.rests c.run.new.pacer) c.run.ensures.takes),
+      takes_up_to o p.turns w v (g.P.Pacer.rests c.args.pacer.now) (g.P.Pacer.rests c.run.new.pacer) c.run.ensures.takes,
       inr (
         full.journal,
-        fills_at g.D.Disk T o w c.run.new.store c.run.new.one c.run.new.two (g.P.Pacer.rests c.args.pacer.now) (g.P.Pacer.rests c.run.new.pacer) f.what f.count f.limit c.in_ok-full-in-Err-Full.field-0
-            c.usual_limits.ensures full f.ensures.early c.in_ok-full-in-Err-Full.ensures,
+        fills_at g.D.Disk T o p w c.run.new.store c.run.new.one c.run.new.two (g.P.Pacer.rests c.args.pacer.now) (g.P.Pacer.rests c.run.new.pacer) f.what f.count f.limit c.in_ok-full-in-Err-Full.field-0
+            refl full f.ensures.early c.in_ok-full-in-Err-Full.ensures,
       ),
     )
 
 pub returns-in-Ok-clause-does : goal.returns-in-Ok-clause-does
 returns-in-Ok-clause-does g c =
     λ told told_too.
+    let p = c.args.options in
     let w = c.args.store.world.world in
     let v = c.run.new.store.world.world in
-    let o = in_run g.T.Transport g.P.Pacer c.usual_limits.result c.args.transport.now c.run.new.transport c.run.new.pacer in
+    let o = in_run g.T.Transport g.P.Pacer c.args.options.limits c.args.transport.now c.run.new.transport c.run.new.pacer in
     let begun : w.batches ≡ c.batches-begun.result = sym (c.batches-begun.ensures ∙ (λ i. (c.world.ensures i).world.batches)) in
-    has_come g.D.Disk c.args.store c.run.new.store c.args.one.now c.args.two.now c.run.new.one c.run.new.two c.in_ok-has_run-in-Ok.field-0 c.in-Ok.end
+    has_come g.D.Disk p c.args.store c.run.new.store c.args.one.now c.args.two.now c.run.new.one c.run.new.two c.in_ok-has_run-in-Ok.field-0 c.in-Ok.end
     (c.run.ensures.still c.in-Ok.ensures.live told told_too)
-    (subst (λ (l : Limits). TakesTurns (widest l) usual_turns w v) c.usual_limits.ensures (takes_up_to o usual_turns w v (g.P.Pacer.rests c.args.pacer.now) (g.P.Pacer.rests c.run.new.pacer) c.run.ensures.takes))
-    (subst (λ (l : Limits). FitsAfter l w c.run.new.store) c.usual_limits.ensures c.run.ensures.fits)
+    (takes_up_to o p.turns w v (g.P.Pacer.rests c.args.pacer.now) (g.P.Pacer.rests c.run.new.pacer) c.run.ensures.takes)
+    c.run.ensures.fits
     (goes_on_journal g.D.Disk c.args.store c.run.new.store c.args.one.now c.args.two.now c.run.new.one c.run.new.two (c.requires.stands told told_too) (c.run.ensures.still c.in-Ok.ensures.live told told_too) c.run.ensures.place
     (c.run.ensures.any_moment told told_too).untouched)
-    (subst (λ (l : Limits). EndsSo l w v c.in-Ok.end) c.usual_limits.ensures
-    (ends_so o w v (g.P.Pacer.rests c.args.pacer.now) (g.P.Pacer.rests c.run.new.pacer) c.in-Ok.end c.in-Ok.ensures.ends))
+    (ends_so o p.turns w v (g.P.Pacer.rests c.args.pacer.now) (g.P.Pacer.rests c.run.new.pacer) c.in-Ok.end c.in-Ok.ensures.ends)
     (c.in_ok-has_run-in-Ok.ensures w begun ∙ (λ i. has_run c.in-Ok.end w (c.world-in-Ok.ensures i).world))
 
 pub returns-in-Err-Full-clause-does : goal.returns-in-Err-Full-clause-does
 returns-in-Err-Full-clause-does g c =
     λ told told_too.
+    let p = c.args.options in
     let w = c.args.store.world.world in
     let v = c.run.new.store.world.world in
     let f = c.in-Err-Full in
-    let o = in_run g.T.Transport g.P.Pacer c.usual_limits.result c.args.transport.now c.run.new.transport c.run.new.pacer in
+    let o = in_run g.T.Transport g.P.Pacer c.args.options.limits c.args.transport.now c.run.new.transport c.run.new.pacer in
     let T : Type 0 = IsTrue (g.D.Disk.tells c.args.one.now) × IsTrue (g.D.Disk.tells c.args.two.now) in
     let full = subst (λ (e : RunError). RefusesRun g.D.Disk T o c.run.new.store c.run.new.one c.run.new.two e) f.field-0-is f.ensures.refused in
     let live = subst (λ (e : RunError). c.run.new.store.live ≡ is_live_after {T = RunEnd} (Err e)) f.field-0-is f.ensures.live in
     let stands = c.run.ensures.still live told told_too in
-    has_filled g.D.Disk c.args.store c.run.new.store c.args.one.now c.args.two.now c.run.new.one c.run.new.two c.in_ok-full-in-Err-Full.field-0 full.journal stands (full.settled (told, told_too))
-    (subst (λ (l : Limits). TakesTurns (widest l) usual_turns w v) c.usual_limits.ensures (takes_up_to o usual_turns w v (g.P.Pacer.rests c.args.pacer.now) (g.P.Pacer.rests c.run.new.pacer) c.run.ensures.takes))
-    (subst (λ (l : Limits). FitsAfter l w c.run.new.store) c.usual_limits.ensures c.run.ensures.fits)
+    has_filled g.D.Disk p c.args.store c.run.new.store c.args.one.now c.args.two.now c.run.new.one c.run.new.two c.in_ok-full-in-Err-Full.field-0 full.journal stands (full.settled (told, told_too))
+    (takes_up_to o p.turns w v (g.P.Pacer.rests c.args.pacer.now) (g.P.Pacer.rests c.run.new.pacer) c.run.ensures.takes)
+    c.run.ensures.fits
     (goes_on_journal g.D.Disk c.args.store c.run.new.store c.args.one.now c.args.two.now c.run.new.one c.run.new.two (c.requires.stands told told_too) stands c.run.ensures.place
     (c.run.ensures.any_moment told told_too).untouched)
-    (fills_at g.D.Disk T o w c.run.new.store c.run.new.one c.run.new.two (g.P.Pacer.rests c.args.pacer.now) (g.P.Pacer.rests c.run.new.pacer) f.what f.count f.limit c.in_ok-full-in-Err-Full.field-0
-    c.usual_limits.ensures full f.ensures.early c.in_ok-full-in-Err-Full.ensures)
+    (fills_at g.D.Disk T o p w c.run.new.store c.run.new.one c.run.new.two (g.P.Pacer.rests c.args.pacer.now) (g.P.Pacer.rests c.run.new.pacer) f.what f.count f.limit c.in_ok-full-in-Err-Full.field-0
+    refl full f.ensures.early c.in_ok-full-in-Err-Full.ensures)
 
 pub returns-in-Ok-clause-untouched : goal.returns-in-Ok-clause-untouched
 returns-in-Ok-clause-untouched g c =

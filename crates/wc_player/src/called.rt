@@ -11,6 +11,8 @@ pub struct Called {
     pub status: u8,
     /// What was written.
     pub text: Bytes,
+    /// Whether a call of the transport failed in it.
+    pub is_failed: bool,
 }
 
 impl Called {

@@ -2,6 +2,7 @@
 
 use std::alloc::AllocError;
 use thiserror::Error;
+use wc_value::TableError;
 
 /// Why a transcript can't be played.
 #[derive(Clone, Copy, Debug, PartialEq, Eq, Error)]
@@ -11,6 +12,18 @@ pub enum PlayError {
     /// A word of a command is no text.
     #[error("a word is no text")]
     Word,
+    /// A result stands twice.
+    #[error("a request has two results")]
+    Twice,
+}
+
+impl From<TableError> for PlayError {
+    fn from(error: TableError) -> PlayError {
+        match error {
+            TableError::OutOfMemory => PlayError::OutOfMemory,
+            TableError::Twice(_) => PlayError::Twice,
+        }
+    }
 }
 
 impl From<AllocError> for PlayError {

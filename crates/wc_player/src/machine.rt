@@ -1,15 +1,17 @@
-//! A machine on which the program is called: a shelf, a sink and two disks in memory.
+//! A machine on which the program is called: a shelf, a sink, two disks, a transport and a clock, all in memory.
 
 use crate::called::Called;
+use crate::clock::Clock;
 use crate::disks::{Disks, bytes_of};
 use crate::letting::{both, put};
+use crate::outside::Outside;
 use crate::program::{Program, Sipping};
 use std::alloc::{AllocError, Global};
 use wc_io::{MemoryShelf, MemorySink};
 use wc_transcript::{Left, Side};
-use wc_value::{Bytes, Duplicate, Files, List, Text, Words};
+use wc_value::{Bytes, Duplicate, Files, List, Rows, Table, TableError, Text, Words};
 
-/// A shelf, a sink and two disks on which the program is called.
+/// A shelf, a sink, two disks, a transport and a clock, on which the program is called.
 #[derive(Drop)]
 pub struct Machine {
     alloc: Global,
@@ -18,6 +20,10 @@ pub struct Machine {
     sink: Sipping,
     /// The disks.
     pub disks: Disks,
+    /// The transport.
+    pub outside: Outside,
+    /// The clock.
+    pub clock: Clock,
 }
 
 /// An empty sink that takes at most so many bytes in a call.
@@ -29,32 +35,40 @@ fn sink_of(alloc: Global, most: usize, failing: List<u64>) -> Sipping {
 }
 
 impl Machine {
-    /// A machine with no file and two empty disks.
-    pub fn new(alloc: Global) -> Machine {
-        Machine {
+    /// A machine with no file, two empty disks and a transport that has no results.
+    pub fn new(alloc: Global) -> Result<Machine, TableError> {
+        let outside = Outside::new(alloc, Table::new(alloc, Rows::new(alloc))?)?;
+        Ok(Machine {
             alloc,
             files: Files::new(alloc),
             shelf: MemoryShelf::new(Files::new(alloc), List::new(alloc)),
             sink: sink_of(alloc, usize::MAX, List::new(alloc)),
             disks: Disks::new(alloc),
-        }
+            outside,
+            clock: Clock::new(alloc),
+        })
     }
 
-    /// A machine that holds the same beside these disks, and of which no call fails.
+    /// A machine that holds the same beside these disks. No call of its shelf, its sink and its disks fails.
     fn with(&self, disks: Disks) -> Result<Machine, AllocError> {
         let alloc = self.alloc;
-        let (disks, files) = both(disks, self.files.copy())?;
-        let ((disks, files), given) = both((disks, files), self.files.copy())?;
+        let (parts, files) = both(disks, self.files.copy())?;
+        let (parts, given) = both((parts, files), self.files.copy())?;
+        let (parts, outside) = both((parts, given), self.outside.copy())?;
+        let (parts, clock) = both((parts, outside), self.clock.copy())?;
+        let (((disks, files), given), outside) = parts;
         Ok(Machine {
             alloc,
             files,
             shelf: MemoryShelf::new(given, List::new(alloc)),
             sink: sink_of(alloc, self.sink.most, List::new(alloc)),
             disks,
+            outside,
+            clock,
         })
     }
 
-    /// A machine that holds the same, of which no call fails. All that the disks hold counts as synced.
+    /// A machine that holds the same. No call of its shelf, its sink and its disks fails, and all that the disks hold counts as synced.
     pub fn copy(&self) -> Result<Machine, AllocError> {
         self.with(self.disks.copy(self.alloc)?)
     }
@@ -100,6 +114,14 @@ impl Machine {
         self.sink.most = most;
     }
 
+    /// The transport is a new one with this table, and the clock one that stands at 0.
+    pub fn set_table(&mut self, table: Table) -> Result<(), AllocError> {
+        let outside = Outside::new(self.alloc, table)?;
+        put(&mut self.outside, outside);
+        put(&mut self.clock, Clock::new(self.alloc));
+        Ok(())
+    }
+
     /// The shelf has a file of this name, and none of its calls fails.
     pub fn set_file(&mut self, name: Text, content: Bytes) -> Result<(), AllocError> {
         self.files.set(name, content)?;
@@ -115,6 +137,7 @@ impl Machine {
     /// Calls a program with these words.
     pub fn call<P: Program>(&mut self, program: &P, words: &Words) -> Result<Called, AllocError> {
         let before = self.sink.inner.bytes().len();
+        let faults = self.outside.faults();
         let status = program.call(
             self.alloc,
             words,
@@ -122,8 +145,14 @@ impl Machine {
             &mut self.sink,
             &mut self.disks.one,
             &mut self.disks.two,
+            &mut self.outside,
+            &mut self.clock,
         );
         let text = self.written_behind(before)?;
-        Ok(Called { status, text })
+        Ok(Called {
+            status,
+            text,
+            is_failed: self.outside.faults() != faults,
+        })
     }
 }

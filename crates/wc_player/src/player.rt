@@ -8,8 +8,8 @@ use crate::letting::put;
 use crate::machine::Machine;
 use crate::program::Program;
 use std::alloc::{AllocError, Global};
-use wc_transcript::{Call, Content, Deed, Device, Number, Side, Step};
-use wc_value::{Bytes, List, Text, Words};
+use wc_transcript::{Answer, Call, Content, Deed, Device, Number, Side, Step};
+use wc_value::{Bytes, List, TableError, Text, Words};
 
 /// The machine, what was found, and what was asked.
 #[derive(Drop)]
@@ -29,7 +29,7 @@ pub struct Player<P> {
 }
 
 /// The words of a call.
-fn words_of(alloc: Global, words: &[Content], number: u64) -> Result<Words, PlayError> {
+pub fn words_of(alloc: Global, words: &[Content], number: u64) -> Result<Words, PlayError> {
     let mut list: Words = List::new(alloc);
     for word in words {
         let bytes = word.written(alloc, number)?;
@@ -92,15 +92,16 @@ fn cut_to(alloc: Global, bytes: &[u8], length: usize) -> Result<Option<Bytes>, A
 
 impl<P: Program + Drop> Player<P> {
     /// A player that has taken no step.
-    pub fn new(alloc: Global, program: P) -> Player<P> {
-        Player {
+    pub fn new(alloc: Global, program: P) -> Result<Player<P>, TableError> {
+        let machine = Machine::new(alloc)?;
+        Ok(Player {
             program,
-            machine: Machine::new(alloc),
+            machine,
             marked: Disks::new(alloc),
             findings: Findings::new(alloc),
             checks: 0,
             faults: 0,
-        }
+        })
     }
 
     /// What the player takes its memory from.
@@ -123,19 +124,33 @@ impl<P: Program + Drop> Player<P> {
         Ok(called)
     }
 
-    /// Compares what a call gave with its answers.
-    pub fn judge(&mut self, place: Place, call: &Call, called: &Called) -> Result<(), AllocError> {
+    /// Compares what a call gave with the answers that are right.
+    pub fn judge(
+        &mut self,
+        place: Place,
+        answers: &[Answer],
+        called: &Called,
+    ) -> Result<(), AllocError> {
         self.count_check();
         let alloc = self.alloc();
-        self.findings
-            .judge(alloc, place, call.answers.as_slice(), called)?;
+        self.findings.judge(alloc, place, answers, called)?;
         Ok(())
+    }
+
+    /// Calls the program, and compares what it gave with these answers.
+    pub fn expect_one(
+        &mut self,
+        place: Place,
+        call: &Call,
+        answers: &[Answer],
+    ) -> Result<(), PlayError> {
+        let called = self.call(call, place.repetition)?;
+        Ok(self.judge(place, answers, &called)?)
     }
 
     /// Calls the program, and compares what it gave with its answers.
     pub fn expect(&mut self, place: Place, call: &Call) -> Result<(), PlayError> {
-        let called = self.call(call, place.repetition)?;
-        Ok(self.judge(place, call, &called)?)
+        self.expect_one(place, call, call.answers.as_slice())
     }
 
     /// Notes what is asked for and isn't so.
@@ -186,6 +201,10 @@ impl<P: Program + Drop> Player<P> {
                 Ok(())
             }
             Device::Disk(side) => self.machine.fail_disk(side, failing),
+            Device::Transport(task) => {
+                self.machine.outside.fail(task, failing);
+                Ok(())
+            }
         }
     }
 

@@ -1,5 +1,7 @@
 //! The program that is called, and the sink on which it is.
 
+use crate::clock::Clock;
+use crate::outside::Outside;
 use std::alloc::Global;
 use wc_disk::MemoryDisk;
 use wc_io::{Failed, MemoryShelf, MemorySink, Sink};
@@ -27,7 +29,7 @@ impl Sink for Sipping {
     }
 }
 
-/// A program that is called with words on a shelf, a sink and two disks.
+/// A program that is called with words on a shelf, a sink, two disks, a transport and a clock.
 pub trait Program {
     /// Calls the program, and answers its exit status.
     fn call(
@@ -38,5 +40,7 @@ pub trait Program {
         sink: &mut Sipping,
         one: &mut MemoryDisk,
         two: &mut MemoryDisk,
+        transport: &mut Outside,
+        clock: &mut Clock,
     ) -> u8;
 }

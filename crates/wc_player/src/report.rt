@@ -69,7 +69,7 @@ pub fn play<P: Program + Drop>(
     program: P,
     transcript: &Transcript,
 ) -> Result<Report, PlayError> {
-    let mut player = Player::new(alloc, program);
+    let mut player = Player::new(alloc, program)?;
     let report = played(alloc, &mut player, transcript);
     drop(player);
     report

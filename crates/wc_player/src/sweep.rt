@@ -9,7 +9,7 @@ use crate::player::Player;
 use crate::program::Program;
 use std::alloc::AllocError;
 use std::mem;
-use wc_transcript::{Answer, Call, Deed, Device, Event, Left, Side, Step};
+use wc_transcript::{Answer, Call, Deed, Device, Event, Left, Side, Stage, Step};
 use wc_value::List;
 
 /// What a crash leaves of disk one and of disk two.
@@ -53,12 +53,51 @@ fn last_steps(block: &[Step]) -> usize {
     block.len()
 }
 
-/// The exit status of a command that meets an event.
-fn status_of(event: Event) -> u8 {
+/// The exit status of a command that meets an event. A task that fails is none.
+fn status_of(event: Event) -> Option<u8> {
     match event {
-        Event::Crash(_) | Event::Fault(Device::Disk(_)) => 5,
-        Event::Fault(Device::Shelf) => 7,
-        Event::Fault(Device::Sink) => 8,
+        Event::Crash(_) | Event::Fault(Device::Disk(_)) => Some(5),
+        Event::Fault(Device::Shelf) => Some(7),
+        Event::Fault(Device::Sink) => Some(8),
+        Event::Fault(Device::Transport(_)) => None,
+    }
+}
+
+/// The answers that are right where a call went on to its end.
+fn answers_of<'a>(call: &'a Call, called: &Called) -> &'a [Answer] {
+    if called.is_failed && !call.failed.is_empty() {
+        return call.failed.as_slice();
+    }
+    call.answers.as_slice()
+}
+
+/// Where commands are to be called again from.
+#[derive(Drop)]
+struct Onward<'a> {
+    /// The place of the first of them.
+    from: usize,
+    /// The answers of that one, where it was done in part.
+    answers: Option<&'a [Answer]>,
+}
+
+impl<'a> Onward<'a> {
+    /// All that is done is done whole.
+    fn at(from: usize) -> Onward<'a> {
+        Onward {
+            from,
+            answers: None,
+        }
+    }
+}
+
+/// The stages of the command at a place.
+fn stages_at(block: &[Step], at: usize) -> &[Stage] {
+    match block.get(at) {
+        Some(step) => match &step.deed {
+            Deed::Call(call) => call.stages.as_slice(),
+            _ => &[],
+        },
+        None => &[],
     }
 }
 
@@ -78,8 +117,12 @@ impl<P: Program + Drop> Player<P> {
         }
     }
 
-    /// The machine holds the same, and no call of it fails.
-    fn restart(&mut self) -> Result<(), AllocError> {
+    /// The machine holds the same, and no call of what the event came to fails.
+    fn restart(&mut self, event: Event) -> Result<(), AllocError> {
+        if let Event::Fault(Device::Transport(task)) = event {
+            let none = List::new(self.alloc());
+            self.machine.outside.fail(task, none);
+        }
         let machine = self.machine.copy()?;
         put(&mut self.machine, machine);
         Ok(())
@@ -104,7 +147,7 @@ impl<P: Program + Drop> Player<P> {
         called: &Called,
         calls: u64,
     ) -> Result<bool, AllocError> {
-        if called.status != status_of(event) {
+        if Some(called.status) != status_of(event) {
             return Ok(false);
         }
         if event == Event::Fault(Device::Sink) {
@@ -119,7 +162,7 @@ impl<P: Program + Drop> Player<P> {
         if self.has_met(event, call, &called, place.repetition)? {
             return Ok(true);
         }
-        self.judge(place, call, &called)?;
+        self.judge(place, answers_of(call, &called), &called)?;
         Ok(false)
     }
 
@@ -139,36 +182,73 @@ impl<P: Program + Drop> Player<P> {
         Ok(block.len())
     }
 
+    /// The stage of the command at a place that a question tells.
+    fn stage_told<'a>(
+        &self,
+        block: &'a [Step],
+        cut: usize,
+        called: &Called,
+        calls: u64,
+    ) -> Result<Option<&'a [Answer]>, AllocError> {
+        if called.status != 0 {
+            return Ok(None);
+        }
+        for stage in stages_at(block, cut) {
+            let text = stage.text.written(self.alloc(), calls)?;
+            if called.text.as_slice() == text.as_slice() {
+                return Ok(Some(stage.answers.as_slice()));
+            }
+        }
+        Ok(None)
+    }
+
     /// From which step on commands are to be called again, where the one at a place met an event: the last question before it is
-    /// asked, and its answer is the one from before that command or the one behind it.
-    fn place_now(&mut self, block: &[Step], cut: usize, calls: u64) -> Result<usize, PlayError> {
+    /// asked, and its answer is the one from before that command, the one behind it, or one of a stage of it.
+    fn place_now<'a>(
+        &mut self,
+        block: &'a [Step],
+        cut: usize,
+        calls: u64,
+    ) -> Result<Onward<'a>, PlayError> {
         let next = cut.saturating_add(1);
         let Some(step) = last_asked(block, cut).and_then(|at| block.get(at)) else {
-            return Ok(next);
+            return Ok(Onward::at(next));
         };
         let Deed::Ask(asked) = &step.deed else {
-            return Ok(next);
+            return Ok(Onward::at(next));
         };
         let called = self.call(asked, calls)?;
         if let Some(behind) = asked_at(block, next)
             && called.fits_one(self.alloc(), behind.answers.as_slice(), calls)?
         {
             self.count_check();
-            return Ok(next);
+            return Ok(Onward::at(next));
+        }
+        if let Some(answers) = self.stage_told(block, cut, &called, calls)? {
+            self.count_check();
+            return Ok(Onward {
+                from: cut,
+                answers: Some(answers),
+            });
         }
         self.judge(
             Place {
                 line: step.line,
                 repetition: calls,
             },
-            asked,
+            asked.answers.as_slice(),
             &called,
         )?;
-        Ok(cut)
+        Ok(Onward::at(cut))
     }
 
-    /// Calls each command behind which a question stands, and asks it.
-    fn call_changes(&mut self, steps: &[Step], calls: u64) -> Result<(), PlayError> {
+    /// Calls each command behind which a question stands, and asks it. The first has other answers where there are some.
+    fn call_changes(
+        &mut self,
+        steps: &[Step],
+        first: Option<&[Answer]>,
+        calls: u64,
+    ) -> Result<(), PlayError> {
         for (at, step) in steps.iter().enumerate() {
             let place = Place {
                 line: step.line,
@@ -176,9 +256,15 @@ impl<P: Program + Drop> Player<P> {
             };
             match &step.deed {
                 Deed::Ask(call) => self.expect(place, call)?,
-                Deed::Call(call) if asked_at(steps, at.saturating_add(1)).is_some() => self.expect(
-                    place, call,
-                )?,
+                Deed::Call(call) if asked_at(steps, at.saturating_add(1)).is_some() => {
+                    let usual = call.answers.as_slice();
+                    let answers = if at == 0 {
+                        first.unwrap_or(usual)
+                    } else {
+                        usual
+                    };
+                    self.expect_one(place, call, answers)?;
+                }
                 _ => {}
             }
         }
@@ -209,8 +295,9 @@ impl<P: Program + Drop> Player<P> {
         cut: usize,
         calls: u64,
     ) -> Result<(), PlayError> {
-        let from = self.place_now(block, cut, calls)?;
-        self.call_changes(block.get(from..).unwrap_or(&[]), calls)?;
+        let onward = self.place_now(block, cut, calls)?;
+        let steps = block.get(onward.from..).unwrap_or(&[]);
+        self.call_changes(steps, onward.answers, calls)?;
         self.call_all(last, calls)
     }
 
@@ -257,7 +344,7 @@ impl<P: Program + Drop> Player<P> {
             return self.crashes(block, last, cut, calls);
         }
         if cut >= block.len() {
-            self.restart()?;
+            self.restart(event)?;
         }
         self.go_on(block, last, cut, calls)
     }
@@ -271,9 +358,11 @@ impl<P: Program + Drop> Player<P> {
         calls: u64,
     ) -> Result<bool, PlayError> {
         let checks = self.checks;
+        let faults = self.machine.outside.faults();
         self.prepare(event, calls)?;
         let cut = self.course(event, block, calls)?;
-        let is_met = cut < block.len();
+        let has_failed = self.machine.outside.faults() != faults;
+        let is_met = cut < block.len() || (status_of(event).is_none() && has_failed);
         self.behind_event(event, block, last, cut, calls)?;
         if is_met {
             self.checks = checks;

@@ -46,6 +46,9 @@ impl<P: Program + Drop> Player<P> {
                 let failing = numbers_at(self.alloc(), numbers.as_slice(), number)?;
                 Ok(self.fail(*device, failing)?)
             }
+            Deed::Transport(rows) => self.set_table(place, rows.as_slice()),
+            Deed::Busy(directory, updates) => Ok(self.set_busy(place, *directory, *updates)?),
+            Deed::Clock(moments) => Ok(self.set_clock(place, moments.as_slice())?),
             Deed::Fuse(side, calls) => {
                 self.machine.disks.fuse(*side, calls.at(number));
                 Ok(())
@@ -63,6 +66,8 @@ impl<P: Program + Drop> Player<P> {
             Deed::Unchanged => Ok(self.unchanged(place)?),
             Deed::Holds(side, content) => Ok(self.holds(place, *side, content)?),
             Deed::Ends(side, content) => Ok(self.ends(place, *side, content)?),
+            Deed::Moment(wanted) => Ok(self.ask_moment(place, *wanted)?),
+            Deed::Asked(task, wanted) => Ok(self.ask_calls(place, *task, *wanted)?),
             Deed::Faults(wanted) => Ok(self.count_faults(place, wanted.at(place.repetition))?),
             _ => self.change(place, deed),
         }

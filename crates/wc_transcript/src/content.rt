@@ -1,7 +1,7 @@
 //! Bytes in which the number of a repetition may stand.
 
 use std::alloc::{AllocError, Global};
-use wc_value::{Bytes, List};
+use wc_value::{Bytes, Duplicate, List};
 
 /// Bytes, and the places in them where the number of a repetition stands.
 #[derive(Drop)]
@@ -56,6 +56,17 @@ impl Content {
         let mut out = List::new(alloc);
         put_written(alloc, &mut out, self, number)?;
         Ok(out)
+    }
+}
+
+impl Duplicate for Content {
+    fn copy(&self) -> Result<Content, AllocError> {
+        let mut marks = self.marks.emptied();
+        marks.extend(self.marks.as_slice())?;
+        Ok(Content {
+            bytes: self.bytes.copy()?,
+            marks,
+        })
     }
 }
 

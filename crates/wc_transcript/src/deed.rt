@@ -2,6 +2,8 @@
 
 use crate::content::Content;
 use crate::number::Number;
+use crate::row::Row;
+use wc_state::Task;
 use wc_value::{List, Text};
 
 /// One of the two disks.
@@ -17,6 +19,8 @@ pub enum Device {
     Shelf,
     Sink,
     Disk(Side),
+    /// The transport, at this task or at any.
+    Transport(Option<Task>),
 }
 
 /// Which bytes a crash leaves where nothing was synced.
@@ -45,6 +49,16 @@ pub struct Answer {
     pub text: Content,
 }
 
+/// What was done of a command that met an event: what the question before it is answered then, and what the command answers when it is
+/// called again.
+#[derive(Drop)]
+pub struct Stage {
+    /// What is written where it is asked.
+    pub text: Content,
+    /// The answers of the command, each of which is right.
+    pub answers: List<Answer>,
+}
+
 /// A call of the program: its words, and the answers that are right.
 #[derive(Drop)]
 pub struct Call {
@@ -52,6 +66,10 @@ pub struct Call {
     pub words: List<Content>,
     /// The answers, each of which is right.
     pub answers: List<Answer>,
+    /// In a sweep of failing tasks: the answers that are right where a task failed in the call.
+    pub failed: List<Answer>,
+    /// In a sweep: how far the command may have come.
+    pub stages: List<Stage>,
 }
 
 /// What is done or asked.
@@ -71,6 +89,16 @@ pub enum Deed {
     Fault(Device, List<Number>),
     /// Behind so many calls each call of a disk fails.
     Fuse(Side, Number),
+    /// The transport is a new one with these results, and the clock one that stands at 0.
+    Transport(List<Row>),
+    /// So many first updates of a directory answer that the program is running.
+    Busy(Number, Number),
+    /// The clock tells these moments one after another, and goes on from the last.
+    Clock(List<Number>),
+    /// The clock stands at this moment.
+    Moment(Number),
+    /// The transport was called so often since it was made, for this task or at all.
+    Asked(Option<Task>, Number),
     /// Both disks crash, which leaves this of the first and this of the second.
     Crash(Left, Left),
     /// What the disks hold now is what `Unchanged` asks for.

@@ -34,7 +34,13 @@ fn block_behind(block: Block, deed: &Deed) -> Result<Block, Mistake> {
         (Deed::End, _) => Ok(Block::None),
         (Deed::Ask(_) | Deed::Last, Block::Sweep) => Ok(Block::Sweep),
         (Deed::Ask(_) | Deed::Last, _) => Err(Mistake::Block),
-        (Deed::Call(_), block) => Ok(block),
+        (Deed::Call(call), block) => {
+            let is_swept = !call.failed.is_empty() || !call.stages.is_empty();
+            if is_swept && block != Block::Sweep {
+                return Err(Mistake::Block);
+            }
+            Ok(block)
+        }
         (_, Block::Sweep) => Err(Mistake::Block),
         (_, block) => Ok(block),
     }

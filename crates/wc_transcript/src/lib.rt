@@ -11,11 +11,14 @@ mod mistake;
 mod names;
 mod number;
 mod reader;
+mod row;
+mod rows;
 mod simple;
 mod steps;
 
 pub use content::Content;
-pub use deed::{Answer, Call, Deed, Device, Event, Left, Side, Step, Transcript};
+pub use deed::{Answer, Call, Deed, Device, Event, Left, Side, Stage, Step, Transcript};
 pub use mistake::{Mistake, ReadError};
 pub use number::Number;
 pub use reader::read_transcripts;
+pub use row::{Named, Row};

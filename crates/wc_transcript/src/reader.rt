@@ -5,6 +5,7 @@ use crate::deed::{Step, Transcript};
 use crate::draft::Draft;
 use crate::mistake::{Mistake, ReadError};
 use crate::number::read_plain;
+use crate::rows::read_rows;
 use crate::steps::{read_block, read_deed, read_items};
 use std::alloc::{AllocError, Global};
 use wc_value::List;
@@ -32,6 +33,19 @@ fn name_lines(
     let name = only_word(text).ok_or(Mistake::Word)?;
     let (content, taken) = read_block(alloc, below)?;
     draft.names.add(alloc, name, content)?;
+    Ok(taken)
+}
+
+/// Results get a name.
+fn name_rows(
+    alloc: Global,
+    draft: &mut Draft,
+    text: &str,
+    below: &[&str],
+) -> Result<usize, Mistake> {
+    let name = only_word(text).ok_or(Mistake::Word)?;
+    let (rows, taken) = read_rows(alloc, &draft.names, below)?;
+    draft.names.add_rows(alloc, name, rows)?;
     Ok(taken)
 }
 
@@ -73,6 +87,7 @@ fn take_line(
     match word {
         "bytes" => name_items(alloc, draft, behind, below),
         "text" => name_lines(alloc, draft, behind, below),
+        "results" => name_rows(alloc, draft, behind, below),
         "transcript" => {
             draft.begin(alloc, behind)?;
             Ok(0)

@@ -5,6 +5,7 @@ use crate::deed::{Deed, Device, Event, Left, Side};
 use crate::mistake::Mistake;
 use crate::number::{Number, read_number, read_plain};
 use std::alloc::{AllocError, Global};
+use wc_state::Task;
 use wc_value::List;
 
 /// The disk that a word names.
@@ -16,8 +17,23 @@ pub fn read_side(word: &str) -> Option<Side> {
     }
 }
 
+/// The task at which the transport is called, or any, that a word names.
+fn read_task(word: &str) -> Option<Option<Task>> {
+    match word {
+        "transport" => Some(None),
+        "upload" => Some(Some(Task::Upload)),
+        "submit" => Some(Some(Task::Submit)),
+        "update" => Some(Some(Task::Update)),
+        "retrieve" => Some(Some(Task::Retrieve)),
+        _ => None,
+    }
+}
+
 /// The device that a word names.
 fn read_device(word: &str) -> Option<Device> {
+    if let Some(task) = read_task(word) {
+        return Some(Device::Transport(task));
+    }
     match word {
         "shelf" => Some(Device::Shelf),
         "sink" => Some(Device::Sink),
@@ -49,6 +65,19 @@ fn read_alter(text: &str) -> Option<Deed> {
     let (place, byte) = two_words(behind)?;
     let place = read_number(place)?;
     Some(Deed::Alter(read_side(side)?, place, read_number(byte)?))
+}
+
+/// Updates of a directory answer that the program is running.
+fn read_busy(text: &str) -> Option<Deed> {
+    let (directory, updates) = two_words(text)?;
+    let directory = read_number(directory)?;
+    Some(Deed::Busy(directory, read_number(updates)?))
+}
+
+/// The transport is asked how often it was called.
+fn read_asked(text: &str) -> Option<Deed> {
+    let (task, calls) = two_words(text)?;
+    Some(Deed::Asked(read_task(task)?, read_number(calls)?))
 }
 
 /// Both disks crash.
@@ -87,6 +116,9 @@ fn read_worded(word: &str, text: &str) -> Option<Deed> {
             Some(Deed::Fuse(side, calls))
         }
         "crash" => read_crash(text),
+        "busy" => read_busy(text),
+        "asked" => read_asked(text),
+        "moment" => Some(Deed::Moment(read_number(only_word(text)?)?)),
         "faults" => Some(Deed::Faults(read_number(only_word(text)?)?)),
         "repeat" => read_repeat(text),
         "sweep" => read_sweep(text),
@@ -119,6 +151,14 @@ fn read_fault(alloc: Global, text: &str) -> Result<Deed, Mistake> {
     }
 }
 
+/// The clock tells moments.
+fn read_clock(alloc: Global, text: &str) -> Result<Deed, Mistake> {
+    match read_numbers(alloc, text)? {
+        Some(moments) => Ok(Deed::Clock(moments)),
+        None => Err(Mistake::Word),
+    }
+}
+
 /// What a line of one word says.
 fn read_lone(word: &str) -> Option<Deed> {
     match word {
@@ -134,7 +174,17 @@ fn read_lone(word: &str) -> Option<Deed> {
 fn is_worded(word: &str) -> bool {
     matches!(
         word,
-        "alter" | "cut" | "sip" | "fuse" | "crash" | "faults" | "repeat" | "sweep"
+        "alter"
+            | "cut"
+            | "sip"
+            | "fuse"
+            | "crash"
+            | "busy"
+            | "asked"
+            | "moment"
+            | "faults"
+            | "repeat"
+            | "sweep"
     )
 }
 
@@ -142,6 +192,9 @@ fn is_worded(word: &str) -> bool {
 pub fn read_simple(alloc: Global, word: &str, text: &str) -> Result<Deed, Mistake> {
     if word == "fault" {
         return read_fault(alloc, text);
+    }
+    if word == "clock" {
+        return read_clock(alloc, text);
     }
     if is_worded(word) {
         return read_worded(word, text).ok_or(Mistake::Word);

@@ -1,14 +1,14 @@
 //! Steps with content, which may stand in several lines.
 
 use crate::content::Content;
-use crate::cutting::cut_word;
-use crate::deed::{Answer, Call, Deed, Side};
+use crate::cutting::{cut_word, only_word};
+use crate::deed::{Answer, Call, Deed, Side, Stage};
 use crate::items::{put_items, put_word};
 use crate::mistake::Mistake;
 use crate::names::Names;
 use crate::simple::{read_side, read_simple};
 use std::alloc::Global;
-use wc_value::{List, Text};
+use wc_value::{Duplicate, List, Text};
 
 /// What was read, and how many lines below its own it takes.
 pub type Taken<T> = Result<(T, usize), Mistake>;
@@ -74,7 +74,7 @@ fn read_answer(alloc: Global, names: &Names, line: &str, below: &[&str]) -> Take
 }
 
 /// The words of a command.
-fn read_words(alloc: Global, line: &str) -> Result<List<Content>, Mistake> {
+pub fn read_words(alloc: Global, line: &str) -> Result<List<Content>, Mistake> {
     let mut words = List::new(alloc);
     let mut left = line;
     for _ in 0..line.len() {
@@ -89,24 +89,24 @@ fn read_words(alloc: Global, line: &str) -> Result<List<Content>, Mistake> {
     Ok(words)
 }
 
-/// What stands behind the sign of an answer: `=` before the first, and `|` before each other.
-fn behind_sign<'a>(line: &'a str, is_first: bool) -> Option<&'a str> {
+/// What stands behind the sign of an answer: this one before the first, and `|` before each other.
+fn behind_sign<'a>(line: &'a str, sign: &str, is_first: bool) -> Option<&'a str> {
     if is_first {
-        line.strip_prefix("= ")
+        line.strip_prefix(sign)
     } else {
         line.strip_prefix("| ")
     }
 }
 
-/// The answers below a command.
-fn read_answers(alloc: Global, names: &Names, below: &[&str]) -> Taken<List<Answer>> {
+/// The answers below, of which the first begins with this sign. There may be none.
+fn read_signed(alloc: Global, names: &Names, sign: &str, below: &[&str]) -> Taken<List<Answer>> {
     let mut answers = List::new(alloc);
     let mut taken: usize = 0;
     for (at, line) in below.iter().enumerate() {
         if at < taken {
             continue;
         }
-        let Some(text) = behind_sign(line, answers.is_empty()) else {
+        let Some(text) = behind_sign(line, sign, answers.is_empty()) else {
             break;
         };
         let lines = below.get(at.saturating_add(1)..).unwrap_or(&[]);
@@ -114,17 +114,69 @@ fn read_answers(alloc: Global, names: &Names, below: &[&str]) -> Taken<List<Answ
         answers.push(answer)?;
         taken = at.saturating_add(1).saturating_add(count);
     }
+    Ok((answers, taken))
+}
+
+/// The answers below a command.
+fn read_answers(alloc: Global, names: &Names, below: &[&str]) -> Taken<List<Answer>> {
+    let (answers, taken) = read_signed(alloc, names, "= ", below)?;
     if answers.is_empty() {
         return Err(Mistake::NoAnswer);
     }
     Ok((answers, taken))
 }
 
-/// A command and its answers.
-fn read_call(alloc: Global, names: &Names, line: &str, below: &[&str]) -> Taken<Call> {
+/// What the question before a command is answered where the command was done in part, and what the command answers then.
+fn read_stage(alloc: Global, names: &Names, line: &str, below: &[&str]) -> Taken<Stage> {
+    let (text, count) = read_content(alloc, names, line, below)?;
+    let behind = below.get(count..).unwrap_or(&[]);
+    let (answers, taken) = read_answers(alloc, names, behind)?;
+    Ok((Stage { text, answers }, count.saturating_add(taken)))
+}
+
+/// How far a command may have come.
+fn read_stages(alloc: Global, names: &Names, below: &[&str]) -> Taken<List<Stage>> {
+    let mut stages = List::new(alloc);
+    let mut taken: usize = 0;
+    for (at, line) in below.iter().enumerate() {
+        if at < taken {
+            continue;
+        }
+        let Some(text) = line.strip_prefix("part ") else {
+            break;
+        };
+        let lines = below.get(at.saturating_add(1)..).unwrap_or(&[]);
+        let (stage, count) = read_stage(alloc, names, text, lines)?;
+        stages.push(stage)?;
+        taken = at.saturating_add(1).saturating_add(count);
+    }
+    Ok((stages, taken))
+}
+
+/// A question and its answers.
+fn read_question(alloc: Global, names: &Names, line: &str, below: &[&str]) -> Taken<Call> {
     let words = read_words(alloc, line)?;
     let (answers, taken) = read_answers(alloc, names, below)?;
-    Ok((Call { words, answers }, taken))
+    let call = Call {
+        words,
+        answers,
+        failed: List::new(alloc),
+        stages: List::new(alloc),
+    };
+    Ok((call, taken))
+}
+
+/// A command and its answers, those where a task failed, and how far it may have come.
+fn read_call(alloc: Global, names: &Names, line: &str, below: &[&str]) -> Taken<Call> {
+    let (mut call, taken) = read_question(alloc, names, line, below)?;
+    let behind = below.get(taken..).unwrap_or(&[]);
+    let (failed, count) = read_signed(alloc, names, "! ", behind)?;
+    call.failed = failed;
+    let taken = taken.saturating_add(count);
+    let behind = below.get(taken..).unwrap_or(&[]);
+    let (stages, count) = read_stages(alloc, names, behind)?;
+    call.stages = stages;
+    Ok((call, taken.saturating_add(count)))
 }
 
 /// A file.
@@ -149,6 +201,16 @@ fn read_disk(alloc: Global, names: &Names, line: &str, below: &[&str]) -> Taken<
     Ok((Deed::Image(side, content), taken))
 }
 
+/// A new transport, with the results of a name if there is one.
+fn read_transport(alloc: Global, names: &Names, line: &str) -> Result<Deed, Mistake> {
+    if cut_word(line).is_none() {
+        return Ok(Deed::Transport(List::new(alloc)));
+    }
+    let name = only_word(line).ok_or(Mistake::TooManyWords)?;
+    let rows = names.find_rows(name).ok_or(Mistake::Unknown)?;
+    Ok(Deed::Transport(rows.copy()?))
+}
+
 /// A disk is asked whether it holds this.
 fn read_holds(alloc: Global, names: &Names, line: &str, below: &[&str]) -> Taken<Deed> {
     let ((side, content), taken) = read_image(alloc, names, line, below)?;
@@ -170,10 +232,11 @@ pub fn read_deed(alloc: Global, names: &Names, line: &str, below: &[&str]) -> Ta
             Ok((Deed::Call(call), taken))
         }
         "?" => {
-            let (call, taken) = read_call(alloc, names, behind, below)?;
+            let (call, taken) = read_question(alloc, names, behind, below)?;
             Ok((Deed::Ask(call), taken))
         }
         "file" => read_file(alloc, names, behind, below),
+        "transport" => Ok((read_transport(alloc, names, behind)?, 0)),
         "disk-one" | "disk-two" => read_disk(alloc, names, line, below),
         "holds" => read_holds(alloc, names, behind, below),
         "ends" => read_ends(alloc, names, behind, below),

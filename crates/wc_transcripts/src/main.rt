@@ -1,51 +1,15 @@
 //! Plays the transcripts of its input, and tells of each how many answers were asked for, and what was found.
 #![tactic(auto)]
 
-use std::alloc::{AllocError, Global};
+use std::alloc::Global;
 use std::io::{self, Read};
 use std::process::ExitCode;
 use wc_disk::MemoryDisk;
-use wc_engine::{Status, serve};
-use wc_io::{MemoryPacer, MemoryShelf};
-use wc_player::{Finding, Program, Report, Sipping, Verdict, play};
+use wc_engine::serve;
+use wc_io::MemoryShelf;
+use wc_player::{Clock, Finding, Outside, Program, Report, Sipping, Verdict, play};
 use wc_transcript::{Transcript, read_transcripts};
-use wc_transport::TableTransport;
-use wc_value::{Bytes, Files, JobResult, List, Request, Rows, Table, TableError, Text, Words};
-
-/// The results of the program `double`, each with its number and the content of its file, if it leaves one.
-const DOUBLES: [(&str, Option<&str>); 3] = [("2", Some("4\n")), ("3", Some("6\n")), ("9", None)];
-
-/// A row of the table: the program with this number, and what it leaves.
-fn row(
-    alloc: Global,
-    number: &str,
-    content: Option<&str>,
-) -> Result<(Request, JobResult), AllocError> {
-    let mut request = Request {
-        program: Text::of_str(alloc, "double")?,
-        args: Words::new(alloc),
-        files: Files::new(alloc),
-        fetch: Words::new(alloc),
-    };
-    request.args.push(Text::of_str(alloc, number)?)?;
-    request.fetch.push(Text::of_str(alloc, "out.txt")?)?;
-    let mut files = Files::new(alloc);
-    if let Some(content) = content {
-        let mut bytes = Bytes::new(alloc);
-        bytes.extend(content.as_bytes())?;
-        files.set(Text::of_str(alloc, "out.txt")?, bytes)?;
-    }
-    Ok((request, JobResult { code: 0, files }))
-}
-
-/// The table of the transport.
-fn doubles(alloc: Global) -> Result<Table, TableError> {
-    let mut rows = Rows::new(alloc);
-    for (number, content) in DOUBLES {
-        rows.push(row(alloc, number, content)?)?;
-    }
-    Table::new(alloc, rows)
-}
+use wc_value::Words;
 
 /// The program. Its clauses stay behind this call, so that what plays transcripts doesn't carry them.
 #[derive(Clone, Copy)]
@@ -60,23 +24,10 @@ impl Program for Served {
         sink: &mut Sipping,
         one: &mut MemoryDisk,
         two: &mut MemoryDisk,
+        transport: &mut Outside,
+        clock: &mut Clock,
     ) -> u8 {
-        let Ok(table) = doubles(alloc) else {
-            return Status::OutOfMemory.code();
-        };
-        let mut transport = TableTransport::new(alloc, table, List::new(alloc), List::new(alloc));
-        let mut pacer = MemoryPacer::new(0);
-        serve(
-            alloc,
-            words,
-            shelf,
-            sink,
-            one,
-            two,
-            &mut transport,
-            &mut pacer,
-        )
-        .code()
+        serve(alloc, words, shelf, sink, one, two, transport, clock).code()
     }
 }
 

@@ -105,7 +105,7 @@ impl Store {
         for at in 0..ctx.len() {
             if let Some((key, held)) = ctx.get(at) {
                 let key = key.copy()?;
-                items.push((key, self.item(alloc, held)?))?;
+                let _before = items.set(key, self.item(alloc, held)?)?;
             }
         }
         Ok(items)

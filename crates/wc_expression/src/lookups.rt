@@ -8,7 +8,7 @@ ghost use Rattle.wc_expression.specs.Environment.{input, is_given, plain, child,
 
 use crate::outcome::Outcome;
 use std::alloc::AllocError;
-use wc_state::{Child, Children, Env, Item};
+use wc_state::{Child, Children, Env, Item, Items};
 use wc_syntax::ChildPart;
 use wc_value::{Duplicate, ProcessState, Reason, Text, Value};
 
@@ -30,22 +30,18 @@ pub fn is_given(env: &Env, name: &Text) -> bool
 }
 
 /// What a key of the context holds.
-fn find_key<'a>(ctx: &'a [(Text, Item)], key: &[u8]) -> Option<&'a Item>
+#[tactic(auto, using(wc_state::proofs::Pairs::found_at_named))]
+fn find_key<'a>(ctx: &'a Items, key: &Text) -> Option<&'a Item>
     ensures { option_copied result ≡ lookup key.now ctx.entry.now }
 {
-    for (name, item) in ctx {
-        if name.bytes() == key {
-            return Some(item);
-        }
-    }
-    None
+    ctx.find(key)
 }
 
 /// A copy of the value that a key holds.
 pub fn read_plain(env: &Env, key: &Text) -> Result<Outcome<Value>, AllocError>
     ensures { IfOk result (λ o. o ≡ plain key.now env.now) }
 {
-    match find_key(env.ctx.as_slice(), key.bytes()) {
+    match find_key(&env.ctx, key) {
         Some(Item::Plain(value)) => Ok(Outcome::Gives(value.copy()?)),
         Some(_) => Ok(Outcome::Faults(Reason::WrongKind)),
         None => Ok(Outcome::Faults(Reason::MissingKey)),
@@ -56,7 +52,7 @@ pub fn read_plain(env: &Env, key: &Text) -> Result<Outcome<Value>, AllocError>
 pub fn find_child<'a>(env: &'a Env, key: &Text) -> Outcome<&'a Child>
     ensures { mapped (λ x. x.now) result ≡ child key.now env.entry.now }
 {
-    match find_key(env.ctx.as_slice(), key.bytes()) {
+    match find_key(&env.ctx, key) {
         Some(Item::One(child)) => Outcome::Gives(child),
         Some(_) => Outcome::Faults(Reason::WrongKind),
         None => Outcome::Faults(Reason::MissingKey),
@@ -67,7 +63,7 @@ pub fn find_child<'a>(env: &'a Env, key: &Text) -> Outcome<&'a Child>
 pub fn find_children<'a>(env: &'a Env, key: &Text) -> Outcome<&'a Children>
     ensures { mapped (λ x. x.now) result ≡ children key.now env.entry.now }
 {
-    match find_key(env.ctx.as_slice(), key.bytes()) {
+    match find_key(&env.ctx, key) {
         Some(Item::Many(children)) => Outcome::Gives(children),
         Some(_) => Outcome::Faults(Reason::WrongKind),
         None => Outcome::Faults(Reason::MissingKey),
@@ -78,7 +74,7 @@ pub fn find_children<'a>(env: &'a Env, key: &Text) -> Outcome<&'a Children>
 pub fn count_children(env: &Env, key: &Text) -> Outcome<i64>
     ensures { result ≡ count key.now env.now }
 {
-    match find_key(env.ctx.as_slice(), key.bytes()) {
+    match find_key(&env.ctx, key) {
         None => Outcome::Gives(0),
         Some(Item::One(_)) => Outcome::Gives(1),
         Some(Item::Many(children)) => Outcome::Gives(children.len() as i64),

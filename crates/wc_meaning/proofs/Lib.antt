@@ -7,3 +7,4 @@ pub mod Requests
 pub mod Alone
 pub mod Steps
 pub mod Ran
+mod Going

@@ -22,11 +22,11 @@ use Rattle.wc_semantics.specs.Meaning.{by_kill, meaning, around}
 use Rattle.wc_meaning.specs.Settings.{width, widest}
 
 -- a turn, with as many before it as its place says
-turns_at : (fuel i : ℕ) (x : Expr) (body : Act) (a : Around) (n : ℕ) (e : Progress) → i < fuel
+pub turns_at : (fuel i : ℕ) (x : Expr) (body : Act) (a : Around) (n : ℕ) (e : Progress) → i < fuel
     → turns (fuel - i) x body a n e ≡ test (holds x e.env) n e (spend n (λ m. body a m e >-> turns (fuel - (i + 1)) x body a)) (Goes n e)
 turns_at fuel i x body a n e h = let p : fuel - i ≡ suc (fuel - (i + 1)) = omega arith in ap (λ (k : ℕ). turns k x body a n e) p
 
-spent : (n : ℕ) (f : ℕ → Flow) → (n ≡ 0 → ⊥) → spend n f ≡ f (n - 1)
+pub spent : (n : ℕ) (f : ℕ → Flow) → (n ≡ 0 → ⊥) → spend n f ≡ f (n - 1)
 spent zero f h = absurd (h refl)
 spent (suc n) f h = let e : n ≡ suc n - 1 = omega arith in ap f e
 

@@ -104,13 +104,13 @@ fn eval_arguments(alloc: Global, args: &CallArgs, env: &Env) -> Result<Outcome<F
 }
 
 /// An environment in which a key of the context holds a plain value.
-fn with_plain(alloc: Global, env: Env, key: &Name, value: Value) -> Result<Env, AllocError>
+fn with_plain(env: Env, key: &Name, value: Value) -> Result<Env, AllocError>
     ensures { IfOk result (λ e. e ≡ with_key key.now.text (Item.Plain value) env) }
 {
     let Env { inputs, ctx } = env;
     Ok(Env {
         inputs,
-        ctx: set_key(alloc, ctx, key.text.copy()?, Item::Plain(value))?,
+        ctx: set_key(ctx, key.text.copy()?, Item::Plain(value))?,
     })
 }
 
@@ -168,7 +168,7 @@ pub fn run_statements(
     for stmt in stmts.as_slice() {
         match stmt {
             Stmt::Ctx(_, key, expr) => match eval(alloc, expr, &env)? {
-                Outcome::Gives(value) => env = with_plain(alloc, env, key, value)?,
+                Outcome::Gives(value) => env = with_plain(env, key, value)?,
                 Outcome::Faults(reason) => return Ok(Stepped::Stops(
                     ProcessState::Excepted(reason),
                     env,

@@ -38,7 +38,8 @@ fn join(alloc: Global, ctx: &Context, awaited: &Await) -> Result<Joining, AllocE
 fn put(ctx: &mut Context, joining: Joining) -> Result<(), AllocError>
     ensures { OnOk result (ctx.new ≡ with_set ctx.old joining.key (Many joining.pids)) }
 {
-    ctx.set(joining.key, CtxRef::Many(joining.pids))
+    let _before = ctx.set(joining.key, CtxRef::Many(joining.pids))?;
+    Ok(())
 }
 
 /// Binds a child while none stand apart. Those of its key stand apart then, if it joins them.
@@ -52,7 +53,7 @@ fn bind_alone(
     if awaited.append {
         return Ok(Some(join(alloc, ctx, awaited)?));
     }
-    ctx.set(awaited.key.copy()?, CtxRef::One(awaited.pid))?;
+    let _before = ctx.set(awaited.key.copy()?, CtxRef::One(awaited.pid))?;
     Ok(None)
 }
 

@@ -63,7 +63,7 @@ fn set_plain(alloc: Global, key: &Name, value: Value, noted: &mut Noted) -> Resu
         .ctx
         .set(key.text.copy()?, CtxRef::Plain(value.copy()?))?;
     let items = mem::replace(&mut noted.env.ctx, Items::new(alloc));
-    noted.env.ctx = set_key(alloc, items, key.text.copy()?, Item::Plain(value))?;
+    noted.env.ctx = set_key(items, key.text.copy()?, Item::Plain(value))?;
     Ok(())
 }
 

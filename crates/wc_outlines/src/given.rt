@@ -125,21 +125,24 @@ fn children(alloc: Global) -> Result<Children, AllocError> {
 /// Puts a plain number behind what other keys hold.
 fn put_plain(alloc: Global, items: &mut Items) -> Result<(), AllocError> {
     let key = Text::of_str(alloc, "i")?;
-    items.push((key, Item::Plain(Value::Int(3))))
+    let _before = items.set(key, Item::Plain(Value::Int(3)))?;
+    Ok(())
 }
 
 /// Puts a called process behind what other keys hold.
 fn put_one(alloc: Global, items: &mut Items) -> Result<(), AllocError> {
     let key = Text::of_str(alloc, "c")?;
     let child = child(alloc, 7, 0, 10)?;
-    items.push((key, Item::One(child)))
+    let _before = items.set(key, Item::One(child))?;
+    Ok(())
 }
 
 /// Puts two called processes behind what other keys hold.
 fn put_many(alloc: Global, items: &mut Items) -> Result<(), AllocError> {
     let key = Text::of_str(alloc, "cs")?;
     let children = children(alloc)?;
-    items.push((key, Item::Many(children)))
+    let _before = items.set(key, Item::Many(children))?;
+    Ok(())
 }
 
 /// 3, a called process, and a list of two.
@@ -168,7 +171,10 @@ fn pids(alloc: Global) -> Result<Ids, AllocError> {
 /// Sets what a key holds.
 fn set(alloc: Global, ctx: &mut Context, key: &str, held: CtxRef) -> Result<(), AllocError> {
     match Text::of_str(alloc, key) {
-        Ok(key) => ctx.set(key, held),
+        Ok(key) => {
+            let _before = ctx.set(key, held)?;
+            Ok(())
+        }
         Err(wrong) => Err(wrong),
     }
 }

@@ -79,13 +79,14 @@ fn put(
     output: Option<(&str, Value)>,
 ) -> Result<(), AllocError> {
     let child = child(alloc, state, output)?;
-    items.push((Text::of_str(alloc, key)?, Item::One(child)))
+    let _before = items.set(Text::of_str(alloc, key)?, Item::One(child))?;
+    Ok(())
 }
 
 fn context(alloc: Global) -> Result<Items, AllocError> {
     let mut items = Items::new(alloc);
-    items.push((Text::of_str(alloc, "p")?, Item::Plain(Value::Int(3))))?;
-    items.push((Text::of_str(alloc, "m")?, Item::Many(two(alloc)?)))?;
+    let _before = items.set(Text::of_str(alloc, "p")?, Item::Plain(Value::Int(3)))?;
+    let _before = items.set(Text::of_str(alloc, "m")?, Item::Many(two(alloc)?))?;
     let y = Some(("y", Value::Int(4)));
     put(alloc, &mut items, "o", ProcessState::Finished(0), y)?;
     put(alloc, &mut items, "x", ProcessState::Finished(7), None)?;
@@ -121,7 +122,7 @@ pub fn limits(alloc: Global) -> Result<Env, AllocError> {
     give(alloc, &mut inputs, "deeper", nested(alloc, 32)?)?;
     let mut ctx = Items::new(alloc);
     let over = Item::Plain(long(alloc, 4_194_300)?);
-    ctx.push((Text::of_str(alloc, "over")?, over))?;
+    let _before = ctx.set(Text::of_str(alloc, "over")?, over)?;
     let output = Some(("over", long(alloc, 4_194_300)?));
     put(alloc, &mut ctx, "c", ProcessState::Finished(0), output)?;
     Ok(Env { inputs, ctx })

@@ -13,4 +13,4 @@ pub mod Richer
 pub mod Uncut
 pub mod Rows
 pub mod Calls
-pub mod Places
+pub mod Keyed

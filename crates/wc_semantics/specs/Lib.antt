@@ -3,4 +3,3 @@ pub mod Statements
 pub mod Run
 pub mod Meaning
 pub mod Laws
-pub mod Places

@@ -25,11 +25,7 @@ impl Duplicate for Child {
 
 impl Duplicate for Item {
     fn copy(&self) -> Result<Item, AllocError> {
-        match self {
-            Item::Plain(value) => Ok(Item::Plain(value.copy()?)),
-            Item::One(child) => Ok(Item::One(child.copy()?)),
-            Item::Many(children) => Ok(Item::Many(children.copy()?)),
-        }
+        self.clone()
     }
 }
 

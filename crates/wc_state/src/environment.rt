@@ -1,6 +1,10 @@
 //! What an expression is evaluated in.
 
-use wc_value::{Keyed, List, ProcessState, Text, Value};
+ghost use Rattle.std.specs.Prelude.{◌≡◌};
+
+use crate::ordered::Ordered;
+use std::alloc::AllocError;
+use wc_value::{Duplicate, Keyed, List, ProcessState, Value};
 
 /// A value and the data node that holds it.
 #[derive(Drop)]
@@ -39,8 +43,28 @@ pub enum Item {
     Many(Children),
 }
 
+impl Clone for Item {
+    ghost is_clone = { λ s t. t ≡ s };
+
+    fn clone(&self) -> Result<Item, AllocError> {
+        match self {
+            Item::Plain(value) => Ok(Item::Plain(value.copy()?)),
+            Item::One(child) => Ok(Item::One(child.copy()?)),
+            Item::Many(children) => Ok(Item::Many(children.copy()?)),
+        }
+    }
+}
+
 /// What the keys of the context hold, in the order in which the keys were first set.
-pub type Items = List<(Text, Item)>;
+pub type Items = Ordered<Item>;
+
+impl Duplicate for Items {
+    fn copy(&self) -> Result<Items, AllocError> {
+        Ok(Ordered {
+            map: self.map.clone()?,
+        })
+    }
+}
 
 /// What an expression is evaluated in. In a function only `inputs` is filled.
 #[derive(Drop)]

@@ -37,3 +37,4 @@ pub mod OneAnswer
 mod LinkedValues
 mod LinkLabels
 mod TreeLaws
+mod Names

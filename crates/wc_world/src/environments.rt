@@ -60,7 +60,7 @@ fn items_of(alloc: Global, world: &World, ctx: &Context) -> Result<Option<Items>
         let Some(item) = item_of(alloc, world, held)? else {
             return Ok(None);
         };
-        items.push((key.copy()?, item))?;
+        let _before = items.set(key.copy()?, item)?;
     }
     Ok(Some(items))
 }

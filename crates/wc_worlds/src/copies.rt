@@ -37,9 +37,9 @@ fn children(alloc: Global) -> Result<Children, AllocError> {
 /// A key of each sort.
 fn items(alloc: Global) -> Result<Items, AllocError> {
     let mut items = Items::new(alloc);
-    items.push((Text::of_str(alloc, "p")?, Item::Plain(Value::Bool(true))))?;
-    items.push((Text::of_str(alloc, "o")?, Item::One(child(alloc, 8)?)))?;
-    items.push((Text::of_str(alloc, "m")?, Item::Many(children(alloc)?)))?;
+    let _before = items.set(Text::of_str(alloc, "p")?, Item::Plain(Value::Bool(true)))?;
+    let _before = items.set(Text::of_str(alloc, "o")?, Item::One(child(alloc, 8)?))?;
+    let _before = items.set(Text::of_str(alloc, "m")?, Item::Many(children(alloc)?))?;
     Ok(items)
 }
 

@@ -1,6 +1,7 @@
 //! The data nodes and the processes of a run.
 
 use crate::stopped::Stopped;
+use crate::walk::let_go;
 use std::alloc::{AllocError, Global};
 use wc_outline::{Argument, Call};
 use wc_state::{Child, Children, Context, CtxRef, Env, Ids, Item, Items, Named, NodeValue, Outs};
@@ -99,16 +100,27 @@ impl Store {
         }
     }
 
+    /// Sets what the keys of a context hold.
+    fn set_items(&self, alloc: Global, ctx: &Context, items: &mut Items) -> Result<(), Stopped> {
+        for at in 0..ctx.len() {
+            if let Some((key, held)) = ctx.get(at) {
+                let item = self.item(alloc, held)?;
+                let _before = items.set(key.copy()?, item)?;
+            }
+        }
+        Ok(())
+    }
+
     /// The keys of a context, with what they hold.
     fn items(&self, alloc: Global, ctx: &Context) -> Result<Items, Stopped> {
         let mut items = Items::new(alloc);
-        for at in 0..ctx.len() {
-            if let Some((key, held)) = ctx.get(at) {
-                let key = key.copy()?;
-                let _before = items.set(key, self.item(alloc, held)?)?;
+        match self.set_items(alloc, ctx, &mut items) {
+            Ok(()) => Ok(items),
+            Err(wrong) => {
+                let_go(items);
+                Err(wrong)
             }
         }
-        Ok(items)
     }
 
     /// The environment with these inputs and this context.

@@ -46,7 +46,7 @@ pub struct Walk<'a> {
 }
 
 /// Lets a value go. Its type isn't taken apart here, so that whoever calls this is cheaper to prove.
-fn let_go<T: Drop>(_value: T) {}
+pub fn let_go<T: Drop>(_value: T) {}
 
 /// Takes one of the fuel.
 fn spend(walk: &mut Walk<'_>) -> Result<(), Stopped> {

@@ -20,6 +20,7 @@ fn advance_chain(
 ) -> Result<Advanced, Wrong> {
     if !is_chain(library, chain) {
         let_go(checkpoint);
+        let_go(env);
         return Err(Wrong::Not("the library has its work chain"));
     }
     match advance(alloc, library, chain, depth, checkpoint, env) {

@@ -145,13 +145,22 @@ fn put_many(alloc: Global, items: &mut Items) -> Result<(), AllocError> {
     Ok(())
 }
 
+fn put_all(alloc: Global, items: &mut Items) -> Result<(), AllocError> {
+    put_plain(alloc, items)?;
+    put_one(alloc, items)?;
+    put_many(alloc, items)
+}
+
 /// 3, a called process, and a list of two.
 fn items(alloc: Global) -> Result<Items, AllocError> {
     let mut items = Items::new(alloc);
-    put_plain(alloc, &mut items)?;
-    put_one(alloc, &mut items)?;
-    put_many(alloc, &mut items)?;
-    Ok(items)
+    match put_all(alloc, &mut items) {
+        Ok(()) => Ok(items),
+        Err(wrong) => {
+            let_go(items);
+            Err(wrong)
+        }
+    }
 }
 
 /// Those inputs, and that context.

@@ -1,7 +1,7 @@
 //! Functions and jobs with their outcomes.
 
 use crate::made::{files, numbers, text};
-use crate::rows::{holds, same};
+use crate::rows::{holds, let_go, same};
 use std::alloc::{AllocError, Global};
 use std::test::Fail;
 use wc_calculation::{
@@ -10,6 +10,7 @@ use wc_calculation::{
 use wc_expression::Outcome;
 use wc_json::to_json;
 use wc_parser::parse;
+use wc_state::Env;
 use wc_syntax::{Definition, Function, Job, Library};
 use wc_value::{Fields, JobResult, Kind, ProcessState, Text, Value, decode, encode_request};
 
@@ -72,12 +73,19 @@ fn calculates(alloc: Global, x: &str, rules: &str, wanted: &str) -> Result<(), F
     same(rules, shown(alloc, parsed)?.as_str(), wanted)
 }
 
+/// An environment has the input `x`, of no node, and no key.
+fn has_one_input(env: &Env) -> Result<(), Fail> {
+    let input = env.inputs.find(b"x").ok_or("an input")?;
+    holds("of no node", input.node == 0)?;
+    holds("no context", env.ctx.len() == 0)
+}
+
 /// Inputs stand in the environment, and outputs have their kinds.
 fn has_ports(alloc: Global) -> Result<(), Fail> {
     let env = environment(alloc, &inputs(alloc, "cat")?)?;
-    let input = env.inputs.find(b"x").ok_or("an input")?;
-    holds("of no node", input.node == 0)?;
-    holds("no context", env.ctx.len() == 0)?;
+    let found = has_one_input(&env);
+    let_go(env);
+    found?;
     let library = function_file(alloc, "")?;
     let ports = function(&library)
         .ok_or("a function")?

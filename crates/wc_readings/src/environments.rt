@@ -1,6 +1,7 @@
 //! An environment with a key of each sort, and one with values past the limits.
 
 use crate::made::{files, nested, numbers, text};
+use crate::rows::let_go;
 use std::alloc::{AllocError, Global};
 use wc_state::{Child, Children, Env, Item, Items, Named, NodeValue};
 use wc_value::{ProcessState, Reason, Text, Value, Values};
@@ -79,20 +80,41 @@ fn put(
     output: Option<(&str, Value)>,
 ) -> Result<(), AllocError> {
     let child = child(alloc, state, output)?;
-    let _before = items.set(Text::of_str(alloc, key)?, Item::One(child))?;
+    set(alloc, items, key, Item::One(child))
+}
+
+/// Sets what a key holds.
+fn set(alloc: Global, items: &mut Items, key: &str, item: Item) -> Result<(), AllocError> {
+    let _before = items.set(Text::of_str(alloc, key)?, item)?;
     Ok(())
+}
+
+/// Sets the keys of the environment.
+fn set_keys(alloc: Global, items: &mut Items) -> Result<(), AllocError> {
+    set(alloc, items, "p", Item::Plain(Value::Int(3)))?;
+    set(alloc, items, "m", Item::Many(two(alloc)?))?;
+    let y = Some(("y", Value::Int(4)));
+    put(alloc, items, "o", ProcessState::Finished(0), y)?;
+    put(alloc, items, "x", ProcessState::Finished(7), None)?;
+    let excepted = ProcessState::Excepted(Reason::Overflow);
+    put(alloc, items, "e", excepted, None)
+}
+
+/// The context, if each key could be set.
+fn kept(items: Items, set: Result<(), AllocError>) -> Result<Items, AllocError> {
+    match set {
+        Ok(()) => Ok(items),
+        Err(wrong) => {
+            let_go(items);
+            Err(wrong)
+        }
+    }
 }
 
 fn context(alloc: Global) -> Result<Items, AllocError> {
     let mut items = Items::new(alloc);
-    let _before = items.set(Text::of_str(alloc, "p")?, Item::Plain(Value::Int(3)))?;
-    let _before = items.set(Text::of_str(alloc, "m")?, Item::Many(two(alloc)?))?;
-    let y = Some(("y", Value::Int(4)));
-    put(alloc, &mut items, "o", ProcessState::Finished(0), y)?;
-    put(alloc, &mut items, "x", ProcessState::Finished(7), None)?;
-    let excepted = ProcessState::Excepted(Reason::Overflow);
-    put(alloc, &mut items, "e", excepted, None)?;
-    Ok(items)
+    let set = set_keys(alloc, &mut items);
+    kept(items, set)
 }
 
 /// Inputs `n`, `l`, `d`, `dd`, `f` and `ff`, a plain key `p`, one child at `o`, `x` and `e`, and two at `m`.
@@ -115,15 +137,29 @@ fn long(alloc: Global, count: usize) -> Result<Value, AllocError> {
 /// Texts at the limit of bytes and above it, and lists at the limit of depth and above it: in the inputs `edge`,
 /// `over`, `deep` and `deeper`, and above it as the plain key `over` and the output `over` of the child `c`.
 pub fn limits(alloc: Global) -> Result<Env, AllocError> {
+    Ok(Env {
+        inputs: inputs_at_limits(alloc)?,
+        ctx: context_at_limits(alloc)?,
+    })
+}
+
+fn inputs_at_limits(alloc: Global) -> Result<Named, AllocError> {
     let mut inputs = Named::new(alloc);
     give(alloc, &mut inputs, "edge", long(alloc, 4_194_299)?)?;
     give(alloc, &mut inputs, "over", long(alloc, 4_194_300)?)?;
     give(alloc, &mut inputs, "deep", nested(alloc, 31)?)?;
     give(alloc, &mut inputs, "deeper", nested(alloc, 32)?)?;
-    let mut ctx = Items::new(alloc);
-    let over = Item::Plain(long(alloc, 4_194_300)?);
-    let _before = ctx.set(Text::of_str(alloc, "over")?, over)?;
+    Ok(inputs)
+}
+
+fn set_keys_at_limits(alloc: Global, items: &mut Items) -> Result<(), AllocError> {
+    set(alloc, items, "over", Item::Plain(long(alloc, 4_194_300)?))?;
     let output = Some(("over", long(alloc, 4_194_300)?));
-    put(alloc, &mut ctx, "c", ProcessState::Finished(0), output)?;
-    Ok(Env { inputs, ctx })
+    put(alloc, items, "c", ProcessState::Finished(0), output)
+}
+
+fn context_at_limits(alloc: Global) -> Result<Items, AllocError> {
+    let mut items = Items::new(alloc);
+    let set = set_keys_at_limits(alloc, &mut items);
+    kept(items, set)
 }

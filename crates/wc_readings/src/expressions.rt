@@ -1,7 +1,7 @@
 //! Expressions with their values or reasons.
 
 use crate::environments::{environment, limits};
-use crate::rows::same;
+use crate::rows::{let_go, same};
 use std::alloc::Global;
 use std::test::Fail;
 use wc_expression::{Outcome, eval, eval_condition};
@@ -316,15 +316,33 @@ fn judges(alloc: Global, env: &Env, rows: &[(&str, &str)]) -> Result<(), Fail> {
     Ok(())
 }
 
+/// All rows of the environment that most of them read.
+fn reads(alloc: Global, env: &Env) -> Result<(), Fail> {
+    evaluates(alloc, env, &NUMBERS)?;
+    evaluates(alloc, env, &TRUTHS)?;
+    evaluates(alloc, env, &TEXTS)?;
+    evaluates(alloc, env, &CONTAINERS)?;
+    evaluates(alloc, env, &READS)?;
+    evaluates(alloc, env, &REASONS)?;
+    judges(alloc, env, &CONDITIONS)
+}
+
+fn reads_environment(alloc: Global) -> Result<(), Fail> {
+    let env = environment(alloc)?;
+    let found = reads(alloc, &env);
+    let_go(env);
+    found
+}
+
+fn keeps_limits(alloc: Global) -> Result<(), Fail> {
+    let env = limits(alloc)?;
+    let found = evaluates(alloc, &env, &LIMITS);
+    let_go(env);
+    found
+}
+
 #[test]
 fn expressions_have_values(rt: HostRuntime) -> Result<(), Fail> {
-    let env = environment(rt.alloc())?;
-    evaluates(rt.alloc(), &env, &NUMBERS)?;
-    evaluates(rt.alloc(), &env, &TRUTHS)?;
-    evaluates(rt.alloc(), &env, &TEXTS)?;
-    evaluates(rt.alloc(), &env, &CONTAINERS)?;
-    evaluates(rt.alloc(), &env, &READS)?;
-    evaluates(rt.alloc(), &env, &REASONS)?;
-    judges(rt.alloc(), &env, &CONDITIONS)?;
-    evaluates(rt.alloc(), &limits(rt.alloc())?, &LIMITS)
+    reads_environment(rt.alloc())?;
+    keeps_limits(rt.alloc())
 }

@@ -2,6 +2,9 @@
 
 use std::test::Fail;
 
+/// Lets a value go. Its type isn't taken apart here, so that whoever calls this is cheaper to prove.
+pub fn let_go<T: Drop>(_value: T) {}
+
 /// Fails where a text isn't the one that is wanted.
 pub fn same(row: &str, found: &str, wanted: &str) -> Result<(), Fail> {
     if found == wanted {

@@ -37,11 +37,29 @@ fn children(alloc: Global) -> Result<Children, AllocError> {
 /// A key of each sort.
 fn items(alloc: Global) -> Result<Items, AllocError> {
     let mut items = Items::new(alloc);
-    let _before = items.set(Text::of_str(alloc, "p")?, Item::Plain(Value::Bool(true)))?;
-    let _before = items.set(Text::of_str(alloc, "o")?, Item::One(child(alloc, 8)?))?;
-    let _before = items.set(Text::of_str(alloc, "m")?, Item::Many(children(alloc)?))?;
-    Ok(items)
+    match set_keys(alloc, &mut items) {
+        Ok(()) => Ok(items),
+        Err(wrong) => {
+            let_go(items);
+            Err(wrong)
+        }
+    }
 }
+
+/// Sets what a key holds.
+fn set_key(alloc: Global, items: &mut Items, key: &str, item: Item) -> Result<(), AllocError> {
+    let _before = items.set(Text::of_str(alloc, key)?, item)?;
+    Ok(())
+}
+
+fn set_keys(alloc: Global, items: &mut Items) -> Result<(), AllocError> {
+    set_key(alloc, items, "p", Item::Plain(Value::Bool(true)))?;
+    set_key(alloc, items, "o", Item::One(child(alloc, 8)?))?;
+    set_key(alloc, items, "m", Item::Many(children(alloc)?))
+}
+
+/// Lets a value go. Its type isn't taken apart here, so that whoever calls this is cheaper to prove.
+fn let_go<T: Drop>(_value: T) {}
 
 /// Whether the value 4 of node 3 stands under the name `y`.
 fn is_named(named: &Named) -> bool {
@@ -94,12 +112,16 @@ fn environment(alloc: Global) -> Result<Option<usize>, Fail> {
         inputs: named(alloc)?,
         ctx: items(alloc)?,
     };
-    let copied = env.copy()?;
-    Ok(first_wrong(&[
+    let copied = env.copy();
+    let_go(env);
+    let copied = copied?;
+    let found = first_wrong(&[
         is_named(&copied.inputs),
         copied.ctx.len() == 3,
         other_item(&copied.ctx).is_none(),
-    ]))
+    ]);
+    let_go(copied);
+    Ok(found)
 }
 
 /// A context of two keys, of which the first was set twice.

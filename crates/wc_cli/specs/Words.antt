@@ -200,6 +200,7 @@ named_command word operands value =
     else if bytes_eq word (codes "list") then alone (View view.List) operands
     else if bytes_eq word (codes "graph") then alone (View view.Graph) operands
     else if bytes_eq word (codes "pack") then alone Pack operands
+    else if bytes_eq word (codes "verify") then alone (View view.Verify) operands
     else option_and_then (with_number word) (one_number operands)
 
 -- the command with this name and line, where it has the options of the line

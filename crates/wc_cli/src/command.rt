@@ -50,6 +50,8 @@ pub enum View {
     },
     /// `graph`: the nodes and the links.
     Graph,
+    /// `verify`: whether the links have a cycle, and whether results are what the definitions give.
+    Verify,
 }
 
 /// A command of the program.
@@ -362,6 +364,7 @@ fn named(alloc: Global, word: &str, matches: &ArgMatches) -> Result<Option<Comma
         "list" => Ok(alone(Command::View(View::List), operands)),
         "graph" => Ok(alone(Command::View(View::Graph), operands)),
         "pack" => Ok(alone(Command::Pack, operands)),
+        "verify" => Ok(alone(Command::View(View::Verify), operands)),
         _ => match numbered(operands) {
             Some(number) => Ok(numbered_command(word, number)),
             None => Ok(None),

@@ -167,7 +167,8 @@ fn whole<'a>(alloc: Global) -> Result<Command<'a>, AllocError>
     let line = up_to_play(alloc)?;
     let to_kill = with_plain(alloc, line, "kill")?;
     let to_pack = with_plain(alloc, to_kill, "pack")?;
-    Ok(to_pack)
+    let to_verify = with_plain(alloc, to_pack, "verify")?;
+    Ok(to_verify)
 }
 
 /// Whether memory ran out.

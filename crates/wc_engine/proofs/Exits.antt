@@ -6,6 +6,7 @@ use Rattle.wc_machine.specs.Laws.{EmptyIsSound}
 use Rattle.wc_machine.specs.Sound.{IsSound}
 use Rattle.wc_store.specs.Held.{IsHeld, nothing, a_world}
 use Rattle.wc_store.specs.Laws.{HeldIsOne}
+use Rattle.wc_engine.specs.declared.status.Fault.{Fault}
 use Rattle.wc_engine.specs.declared.status.Status.{Status}
 use Rattle.wc_engine.specs.declared.status.Status.TheVariants as status
 use Rattle.wc_engine.specs.Crashes.{EachPair, HoldsSound, HoldsTheSame, AreDurable, HoldsKeeping, Kept, BegunBy, MadeBy, LeavesMade, StaySound}
@@ -43,8 +44,8 @@ module _ {D : Type 0} (g : disk.Ghosts D) where
       → ((d : D) (t : ℕ) (image : List ℕ) → t ≤ g.moment d → g.may_leave d image → g.left_since d t image)
       → (told : Option (List ℕ → Option (List ℕ))) (words : List (List ℕ)) (one two one_new two_new : D) (result : Status) → EachPair g one two HoldsSound
       → g.may_leave one (g.seen one) → g.may_leave two (g.seen two) → LeavesMade g told words one two one_new two_new
-      → ((disk at : ℕ) (found : Option ℕ) → result ≡ status.Damaged disk at found → ⊥) → StaySound g one two one_new two_new result
-  stay_sound law sound at_now counts told words one two one_new two_new result entry reads reads_too made whole =
+      → ((disk at : ℕ) (found : Option ℕ) → result ≡ status.Damaged disk at found → ⊥) → ((f : Fault) → result ≡ status.Unsound f → ⊥) → StaySound g one two one_new two_new result
+  stay_sound law sound at_now counts told words one two one_new two_new result entry reads reads_too made whole faultless =
       let moments = weaker_moments g at_now counts one two one_new two_new (Kept g (BegunBy told words) (MadeBy told words) one two) HoldsSound
       (λ a b. kept_sound law sound (BegunBy told words) (MadeBy told words) one two a b entry reads reads_too) made in
-      record { moments = moments; exit = exit_moments g at_now counts one two one_new two_new HoldsSound moments; whole = whole }
+      record { moments = moments; exit = exit_moments g at_now counts one two one_new two_new HoldsSound moments; whole = whole; faultless = faultless }

@@ -27,3 +27,4 @@ pub mod Answered
 pub mod Exits
 pub mod Undamaged
 pub mod Acknowledging
+mod Verifying

@@ -122,3 +122,4 @@ done_owed owed (status.Damaged disk at found) h done = absurd done
 done_owed owed status.ReadFault h done = absurd done
 done_owed owed status.WriteFault h done = absurd done
 done_owed owed (status.Full what count limit) h done = subst IsDoneOrFull h tt
+done_owed owed (status.Unsound f) h done = absurd done

@@ -22,7 +22,7 @@ use Rattle.wc_engine.specs.Rows.{row, work_row, event_row, pack_row}
 use Rattle.wc_engine.specs.Stored.{is_damaged, is_full}
 use Rattle.wc_engine.proofs.Doing.{some_is}
 use Rattle.wc_engine.proofs.Turns.{run_replied}
-use Rattle.wc_engine.proofs.Viewing.{is_replied, view_shown}
+use Rattle.wc_engine.proofs.Viewing.{shown_replied, view_shown}
 
 -- ---- each has a status of a reply
 
@@ -42,7 +42,7 @@ alone_replied a w r (inr (inl refused)) = same_replied r _ refused.2 tt
 alone_replied a w r (inr (inr full)) = same_replied r _ full.4 tt
 
 work_replied : (w : Work) (r : Reply) → (work_row w).may r → IsReplied r.status
-work_replied (work.View v) r p = is_replied r.status (view_shown v p.0 r p.1)
+work_replied (work.View v) r p = shown_replied r.status (view_shown v p.0 r p.1)
 work_replied (work.Event a) r (w, inl p) = same_replied r _ p.2 tt
 work_replied (work.Event a) r (w, inr (inl t)) = alone_replied a w r t
 work_replied (work.Event a) r (w, inr (inr f)) = same_replied r _ f.4 tt

@@ -37,6 +37,7 @@ said_of_reply P never owed (status.Damaged disk at found) h memory reading disks
 said_of_reply P never owed status.ReadFault h memory reading disks p = absurd (reading refl)
 said_of_reply P never owed status.WriteFault h memory reading disks p = absurd (never p)
 said_of_reply P never owed (status.Full what count limit) h memory reading disks p = subst P h p
+said_of_reply P never owed (status.Unsound f) h memory reading disks p = subst P h p
 
 work_undone : (w : Work) (owed ended : Status) → OwesStatus owed ended → (ended ≡ status.OutOfMemory → ⊥) → (ended ≡ status.ReadFault → ⊥) → (ended ≡ status.DiskFault → ⊥)
     → (work_row w).undone ended → (work_row w).undone owed

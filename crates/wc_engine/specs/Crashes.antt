@@ -11,6 +11,7 @@ use Rattle.wc_store.specs.Stores.{InTwoParts, BeginsFrom}
 use Rattle.wc_cli.specs.Words.{command_of}
 use Rattle.wc_engine.specs.declared.deed.Deed.{Deed}
 use Rattle.wc_engine.specs.declared.deed.Plan.TheVariants as plan
+use Rattle.wc_engine.specs.declared.status.Fault.{Fault}
 use Rattle.wc_engine.specs.declared.status.Status.{Status}
 use Rattle.wc_engine.specs.declared.status.Status.TheVariants as status
 use Rattle.wc_engine.specs.Owed.{OfSome}
@@ -94,12 +95,13 @@ MadeBy told words w v = (v ≡ w) ⊎ OfSome told words (λ k. k.makes w v)
 abbrev pub LeavesMade : {D : Type 0} → disk.Ghosts D → Option (List ℕ → Option (List ℕ)) → List (List ℕ) → (one two one_new two_new : D) → Type 0
 LeavesMade g told words one two one_new two_new = AtAnyMoment g one two one_new two_new (Kept g (BegunBy told words) (MadeBy told words) one two)
 
--- What a call keeps where each pair at entry holds nothing or a sound world: so do the pairs at any moment and those at exit, and no disk
--- is told to be damaged.
+-- What a call keeps where each pair at entry holds nothing or a sound world: so do the pairs at any moment and those at exit, and neither is
+-- a disk told to be damaged nor a world to be unsound.
 pub record StaySound {D : Type 0} (g : disk.Ghosts D) (one two one_new two_new : D) (result : Status) : Type 0 where
   pub moments : AtAnyMoment g one two one_new two_new HoldsSound
   pub exit : EachPair g one_new two_new HoldsSound
   pub whole : (disk at : ℕ) (found : Option ℕ) → result ≡ status.Damaged disk at found → ⊥
+  pub faultless : (f : Fault) → result ≡ status.Unsound f → ⊥
 
 -- What stands after some deed that the words plan was done, of which this was written: nothing is pending, and each pair of images holds a
 -- world, the one that the disks read as, of which this is acknowledged.

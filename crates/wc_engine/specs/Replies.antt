@@ -19,6 +19,7 @@ code_of (status.Damaged disk at found) = 6
 code_of status.ReadFault = 7
 code_of status.WriteFault = 8
 code_of (status.Full what count most) = 9
+code_of (status.Unsound fault) = 10
 
 -- the command is refused, and its line says why
 abbrev pub refuses : Cause → Reply

@@ -36,6 +36,6 @@ pub use reading::{Read, read_content};
 pub use reply::Reply;
 pub use serving::serve;
 pub use settings::{names_on, read_settings_content};
-pub use status::{Cause, Status};
+pub use status::{Cause, Fault, Status};
 pub use submission::{Invocation, Prepared, Submission, prepare};
 pub use text::refusal_line;

@@ -47,6 +47,15 @@ pub enum Cause {
     Ended(u32, ProcessState),
 }
 
+/// What is wrong with a world.
+#[derive(Clone, Copy, Debug, PartialEq, Eq)]
+pub enum Fault {
+    /// Data provenance has a cycle; this is the least node that lies on one.
+    Cycle(u32),
+    /// The lowest calculation that isn't as its inputs give it.
+    Value(u32),
+}
+
 /// How a call of the program ended.
 #[derive(Debug, Drop)]
 pub enum Status {
@@ -70,6 +79,8 @@ pub enum Status {
     WriteFault,
     /// The store is full: of what, how much of it there would be, and the most that it may have.
     Full(What, u64, u64),
+    /// The store's world isn't sound.
+    Unsound(Fault),
 }
 
 impl Status {
@@ -88,6 +99,7 @@ impl Status {
             Status::ReadFault => 7,
             Status::WriteFault => 8,
             Status::Full(..) => 9,
+            Status::Unsound(_) => 10,
         }
     }
 }

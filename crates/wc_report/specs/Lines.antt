@@ -55,6 +55,26 @@ what_text what.Generations = codes "generations"
 abbrev pub full_text : What → ℕ → ℕ → List ℕ
 full_text thing count limit = concat (codes "full: " ∷ what_text thing ∷ codes " " ∷ decimal count ∷ codes " of " ∷ decimal limit ∷ codes "\n" ∷ [])
 
+-- ---- what is checked of a world
+
+-- whether results agree, or the least two processes whose results disagree
+abbrev pub agreement_text : Option (ℕ × ℕ) → List ℕ
+agreement_text None = codes "agrees"
+agreement_text (Some p) = codes "disagrees " ++ (decimal p.0 ++ (codes " " ++ decimal p.1))
+
+-- how many nodes and links there are, and whether results agree
+abbrev pub verified_text : ℕ → ℕ → Option (ℕ × ℕ) → List ℕ
+verified_text nodes links disagreement =
+    concat (codes "nodes " ∷ decimal nodes ∷ codes " links " ∷ decimal links ∷ codes "\ntable " ∷ agreement_text disagreement ∷ codes "\n" ∷ [])
+
+-- the least node that lies on a cycle of data provenance
+abbrev pub cycle_text : ℕ → List ℕ
+cycle_text node = concat (codes "unsound: cycle at " ∷ decimal node ∷ codes "\n" ∷ [])
+
+-- the lowest calculation that isn't as its inputs give it
+abbrev pub wrong_value_text : ℕ → List ℕ
+wrong_value_text pid = concat (codes "unsound: value at " ∷ decimal pid ∷ codes "\n" ∷ [])
+
 -- ---- how many processes
 
 abbrev pub is_live : ProcessRecord → Bool

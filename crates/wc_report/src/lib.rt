@@ -8,8 +8,9 @@ mod tree;
 mod value;
 
 pub use lines::{
-    committed_text, damaged_text, full_text, initialised_text, killed_text, live_count,
-    packed_text, paused_count, paused_text, playing_text, submitted_text,
+    committed_text, cycle_text, damaged_text, full_text, initialised_text, killed_text, live_count,
+    packed_text, paused_count, paused_text, playing_text, submitted_text, verified_text,
+    wrong_value_text,
 };
 pub use list::{list_text, process_kind_name};
 pub use names::{kind_name, reason_name, state_text};

@@ -1,7 +1,7 @@
 //! The lines that tell what was done to a store, or why nothing was.
 
 ghost use Rattle.std.specs.Prelude.{◌≡◌, IfOk, string_bytes};
-ghost use Rattle.wc_report.specs.Lines.{initialised_text, submitted_text, paused_text, playing_text, killed_text, committed_text, packed_text, found_text, damaged_text, what_text, full_text, is_live, is_paused, live_count, paused_count};
+ghost use Rattle.wc_report.specs.Lines.{initialised_text, submitted_text, paused_text, playing_text, killed_text, committed_text, packed_text, agreement_text, verified_text, cycle_text, wrong_value_text, found_text, damaged_text, what_text, full_text, is_live, is_paused, live_count, paused_count};
 
 use std::alloc::{AllocError, Global};
 use wc_state::{ProcessRecord, What};
@@ -98,6 +98,43 @@ pub fn full_text(alloc: Global, what: What, count: u64, limit: u64) -> Result<Te
 {
     let name = what_name(what);
     Text::of_string(format!(in alloc; "full: {name} {count} of {limit}\n")?)
+}
+
+/// Whether results agree, or the least two processes whose results disagree.
+fn agreement(alloc: Global, disagreement: Option<(u32, u32)>) -> Result<String, AllocError>
+    ensures { IfOk result (λ told. string_bytes told ≡ agreement_text disagreement) }
+{
+    match disagreement {
+        Some((one, other)) => format!(in alloc; "disagrees {one} {other}"),
+        None => String::from_str(alloc, "agrees"),
+    }
+}
+
+/// How many nodes and links there are, and whether results agree.
+pub fn verified_text(
+    alloc: Global,
+    nodes: usize,
+    links: usize,
+    disagreement: Option<(u32, u32)>,
+) -> Result<Text, AllocError>
+    ensures { IfOk result (λ text. text ≡ verified_text nodes links disagreement) }
+{
+    let told = agreement(alloc, disagreement)?;
+    Text::of_string(format!(in alloc; "nodes {nodes} links {links}\ntable {}\n", told.as_str())?)
+}
+
+/// The least node that lies on a cycle of data provenance.
+pub fn cycle_text(alloc: Global, node: u32) -> Result<Text, AllocError>
+    ensures { IfOk result (λ text. text ≡ cycle_text node) }
+{
+    Text::of_string(format!(in alloc; "unsound: cycle at {node}\n")?)
+}
+
+/// The lowest calculation that isn't as its inputs give it.
+pub fn wrong_value_text(alloc: Global, pid: u32) -> Result<Text, AllocError>
+    ensures { IfOk result (λ text. text ≡ wrong_value_text pid) }
+{
+    Text::of_string(format!(in alloc; "unsound: value at {pid}\n")?)
 }
 
 /// Whether a process hasn't ended.

@@ -51,6 +51,7 @@ fn shown_view(alloc: Global, view: &View) -> Result<String, Fail> {
         View::Tree { pid } => shown_number(alloc, "tree", *pid),
         View::Show { node } => shown_number(alloc, "show", *node),
         View::Graph => Ok(String::from_str(alloc, "graph")?),
+        View::Verify => Ok(String::from_str(alloc, "verify")?),
     }
 }
 
@@ -184,7 +185,7 @@ const REFUSED: [&str; 35] = [
 ];
 
 /// Lines with their commands of a store.
-const OF_A_STORE: [(&str, &str); 51] = [
+const OF_A_STORE: [(&str, &str); 54] = [
     ("init", "init"),
     ("init --", "init"),
     ("init f", "words"),
@@ -239,6 +240,9 @@ const OF_A_STORE: [(&str, &str); 51] = [
     ("play", "words"),
     ("kill 3", "kill 3"),
     ("kill 3 4", "words"),
+    ("verify", "verify"),
+    ("verify --", "verify"),
+    ("verify 1", "words"),
     ("pack", "pack"),
     ("pack --", "pack"),
     ("pack f", "words"),

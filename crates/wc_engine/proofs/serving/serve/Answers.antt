@@ -6,7 +6,7 @@ use Rattle.wc_engine.specs.declared.reply.Reply.{Reply}
 use Rattle.wc_engine.specs.declared.status.Status.TheVariants as status
 use Rattle.wc_engine.proofs.Acknowledging.{owed_ok, stands_done}
 use Rattle.wc_engine.proofs.Exits.{durable_same, stay_sound}
-use Rattle.wc_engine.proofs.Undamaged.{owed_tells, ends_whole}
+use Rattle.wc_engine.proofs.Undamaged.{owed_tells, ends_whole, ends_faultless}
 use Rattle.wc_engine.proofs.Once.{owed_once}
 use Rattle.wc_engine.proofs.Replied.{owed_replied, done_owed}
 use Rattle.wc_engine.proofs.Unwriting.{row_undone}
@@ -37,6 +37,7 @@ returns-in-Ok-clause-sound g c =
     (entry (g.D.Disk.seen c.args.one.now) (g.D.Disk.seen c.args.two.now) reads reads_too) told told_too owed.1 owed.2 in
     stay_sound g.D.Disk c.worlds_are_kept.ensures.one c.worlds_are_kept.ensures.empty g.met.D.Disk.only_now g.met.D.Disk.counts_now (g.R.Shelf.contents c.args.shelf.now) c.args.words.now c.args.one.now c.args.two.now c.answer.new.one c.answer.new.two
     c.finish.result entry reads reads_too (c.answer.ensures.made told told_too) (ends_whole c.in-Ok.reply.status c.finish.result c.finish.ensures.status whole)
+    (ends_faultless c.in-Ok.reply.status c.finish.result c.finish.ensures.status whole)
 
 pub returns-in-Ok-clause-acknowledged : goal.returns-in-Ok-clause-acknowledged
 returns-in-Ok-clause-acknowledged g c =
@@ -80,16 +81,16 @@ pub returns-in-Err-OutOfMemory-clause-sound : goal.returns-in-Err-OutOfMemory-cl
 returns-in-Err-OutOfMemory-clause-sound g c =
     λ told told_too entry.
     stay_sound g.D.Disk c.worlds_are_kept.ensures.one c.worlds_are_kept.ensures.empty g.met.D.Disk.only_now g.met.D.Disk.counts_now (g.R.Shelf.contents c.args.shelf.now) c.args.words.now c.args.one.now c.args.two.now c.answer.new.one c.answer.new.two
-    status.OutOfMemory entry (g.met.D.Disk.reads_as c.args.one.now told) (g.met.D.Disk.reads_as c.args.two.now told_too) (c.answer.ensures.made told told_too) (λ disk at found is. cc)
+    status.OutOfMemory entry (g.met.D.Disk.reads_as c.args.one.now told) (g.met.D.Disk.reads_as c.args.two.now told_too) (c.answer.ensures.made told told_too) (λ disk at found is. cc) (λ f is. cc)
 
 pub returns-in-Err-ReadFault-clause-sound : goal.returns-in-Err-ReadFault-clause-sound
 returns-in-Err-ReadFault-clause-sound g c =
     λ told told_too entry.
     stay_sound g.D.Disk c.worlds_are_kept.ensures.one c.worlds_are_kept.ensures.empty g.met.D.Disk.only_now g.met.D.Disk.counts_now (g.R.Shelf.contents c.args.shelf.now) c.args.words.now c.args.one.now c.args.two.now c.answer.new.one c.answer.new.two
-    status.ReadFault entry (g.met.D.Disk.reads_as c.args.one.now told) (g.met.D.Disk.reads_as c.args.two.now told_too) (c.answer.ensures.made told told_too) (λ disk at found is. cc)
+    status.ReadFault entry (g.met.D.Disk.reads_as c.args.one.now told) (g.met.D.Disk.reads_as c.args.two.now told_too) (c.answer.ensures.made told told_too) (λ disk at found is. cc) (λ f is. cc)
 
 pub returns-in-Err-DiskFault-clause-sound : goal.returns-in-Err-DiskFault-clause-sound
 returns-in-Err-DiskFault-clause-sound g c =
     λ told told_too entry.
     stay_sound g.D.Disk c.worlds_are_kept.ensures.one c.worlds_are_kept.ensures.empty g.met.D.Disk.only_now g.met.D.Disk.counts_now (g.R.Shelf.contents c.args.shelf.now) c.args.words.now c.args.one.now c.args.two.now c.answer.new.one c.answer.new.two
-    status.DiskFault entry (g.met.D.Disk.reads_as c.args.one.now told) (g.met.D.Disk.reads_as c.args.two.now told_too) (c.answer.ensures.made told told_too) (λ disk at found is. cc)
+    status.DiskFault entry (g.met.D.Disk.reads_as c.args.one.now told) (g.met.D.Disk.reads_as c.args.two.now told_too) (c.answer.ensures.made told told_too) (λ disk at found is. cc) (λ f is. cc)

@@ -1,0 +1,10 @@
+mod Cycles
+mod Leaping
+mod Named
+mod Noting
+mod Given
+mod Lasts
+mod Wrong
+mod Results
+mod Disagreeing
+pub mod Unique

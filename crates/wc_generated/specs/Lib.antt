@@ -1,0 +1,5 @@
+pub mod Library
+pub mod Squares
+pub mod Draws
+pub mod Texts
+pub mod Refusals

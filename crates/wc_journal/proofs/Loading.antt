@@ -1,15 +1,15 @@
 -- How an image is read, step by step.
-use Rattle.std.proofs.Common.{◌≡◌, inl, inr, ℕ, zero, suc, ◌+◌, ◌-◌, ◌<◌, ◌≤◌, Bool, true, false, List, [], ◌∷◌, ◌++◌, length, take, drop, get_or, Option, Some, None, Err, refl, sym, ◌∙◌, ap, arith, length-append, length-drop, add-zero}
-use Rattle.std.specs.Prelude.{◌==◌, ◌||◌, if◌then◌else◌}
+use Rattle.std.proofs.Common.{◌≡◌, inl, inr, ℕ, zero, suc, ◌+◌, ◌-◌, ◌<◌, ◌≤◌, Bool, true, false, List, [], ◌∷◌, ◌++◌, length, take, drop, get_or, Option, Some, None, Err, refl, sym, ◌∙◌, ap, subst, arith, length-append, length-drop, add-zero}
+use Rattle.std.specs.Prelude.{◌==◌, ◌||◌, if◌then◌else◌, slice_get}
 use Rattle.std.proofs.lemmas.Bool.Decides.{nat_tests}
-use Rattle.std.proofs.lemmas.List.{length-take, drop-drop, drop_more, drop_all}
+use Rattle.std.proofs.lemmas.List.{length-take, length-map, map-append, drop-drop, drop_more, drop_all}
 use Rattle.wc_journal.specs.declared.error.Found.{Found}
 use Rattle.wc_journal.specs.declared.error.Found.TheVariants.{Byte, End}
 use Rattle.wc_journal.specs.declared.error.JournalError.{JournalError}
 use Rattle.wc_journal.specs.declared.error.JournalError.TheVariants.{DiskFault, Damaged, Full, OutOfMemory}
 use Rattle.wc_journal.specs.Refusals.{RefusesBatches, RefusesImage}
 use Rattle.wc_journal.specs.Reading.{Placed, Outcome, Held, no_journal, damaged, header_misfit, stands_for_none, generation_in, version_in, held_by, after_header, journal_of, fits_header, misfit_from, size_of, stated, wrong_kind, and_then_batch, unless_wrong, batches_from, end_from, end_of}
-use Rattle.wc_journal.specs.Framing.{HasFrame, HasBatches}
+use Rattle.wc_journal.specs.Framing.{HasFrame, HasBatches, placed_in, AreWithin, HasFrames}
 use Rattle.wc_journal.proofs.Fronts.{and_then_all, either, reads_open, reads_shut}
 use Rattle.wc_journal.proofs.Holding.{parts_hold}
 use Rattle.wc_journal.proofs.Appending.{skip_over, all_then_none}
@@ -131,6 +131,46 @@ refuses_behind v g place image bs gate (Damaged at found) so_far is refused =
     refused_behind v g image bs gate (at, found) so_far (ap (λ (p : ℕ). batches_from v g p gate 0 (drop gate image)) (sym is) ∙ refused)
 refuses_behind v g place image bs gate (Full count limit) so_far is refused = refused
 refuses_behind v g place image bs gate OutOfMemory so_far is refused = refused
+
+-- ---- the places of the batches
+pub count_placed : (image : List ℕ) (frames : List (ℕ × ℕ)) → length frames ≡ length (placed_in image frames)
+count_placed image frames = sym (length-map frames (λ f. (f.0, take f.1 (drop f.0 image))))
+
+within_push : (image : List ℕ) (frames : List (ℕ × ℕ)) (f : ℕ × ℕ) → AreWithin image frames → f.0 + f.1 ≤ length image → AreWithin image (frames ++ f ∷ [])
+within_push image [] f all one = (one, tt)
+within_push image (e ∷ frames) f all one = (all.0, within_push image frames f all.1 one)
+
+module _ (image : List ℕ) (d : ℕ × ℕ) where
+  -- the image has all bytes of a payload among these
+  pub within_at : (frames : List (ℕ × ℕ)) (at : ℕ) → at < length frames → AreWithin image frames → (get_or frames at d).0 + (get_or frames at d).1 ≤ length image
+  within_at [] at lt all = absurd (omega arith)
+  within_at (e ∷ frames) zero lt all = all.0
+  within_at (e ∷ frames) (suc at) lt all = within_at frames at (omega arith) all.1
+
+  -- the payload at a place, with its offset
+  pub payload_placed : (frames : List (ℕ × ℕ)) (at : ℕ) → at < length frames
+      → slice_get (placed_in image frames) at ≡ Some ((get_or frames at d).0, take (get_or frames at d).1 (drop (get_or frames at d).0 image))
+  payload_placed [] at lt = absurd (omega arith)
+  payload_placed (e ∷ frames) zero lt = refl
+  payload_placed (e ∷ frames) (suc at) lt = payload_placed frames at (omega arith)
+
+-- the batches at these places, and those from the gate on, are all
+pub record AreUpTo (v g : ℕ) (image : List ℕ) (frames : List (ℕ × ℕ)) (gate : ℕ) : Type 0 where
+  pub so_far : IsUpTo v g image (placed_in image frames) gate
+  pub within : AreWithin image frames
+
+pub one_frame_more : (v g : ℕ) (image : List ℕ) (frames later : List (ℕ × ℕ)) (gate start n : ℕ) → AreUpTo v g image frames gate
+    → HasFrame v g (length frames) gate image (start, n) → later ≡ frames ++ (start, n) ∷ [] → AreUpTo v g image later (start + n)
+one_frame_more v g image frames later gate start n up_to frame pushed = record {
+  so_far = one_more v g image (placed_in image frames) (placed_in image later) gate start n (take n (drop start image)) up_to.so_far
+      (subst (λ (p : ℕ). HasFrame v g p gate image (start, n)) (count_placed image frames) frame) refl
+      (ap (placed_in image) pushed ∙ map-append (λ f. (f.0, take f.1 (drop f.0 image))) frames ((start, n) ∷ []));
+  within = subst (AreWithin image) (sym pushed) (within_push image frames (start, n) up_to.within (omega (arith, frame.within)));
+}
+
+pub frames_end_here : (v g : ℕ) (image : List ℕ) (frames : List (ℕ × ℕ)) (gate : ℕ) → AreUpTo v g image frames gate → gate < length image → (get_or image gate 0 == 1) ≡ false
+    → HasFrames v g image (frames, gate)
+frames_end_here v g image frames gate up_to within shut = record { batches = ends_here v g image (placed_in image frames) gate up_to.so_far within shut; within = up_to.within }
 
 -- ---- a whole image
 some_none : (e : ℕ × Found) → Some e ≡ None → ⊥

@@ -62,22 +62,23 @@ fn overrun(end: u64, more: u64, limit: u64) -> Option<u64>
     }
 }
 
-/// What an image holds.
-fn read_image(alloc: Global, image: &[u8]) -> Result<Option<Loaded>, JournalError>
-    ensures ok { IfOk result (Gives (journal_of image.now)) }
-    ensures refused { IfErr result (RefusesImage (journal_of image.now)) }
+/// What an image holds. The image is kept with its batches.
+fn read_image(alloc: Global, image: Vec<u8>) -> Result<Option<Loaded>, JournalError>
+    ensures ok { IfOk result (Gives (journal_of image.items)) }
+    ensures refused { IfErr result (RefusesImage (journal_of image.items)) }
 {
-    if image::is_none(image) {
+    let bytes = image.as_slice();
+    if image::is_none(bytes) {
         return Ok(None);
     }
-    if let Some((at, found)) = image::misfit(image) {
+    if let Some((at, found)) = image::misfit(bytes) {
         return Err(JournalError::Damaged(at, found));
     }
-    let generation = image::generation(image);
+    let generation = image::generation(bytes);
     if generation == 0 {
         return Err(JournalError::Damaged(15, Found::Byte(0)));
     }
-    let version = image[7];
+    let version = bytes[7];
     match image::batches(alloc, image, version, generation) {
         Err(error) => Err(error),
         Ok((batches, end)) => Ok(Some(Loaded {
@@ -130,7 +131,7 @@ impl Journal {
     {
         match read_synced(alloc, disk) {
             Err(error) => Err(error),
-            Ok(image) => read_image(alloc, &image),
+            Ok(image) => read_image(alloc, image),
         }
     }
 

@@ -2,12 +2,12 @@
 ghost use Rattle.std.specs.Prelude.{◌≡◌, ◌⊎◌, ◌+◌, ◌-◌, ◌<◌, ◌≤◌, ◌==◌, Bool, true, List, ℕ, length, take, drop, slice_index, IfOk, IfErr};
 ghost use Rattle.wc_journal.specs.Reading.{fits_header, header_misfit, generation_in, stands_for_none, kind_of, is_snapshot_place, size_of, stated, wrong_kind, batches_from, and_then_batch, end_of, journal_of};
 ghost use Rattle.wc_journal.specs.Refusals.{RefusesBatches, RefusesImage};
-ghost use Rattle.wc_journal.specs.Framing.{HasFrame, HasBatches};
+ghost use Rattle.wc_journal.specs.Framing.{HasFrame, HasFrames, HasBatches};
 
+use crate::batches::{Batches, Frames};
 use crate::error::{Found, JournalError};
-use crate::journal::Batches;
-use std::alloc::{AllocError, Global};
-use wc_value::{Bytes, List};
+use std::alloc::Global;
+use wc_value::List;
 
 /// How many bytes a header has.
 pub const HEADER: usize = 16;
@@ -133,39 +133,46 @@ fn frame_behind(
     Ok((gate + 1 + size, len as usize))
 }
 
-/// A copy of a payload.
-fn payload_at(alloc: Global, image: &[u8], start: usize, len: usize) -> Result<Bytes, AllocError>
-    requires { start + len ≤ length image.now }
-    ensures { IfOk result (λ payload. payload ≡ take len (drop start image.now)) }
-{
-    let mut payload: Bytes = List::new(alloc);
-    payload.extend(&image[start..start + len])?;
-    Ok(payload)
-}
-
-/// The batches up to the first gate that is not open, and the offset of that gate.
-pub fn batches(
+/// Where the payloads stand up to the first gate that is not open, and the offset of that gate.
+fn frames(
     alloc: Global,
     image: &[u8],
     version: u8,
     generation: u64,
-) -> Result<(Batches, usize), JournalError>
+) -> Result<(Frames, usize), JournalError>
     requires { 16 ≤ length image.now }
-    ensures ok { IfOk result (HasBatches version generation image.now) }
+    ensures ok { IfOk result (HasFrames version generation image.now) }
     ensures refused { IfErr result (RefusesBatches (batches_from version generation 0 16 0 (drop 16 image.now))) }
 {
-    let mut batches: Batches = List::new(alloc);
+    let mut frames: Frames = List::new(alloc);
     let mut gate = HEADER;
     while gate < image.len() {
         if image[gate] != OPEN {
-            return Ok((batches, gate));
+            return Ok((frames, gate));
         }
-        let (start, len) = match frame_behind(image, version, generation, batches.len(), gate) {
+        let (start, len) = match frame_behind(image, version, generation, frames.len(), gate) {
             Ok(frame) => frame,
             Err(error) => return Err(error),
         };
-        batches.push((start as u64, payload_at(alloc, image, start, len)?))?;
+        frames.push((start, len))?;
         gate = start + len;
     }
     Err(JournalError::Damaged(gate as u64, Found::End))
+}
+
+/// The batches up to the first gate that is not open, and the offset of that gate. The image is kept with them.
+pub fn batches(
+    alloc: Global,
+    image: Vec<u8>,
+    version: u8,
+    generation: u64,
+) -> Result<(Batches, usize), JournalError>
+    requires { 16 ≤ length image.items }
+    ensures ok { IfOk result (HasBatches version generation image.items) }
+    ensures refused { IfErr result (RefusesBatches (batches_from version generation 0 16 0 (drop 16 image.items))) }
+{
+    match frames(alloc, &image, version, generation) {
+        Err(error) => Err(error),
+        Ok((frames, end)) => Ok((Batches::of(image, frames), end)),
+    }
 }

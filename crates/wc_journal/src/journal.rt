@@ -2,10 +2,7 @@
 ghost use Rattle.std.specs.Prelude.{◌≡◌, ◌⊎◌, ◌≤◌, ◌-◌, ◌^◌, min};
 ghost use Rattle.wc_journal.specs.Refusals.{size_after};
 
-use wc_value::{Bytes, List};
-
-/// Payloads, each with the offset of its first byte.
-pub type Batches = List<(u64, Bytes)>;
+use crate::batches::Batches;
 
 /// What is known of a journal on a disk: its version, its generation, and the offset of its last gate.
 #[derive(Debug, Drop)]

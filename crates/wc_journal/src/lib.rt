@@ -2,6 +2,7 @@
 #![tactic(auto)]
 
 mod batch;
+mod batches;
 mod calls;
 mod error;
 mod image;
@@ -10,6 +11,7 @@ mod laws;
 mod steps;
 
 pub use batch::Batch;
+pub use batches::Batches;
 pub use error::{Found, JournalError};
-pub use journal::{Batches, Journal, Loaded};
+pub use journal::{Journal, Loaded};
 pub use laws::an_image_holds_what_it_spells;

@@ -1,15 +1,15 @@
 -- One batch after another is played.
 use Rattle.std.proofs.Common.{◌≡◌, inl, inr, ℕ, ◌+◌, ◌-◌, ◌^◌, ◌<◌, ◌≤◌, Bool, List, ◌∷◌, length, get_or, drop, refl, sym, ap, subst, ◌∙◌, arith}
 use Rattle.std.specs.Prelude.{min}
-use Rattle.std.proofs.lemmas.List.{drop_more}
+use Rattle.std.proofs.lemmas.List.{drop_more, drop_all}
 use Rattle.wc_journal.specs.Reading.{Placed, is_snapshot_place}
 use Rattle.wc_world.specs.World.{World, empty}
 use Rattle.wc_store.specs.declared.loading.Unplayed.{Unplayed}
 use Rattle.wc_store.specs.declared.loading.Unplayed.TheVariants.{Unread, Unfit, OutOfMemory}
 use Rattle.wc_store.specs.declared.loading.Stop.{Stop}
 use Rattle.wc_store.specs.Choosing.{found_at}
-use Rattle.wc_store.specs.Held.{Standing, damage, place_of, Plays}
-use Rattle.wc_store.specs.Played.{IsPlayed, RefusesPayload, stop_of, RefusesBatches}
+use Rattle.wc_store.specs.Held.{Standing, a_world, damage, place_of, Plays}
+use Rattle.wc_store.specs.Played.{IsPlayed, RefusesPayload, stop_of, Makes, RefusesBatches}
 use Rattle.wc_store.proofs.Stops.{stops_within}
 
 -- what the batches from a place on make of a world is what all of them make of the empty one
@@ -59,3 +59,8 @@ goes_on_as generation bs place w lt b is on snapshot made payload bytes after h 
       played.reads,
       inr (played.suit, played.accepted, subst (λ (v : World). Plays disk image generation (place + 1) v (drop (place + 1) bs) s) played.after plays),
     ))
+
+-- nothing is left to be played
+pub all_played : (generation : ℕ) (bs : Placed) (place : ℕ) (w : World) → length bs ≤ place → GoesOn generation bs place w → Makes generation bs w
+all_played generation bs place w past on =
+    λ disk image. on disk image (a_world w) (subst (λ (cs : Placed). Plays disk image generation place w cs (a_world w)) (sym (drop_all place bs past)) refl)

@@ -154,11 +154,12 @@ fn play_all(alloc: Global, generation: u64, batches: &Batches) -> Result<World, 
     ensures refused { IfErr result (RefusesBatches generation batches.now) }
 {
     let mut world = World::new(alloc);
-    for (number, batch) in batches.as_slice().iter().enumerate() {
+    for number in 0..batches.len() {
+        let (at, payload) = batches.payload(number);
         let snapshot = is_snapshot(generation, number);
-        match play_one(alloc, world, snapshot, batch.1.bytes()) {
+        match play_one(alloc, world, snapshot, payload) {
             Ok(after) => world = after,
-            Err(unplayed) => return Err(stop_of(batch.0, unplayed)),
+            Err(unplayed) => return Err(stop_of(at, unplayed)),
         }
     }
     Ok(world)

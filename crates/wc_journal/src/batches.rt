@@ -1,0 +1,70 @@
+//! The payloads of a journal, which stay in the image that they were read from.
+ghost use Rattle.std.specs.Prelude.{◌≡◌, ◌+◌, ◌^◌, ◌==◌, ◌<◌, ◌≤◌, Some, length, take, drop, slice_get};
+ghost use Rattle.wc_journal.specs.Framing.{placed_in, AreWithin};
+
+use std::marker::Model;
+use wc_value::List;
+
+/// Where payloads begin in an image, and how long each is.
+pub type Frames = List<(usize, usize)>;
+
+/// Payloads, each with the offset of its first byte. Contracts see the list of them; the bytes stay in the image.
+#[derive(Drop)]
+pub struct Batches {
+    image: Vec<u8>,
+    frames: Frames,
+}
+
+impl Model for Batches {
+    ghost use Rattle.std.specs.Prelude.{ℕ, List};
+
+    ghost Value = { List (ℕ × List ℕ) };
+
+    ghost use Rattle.wc_journal.specs.Framing.{placed_in, AreWithin};
+
+    ghost view = { λ a. placed_in a.image.items a.frames };
+
+    ghost invariant = { λ a. AreWithin a.image.items a.frames };
+}
+
+impl Batches {
+    /// The payloads that an image has there. The image is kept, and not copied.
+    pub fn of(image: Vec<u8>, frames: Frames) -> Batches
+        requires { AreWithin image.items frames }
+        ensures { result ≡ placed_in image.items frames }
+    {
+        Batches { image, frames }
+    }
+
+    /// The number of payloads.
+    pub fn len(&self) -> usize
+        ensures value { result ≡ length self.now }
+        ensures bound { result < 2 ^ 32 }
+    {
+        self.frames.len()
+    }
+
+    /// Whether there is no payload.
+    pub fn is_empty(&self) -> bool
+        ensures { result ≡ (length self.now == 0) }
+    {
+        self.frames.is_empty()
+    }
+
+    /// The offset of the payload at a place, counted from 0, and the payload, lent out of the image. It takes no memory.
+    pub fn payload(&self, at: usize) -> (u64, &[u8])
+        requires { at < length self.now }
+        ensures { slice_get self.now at ≡ Some (result.0, result.1.now) }
+    {
+        let (start, len) = self.frames.as_slice()[at];
+        (start as u64, part(&self.image, start, len))
+    }
+}
+
+/// So many bytes of an image, from an offset on.
+fn part(image: &[u8], start: usize, len: usize) -> &[u8]
+    requires { start + len ≤ length image.now }
+    ensures { result.now ≡ take len (drop start image.now) }
+{
+    &image[start..start + len]
+}

@@ -12,7 +12,7 @@ use Rattle.wc_graph.specs.declared.link.LinkType.{LinkType}
 use Rattle.wc_graph.specs.declared.link.LinkType.TheVariants as link
 use Rattle.wc_state.specs.declared.record.Part.TheVariants as part
 use Rattle.wc_state.specs.declared.record.ProcessRecord.{ProcessRecord}
-use Rattle.wc_world.specs.declared.change.SetProcess.{SetProcess}
+use Rattle.wc_records.specs.declared.change.SetProcess.{SetProcess}
 use Rattle.wc_world.specs.World.{World}
 use Rattle.wc_world.specs.Accepted.{Apply, IsAccepted, Setting, setting}
 use Rattle.wc_world.specs.Applied.{after_change, begun, changed, set}

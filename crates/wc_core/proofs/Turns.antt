@@ -1,5 +1,5 @@
 -- The turn of a ready process.
-use Rattle.std.proofs.Common.{◌≡◌, ℕ, ◌≤◌, true, false, List, [], length, Some, refl, sym, ap, subst, ◌∙◌}
+use Rattle.std.proofs.Common.{◌≡◌, ℕ, ◌≤◌, Bool, true, false, List, [], length, Some, refl, sym, ap, subst, ◌∙◌}
 use Rattle.std.specs.Prelude.{◌≢◌, IfSome}
 use Rattle.wc_syntax.specs.declared.definition.Chain.{Chain}
 use Rattle.wc_syntax.specs.declared.definition.Definition.{Definition}
@@ -35,7 +35,7 @@ use Rattle.wc_refusal.specs.declared.error.TurnError.{TurnError}
 use Rattle.wc_refusal.specs.declared.error.TurnError.TheVariants as error
 use Rattle.wc_refusal.proofs.Rooms.{none_full}
 use Rattle.wc_core.specs.Asks.{FitsAt}
-use Rattle.wc_core.specs.Ready.{is_ready_by}
+use Rattle.wc_core.specs.Ready.{is_ready_at, is_ready_by}
 use Rattle.wc_core.specs.Refusals.{RefusesTurn}
 use Rattle.wc_core.proofs.Happening.{after_some, its_changes, leaves_sound, places_for}
 
@@ -79,6 +79,10 @@ turn_leads poll now pid w r a cs found ready gives =
 -- the record under its own number
 pub found_itself : (w : World) (pid : ℕ) (r : ProcessRecord) → find_record pid w.records ≡ Some r → find_record r.node w.records ≡ Some r
 found_itself w pid r found = ap (λ (n : ℕ). find_record n w.records) (number_of_found pid w.records r found) ∙ found
+
+-- the process that is found is ready
+pub ready_itself : (w : World) (now pid : ℕ) (r : ProcessRecord) → find_record pid w.records ≡ Some r → (b : Bool) → b ≡ is_ready_at w pid now → b ≡ true → is_ready w now r ≡ true
+ready_itself w now pid r found b is holds = ap (is_ready_by w now) (sym found) ∙ sym is ∙ holds
 
 -- what the answer fits is there
 pub fits_there : (w : World) (pid : ℕ) (r : ProcessRecord) (a : TaskAnswer) → FitsAt w pid a → find_record pid w.records ≡ Some r → fits (need w r) a ≡ true

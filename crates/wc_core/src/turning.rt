@@ -16,7 +16,7 @@ ghost use Rattle.wc_refusal.specs.Refusals.{FullOf, HasRoom, NoneHolds};
 ghost use Rattle.wc_core.specs.Asks.{FitsAt};
 ghost use Rattle.wc_core.specs.Refusals.{RefusesTurn};
 
-use crate::readiness::goes_on;
+use crate::readiness::is_ready;
 use std::alloc::Global;
 use wc_calculation_turns::calculation_turn;
 use wc_chain_turns::chain_turn;
@@ -90,7 +90,7 @@ pub fn turn(
     let Some(process) = world.record_of(pid) else {
         return Err(TurnError::NotReady);
     };
-    if !goes_on(world, process, now) {
+    if !is_ready(world, pid, now) {
         return Err(TurnError::NotReady);
     }
     outputs_ascend(&process.part);

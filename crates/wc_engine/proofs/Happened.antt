@@ -6,7 +6,7 @@ use Rattle.wc_state.specs.declared.record.Part.{Part}
 use Rattle.wc_state.specs.declared.record.ProcessRecord.{ProcessRecord}
 use Rattle.wc_world.specs.declared.change.Change.{Change}
 use Rattle.wc_world.specs.declared.change.Change.TheVariants as change
-use Rattle.wc_world.specs.declared.change.SetProcess.{SetProcess}
+use Rattle.wc_records.specs.declared.change.SetProcess.{SetProcess}
 use Rattle.wc_world.specs.World.{World}
 use Rattle.wc_world.specs.Accepted.{IsReached}
 use Rattle.wc_world.specs.Applied.{applied, set}

@@ -4,7 +4,7 @@ use Rattle.wc_value.specs.declared.process.ProcessState.{ProcessState}
 use Rattle.wc_value.specs.declared.process.ProcessState.TheVariants as state
 use Rattle.wc_state.specs.declared.record.Part.{Part}
 use Rattle.wc_state.specs.declared.record.ProcessRecord.{ProcessRecord}
-use Rattle.wc_world.specs.declared.change.SetProcess.{SetProcess}
+use Rattle.wc_records.specs.declared.change.SetProcess.{SetProcess}
 use Rattle.wc_world.specs.World.{World}
 use Rattle.wc_world.specs.Applied.{set, started_in}
 use Rattle.wc_world.specs.Fits.{part_fits, fails_fit, standing_fits, is_settled}

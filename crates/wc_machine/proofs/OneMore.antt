@@ -17,7 +17,7 @@ use Rattle.wc_state.specs.declared.record.ProcessKind.{ProcessKind}
 use Rattle.wc_state.specs.declared.record.ProcessRecord.{ProcessRecord}
 use Rattle.wc_world.specs.Applied.{made}
 use Rattle.wc_world.specs.World.{World, Known}
-use Rattle.wc_world.specs.declared.change.NewProcess.{NewProcess}
+use Rattle.wc_records.specs.declared.change.NewProcess.{NewProcess}
 use Rattle.wc_world.specs.Consistent.{IsConsistent, Stands}
 use Rattle.wc_world.specs.Fits.{is_of_kind}
 use Rattle.wc_world.specs.Records.{find_record, library_at, definition_in, is_call_from}

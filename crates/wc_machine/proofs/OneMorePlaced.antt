@@ -20,7 +20,7 @@ use Rattle.wc_world.specs.Applied.{made}
 use Rattle.wc_world.specs.Consistent.{IsConsistent, Stands}
 use Rattle.wc_world.specs.Records.{find_record, has_ended, has_called, calls, is_call_from, is_input_of, is_output_of}
 use Rattle.wc_world.specs.World.{World}
-use Rattle.wc_world.specs.declared.change.NewProcess.{NewProcess}
+use Rattle.wc_records.specs.declared.change.NewProcess.{NewProcess}
 use Rattle.wc_world.proofs.ReachedLists.{called_grown}
 use Rattle.wc_machine.specs.Recorded.{its_definition}
 use Rattle.wc_machine.specs.Resting.{is_awaited, bound_calls}

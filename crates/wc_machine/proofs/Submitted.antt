@@ -13,7 +13,7 @@ use Rattle.wc_calculation.specs.Rules.{Values}
 use Rattle.wc_state.specs.declared.record.ProcessRecord.{ProcessRecord}
 use Rattle.wc_world.specs.declared.change.Change.{Change}
 use Rattle.wc_world.specs.declared.change.Change.TheVariants as change
-use Rattle.wc_world.specs.declared.change.NewProcess.{NewProcess}
+use Rattle.wc_records.specs.declared.change.NewProcess.{NewProcess}
 use Rattle.wc_world.specs.World.{World, Known}
 use Rattle.wc_world.specs.Records.{kind_of_definition, process_node, definition_in}
 use Rattle.wc_world.specs.Applied.{made, next_number, after_change, changed, applied}

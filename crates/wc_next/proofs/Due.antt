@@ -1,120 +1,120 @@
--- Due moments, and when none is there.
-use Rattle.std.proofs.Common.{◌≡◌, ℕ, ◌+◌, ◌<◌, ◌≤◌, Bool, true, false, List, Option, Some, None, inl, inr, get_or, length, take, refl, sym, ap, subst, ◌∙◌, arith}
-use Rattle.std.specs.Prelude.{not, ◌&&◌, ◌||◌, if◌then◌else◌, min, All, IfSome}
-use Rattle.std.proofs.Math.Nat.{min-eq_left, min-eq_right, min-le_left, min-le_right}
-use Rattle.std.proofs.lemmas.Bool.{cases_lt, leb-false}
-use Rattle.std.proofs.lemmas.List.Elements.{All-more, All-weaker}
+-- Where none is ready, the first due moment is the least, and there is one where some process will be ready.
+use Rattle.std.proofs.Common.{◌≡◌, ℕ, ◌+◌, ◌<◌, ◌≤◌, Bool, true, false, List, [], ◌∷◌, Option, Some, None, get_or, length, refl, sym, ap, subst, ◌∙◌, arith}
+use Rattle.std.specs.Prelude.{not, ◌&&◌, ◌||◌, if◌then◌else◌, nat_le, nat_lt, All, IfSome}
+use Rattle.std.proofs.lemmas.Bool.{leb-false, lt-ltb, or_parts}
 use Rattle.wc_value.specs.declared.process.ProcessState.{ProcessState}
 use Rattle.wc_value.specs.declared.process.ProcessState.TheVariants as state
 use Rattle.wc_state.specs.declared.record.Part.{Part}
 use Rattle.wc_state.specs.declared.record.Part.TheVariants as part
 use Rattle.wc_state.specs.declared.record.ProcessRecord.{ProcessRecord}
+use Rattle.wc_records.specs.Readiness as records
+use Rattle.wc_records.specs.Readiness.{AreDues, waits_later}
+use Rattle.wc_records.proofs.Moments.{ready_by_parts, is_due}
+use Rattle.wc_records.proofs.Waiting.{Waits, first_is_least, first_waits, never_ready, nobody_waits}
 use Rattle.wc_world.specs.World.{World}
-use Rattle.wc_world.specs.Consistent.{IsConsistent, Stands}
-use Rattle.wc_world.specs.Fits.{part_fits}
+use Rattle.wc_world.specs.Consistent.{IsConsistent}
 use Rattle.wc_world.specs.Records.{find_record, has_ended}
 use Rattle.wc_world.proofs.FoundRecords.{found_holds}
+use Rattle.wc_world.proofs.ReachedLists.{unique}
+use Rattle.wc_world.proofs.SnapshotLists.{number_of_found}
 use Rattle.wc_machine.specs.Readiness.{may_go, is_ready}
-use Rattle.wc_next.specs.Next.{HasDue, IsLeastDue, IsNotAfter, due_in, due_of, sooner}
+use Rattle.wc_next.specs.Next.{HasDue, IsLeastDue, IsNotAfter, due_in, due_of, first_moment}
 use Rattle.wc_next.specs.Standing.{HasFree, moment_in}
 
--- ---- the least of some
-
--- what is known of the least due moment of the records up to a place
-abbrev pub IsLeastOf : World → List ProcessRecord → Option ℕ → Type 0
-IsLeastOf w rs None = All (λ r. due_of r ≡ None) rs
-IsLeastOf w rs (Some due) = HasDue w due × All (IsNotAfter due) rs
-
-not_after : (due : ℕ) (r : ProcessRecord) → due_of r ≡ None → IsNotAfter due r
-not_after due r none = subst (λ (o : Option ℕ). IfSome o (λ d. due ≤ d)) (sym none) tt
-
-earlier : (m n : ℕ) → n ≤ m → (r : ProcessRecord) → IsNotAfter m r → IsNotAfter n r
-earlier m n le r h = at (due_of r) h
+-- a process that waits for a later moment has it as its due moment
+due_is : (r : ProcessRecord) → waits_later r ≡ true → due_of r ≡ Some (records.due_of r.part)
+due_is r h = by r.paused r.state r.part h
   where
-    at : (o : Option ℕ) → IfSome o (λ d. m ≤ d) → IfSome o (λ d. n ≤ d)
-    at None k = tt
-    at (Some d) k = omega (arith, k, le)
+    by : (paused : Bool) (s : ProcessState) (p : Part) → not paused && (records.is_waiting s && nat_lt 0 (records.due_of p)) ≡ true
+        → (if paused || has_ended s then None else due_in p) ≡ Some (records.due_of p)
+    by true s p h = absurd (cc)
+    by false state.Created p h = absurd (cc)
+    by false state.Running p h = absurd (cc)
+    by false state.Waiting part.Fresh h = absurd (cc)
+    by false state.Waiting (part.Chain d) h = absurd (cc)
+    by false state.Waiting (part.Job j) h = refl
+    by false state.Waiting part.Over h = absurd (cc)
+    by false (state.Finished n) p h = absurd (cc)
+    by false (state.Excepted e) p h = absurd (cc)
+    by false state.Killed p h = absurd (cc)
 
-has_sooner : (w : World) (m d : ℕ) → HasDue w m → HasDue w d → HasDue w (min m d)
-has_sooner w m d one two =
-    elim (cases_lt m d) [
-      | inl lt ↦ let le : m ≤ d = omega arith in subst (HasDue w) (sym (min-eq_left le)) one
-      | inr le ↦ subst (HasDue w) (sym (min-eq_right le)) two
-    ]
-
-pub least_more : (w : World) (rs : List ProcessRecord) (i : ℕ) (r : ProcessRecord) → i < length rs → r ≡ get_or rs i r → find_record r.node w.records ≡ Some r
-    → (before : Option ℕ) → IsLeastOf w (take i rs) before → IsLeastOf w (take (i + 1) rs) (sooner before (due_of r))
-least_more w rs i r lt is found before least = at before (due_of r) refl least
+-- who isn't ready, but has a due moment, waits for it
+has_to_wait : (w : World) (now due : ℕ) (r : ProcessRecord) → is_ready w now r ≡ false → due_of r ≡ Some due → (waits_later r ≡ true) × (records.due_of r.part ≡ due)
+has_to_wait w now due r unready waits = by r.paused r.state r.part unready waits
   where
-    at : (b o : Option ℕ) → due_of r ≡ o → IsLeastOf w (take i rs) b → IsLeastOf w (take (i + 1) rs) (sooner b o)
-    at None None e all = All-more (λ x. due_of x ≡ None) rs i r lt all (ap due_of (sym is) ∙ e)
-    at None (Some d) e all = (
-      record { process = r; found = found; waits = e },
-      All-more (IsNotAfter d) rs i r lt (All-weaker (λ x. due_of x ≡ None) (IsNotAfter d) (not_after d) (take i rs) all)
-          (subst (IsNotAfter d) is (subst (λ (o : Option ℕ). IfSome o (λ x. d ≤ x)) (sym e) (omega arith))),
-    )
-    at (Some m) None e all = (all.0, All-more (IsNotAfter m) rs i r lt all.1 (subst (IsNotAfter m) is (not_after m r e)))
-    at (Some m) (Some d) e all = (
-      has_sooner w m d all.0 (record { process = r; found = found; waits = e }),
-      All-more (IsNotAfter (min m d)) rs i r lt (All-weaker (IsNotAfter m) (IsNotAfter (min m d)) (earlier m (min m d) (min-le_left m d)) (take i rs) all.1)
-          (subst (IsNotAfter (min m d)) is (subst (λ (o : Option ℕ). IfSome o (λ x. min m d ≤ x)) (sym e) (min-le_right m d))),
-    )
+    by : (paused : Bool) (s : ProcessState) (p : Part) → not paused && may_go w now s p ≡ false → (if paused || has_ended s then None else due_in p) ≡ Some due
+        → (not paused && (records.is_waiting s && nat_lt 0 (records.due_of p)) ≡ true) × (records.due_of p ≡ due)
+    by true s p h e = absurd (cc)
+    by false state.Created p h e = absurd (cc)
+    by false state.Running p h e = absurd (cc)
+    by false state.Waiting part.Fresh h e = absurd (cc)
+    by false state.Waiting (part.Chain d) h e = absurd (cc)
+    by false state.Waiting (part.Job j) h e = let later : now < j.due = leb-false j.due now h in let same : j.due ≡ due = cc in (lt-ltb 0 j.due (omega (arith, later)), same)
+    by false state.Waiting part.Over h e = absurd (cc)
+    by false (state.Finished n) p h e = absurd (cc)
+    by false (state.Excepted x) p h e = absurd (cc)
+    by false state.Killed p h e = absurd (cc)
 
--- ---- a rest
+pub moment_is : (p : Part) → moment_in p ≡ records.due_of p
+moment_is part.Fresh = refl
+moment_is (part.Chain d) = refl
+moment_is (part.Job j) = refl
+moment_is part.Over = refl
 
 module _ (w : World) (c : IsConsistent w) (now : ℕ) (none : All (λ r. is_ready w now r ≡ false) w.records) where
-  -- what is waited for is later
-  pub is_later : (due : ℕ) → HasDue w due → now < due
-  is_later due h = by r.paused r.state r.part stands.part not_ready h.waits
+  itself : (i : ℕ) (d : ProcessRecord) → i < length w.records → find_record (get_or w.records i d).node w.records ≡ Some (get_or w.records i d)
+  itself i d lt = unique 1 w.nodes w.records c.numbered i d lt
+
+  unready : (r : ProcessRecord) → find_record r.node w.records ≡ Some r → is_ready w now r ≡ false
+  unready r found = found_holds (λ x. is_ready w now x ≡ false) r.node w.records r none found
+
+  -- it isn't ready at moment 0 either
+  unready_at_once : (r : ProcessRecord) → find_record r.node w.records ≡ Some r → (is_ready w 0 r ≡ false) × (is_due now r ≡ false)
+  unready_at_once r found = or_parts (is_ready w 0 r) (is_due now r) (sym (ready_by_parts w.records now r) ∙ unready r found)
+
+  pub first_rests : (d : ℕ × ℕ) (dues : List (ℕ × ℕ)) → AreDues w.records (d ∷ dues) → (now < d.0) × IsLeastDue w (Some d.0)
+  first_rests d dues a = (later, (due, least))
     where
+      first : Waits w.records d.0 d.1
+      first = first_waits w.records d dues a
+
       r : ProcessRecord
-      r = h.process
+      r = first.process
 
-      stands : Stands w r
-      stands = found_holds (Stands w) r.node w.records r c.records h.found
+      found : find_record r.node w.records ≡ Some r
+      found = ap (λ (n : ℕ). find_record n w.records) (number_of_found d.1 w.records r first.found) ∙ first.found
 
-      not_ready : is_ready w now r ≡ false
-      not_ready = found_holds (λ x. is_ready w now x ≡ false) r.node w.records r none h.found
+      later : now < d.0
+      later =
+          let isnt : nat_le (records.due_of r.part) now ≡ false = ap (λ (b : Bool). b && nat_le (records.due_of r.part) now) (sym first.later) ∙ (unready_at_once r found).1 in
+          omega (arith, leb-false (records.due_of r.part) now isnt, first.is)
 
-      by : (paused : Bool) (s : ProcessState) (p : Part) → part_fits r.kind s p ≡ true → not paused && may_go w now s p ≡ false
-          → (if paused || has_ended s then None else due_in p) ≡ Some due → now < due
-      by true s p fits unready waits = absurd (cc)
-      by false state.Created p fits unready waits = absurd (cc)
-      by false state.Running p fits unready waits = absurd (cc)
-      by false state.Waiting part.Fresh fits unready waits = absurd (cc)
-      by false state.Waiting (part.Chain d) fits unready waits = absurd (cc)
-      by false state.Waiting (part.Job j) fits unready waits = let same : j.due ≡ due = cc in subst (λ (n : ℕ). now < n) same (leb-false j.due now unready)
-      by false state.Waiting part.Over fits unready waits = absurd (cc)
-      by false (state.Finished n) p fits unready waits = absurd (cc)
-      by false (state.Excepted e) p fits unready waits = absurd (cc)
-      by false state.Killed p fits unready waits = absurd (cc)
+      due : HasDue w d.0
+      due = record { process = r; found = found; waits = due_is r first.later ∙ ap Some first.is }
 
-  -- there is a moment to wait for, where a process will be ready
-  pub some_waits : HasFree w → All (λ r. due_of r ≡ None) w.records → ⊥
-  some_waits f all = by r.paused r.state r.part f.ready not_ready no_due
-    where
-      r : ProcessRecord
-      r = f.process
+      not_before : (q : ProcessRecord) → find_record q.node w.records ≡ Some q → (o : Option ℕ) → due_of q ≡ o → IfSome o (λ e. d.0 ≤ e)
+      not_before q there None e = tt
+      not_before q there (Some m) e =
+          let waits = has_to_wait w now m q (unready q there) e in
+          omega (arith, first_is_least w.records d dues q a there waits.0, waits.1)
 
-      not_ready : is_ready w now r ≡ false
-      not_ready = found_holds (λ x. is_ready w now x ≡ false) r.node w.records r none f.found
+      least : All (IsNotAfter d.0) w.records
+      least i e lt = not_before (get_or w.records i e) (itself i e lt) (due_of (get_or w.records i e)) refl
 
-      no_due : due_of r ≡ None
-      no_due = found_holds (λ x. due_of x ≡ None) r.node w.records r all f.found
+  -- where nobody waits for a moment, none will be ready
+  pub nothing_comes : AreDues w.records [] → HasFree w → ⊥
+  nothing_comes a f =
+      let r : ProcessRecord = f.process in
+      let isnt : is_ready w (moment_in r.part) r ≡ false
+      = never_ready w.records (moment_in r.part) r (unready_at_once r f.found).0 (nobody_waits w.records r a f.found) in
+      let is = f.ready in
+      cc
 
-      by : (paused : Bool) (s : ProcessState) (p : Part) → not paused && may_go w (moment_in p) s p ≡ true → not paused && may_go w now s p ≡ false
-          → (if paused || has_ended s then None else due_in p) ≡ None → ⊥
-      by true s p is_ready_then unready nothing = absurd (cc)
-      by false state.Created p is_ready_then unready nothing = absurd (cc)
-      by false state.Running p is_ready_then unready nothing = absurd (cc)
-      by false state.Waiting part.Fresh is_ready_then unready nothing = absurd (cc)
-      by false state.Waiting (part.Chain d) is_ready_then unready nothing = absurd (cc (is_ready_then, unready))
-      by false state.Waiting (part.Job j) is_ready_then unready nothing = absurd (cc)
-      by false state.Waiting part.Over is_ready_then unready nothing = absurd (cc)
-      by false (state.Finished n) p is_ready_then unready nothing = absurd (cc)
-      by false (state.Excepted e) p is_ready_then unready nothing = absurd (cc)
-      by false state.Killed p is_ready_then unready nothing = absurd (cc)
+  -- what the first due moment tells
+  pub rest_is : (dues : List (ℕ × ℕ)) → AreDues w.records dues → (until : ℕ) → first_moment dues ≡ Some until → (now < until) × IsLeastDue w (Some until)
+  rest_is [] a until e = absurd (cc)
+  rest_is (d ∷ dues) a until e = let same : d.0 ≡ until = cc in subst (λ (n : ℕ). (now < n) × IsLeastDue w (Some n)) same (first_rests d dues a)
 
-pub least_all : (w : World) (o : Option ℕ) → IsLeastOf w w.records o → IsLeastDue w o
-least_all w None h = h
-least_all w (Some due) h = h
+  pub some_moment : (dues : List (ℕ × ℕ)) → AreDues w.records dues → HasFree w → first_moment dues ≡ None → ⊥
+  some_moment [] a f e = nothing_comes a f
+  some_moment (d ∷ dues) a f e = cc

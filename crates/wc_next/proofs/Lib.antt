@@ -2,3 +2,5 @@ mod Held
 mod Free
 mod Ready
 mod Due
+mod Chosen
+mod Going

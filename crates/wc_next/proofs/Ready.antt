@@ -68,11 +68,11 @@ chosen_has P (Drawn g) ids some all =
 
 -- ---- whether there are any
 
-pub none_of : (xs : List ℕ) → (length xs == 0) ≡ true → xs ≡ []
+pub none_of : {T : Type 0} (xs : List T) → (length xs == 0) ≡ true → xs ≡ []
 none_of [] e = refl
 none_of (x ∷ xs) e = let none : suc (length xs) ≡ 0 = eqb-true (suc (length xs)) 0 e in absurd (omega arith)
 
-pub some_of : (xs : List ℕ) → (length xs == 0) ≡ false → 0 < length xs
+pub some_of : {T : Type 0} (xs : List T) → (length xs == 0) ≡ false → 0 < length xs
 some_of xs e =
     elim (cases_lt 0 (length xs)) [
       | inl some ↦ some

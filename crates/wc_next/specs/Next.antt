@@ -1,5 +1,5 @@
 -- What a run does next.
-use Rattle.std.specs.Prelude.{◌≡◌, ◌<◌, ◌≤◌, ℕ, min, true, ◌||◌, if◌then◌else◌, [], All, Option, Some, None, IfSome}
+use Rattle.std.specs.Prelude.{◌≡◌, ◌<◌, ◌≤◌, ℕ, true, ◌||◌, if◌then◌else◌, List, [], ◌∷◌, All, Option, Some, None, IfSome}
 use Rattle.wc_state.specs.declared.record.Part.{Part}
 use Rattle.wc_state.specs.declared.record.Part.TheVariants as part
 use Rattle.wc_state.specs.declared.record.ProcessRecord.{ProcessRecord}
@@ -20,12 +20,6 @@ due_in part.Over = None
 abbrev pub due_of : ProcessRecord → Option ℕ
 due_of r = if r.paused || has_ended r.state then None else due_in r.part
 
--- the lesser of two moments, where both are there
-abbrev pub sooner : Option ℕ → Option ℕ → Option ℕ
-sooner None other = other
-sooner (Some one) None = Some one
-sooner (Some one) (Some two) = Some (min one two)
-
 -- a job of the world has this due moment
 pub record HasDue (w : World) (due : ℕ) : Type 0 where
   pub process : ProcessRecord
@@ -45,3 +39,8 @@ IsLeastDue w (Some due) = HasDue w due × All (IsNotAfter due) w.records
 abbrev pub ComesNext : World → (now : ℕ) → Next → Type 0
 ComesNext w now (Turn pid) = is_ready_at w pid now ≡ true
 ComesNext w now (Rest until) = (ready_at w now ≡ []) × (now < until) × IsLeastDue w (Some until)
+
+-- the first of due moments in order, if there is one
+abbrev pub first_moment : List (ℕ × ℕ) → Option ℕ
+first_moment [] = None
+first_moment (d ∷ dues) = Some d.0

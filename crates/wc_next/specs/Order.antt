@@ -1,6 +1,7 @@
 -- Which of the ready processes comes next.
-use Rattle.std.specs.Prelude.{◌≡◌, ◌≢◌, ℕ, ◌/◌, ◌%◌, nat_lt, List, length, get_or, unwrap_or}
+use Rattle.std.specs.Prelude.{◌≡◌, ◌≢◌, ℕ, ◌<◌, ◌/◌, ◌%◌, nat_lt, List, [], length, get_or, unwrap_or, Option, Some, None}
 use Rattle.std.specs.List.{find}
+use Rattle.wc_disk.specs.declared.generator.Generator.{Generator}
 use Rattle.wc_disk.specs.Noise.{drawn}
 use Rattle.wc_world.specs.World.{World}
 use Rattle.wc_machine.specs.Readiness.{ready_at}
@@ -34,3 +35,13 @@ IsAfter (Drawn g) pid (Drawn h) = h.x ≡ drawn g.x
 abbrev pub IsChosen : World → (now : ℕ) → Order → Order → Next → Type 0
 IsChosen w now old new (Turn pid) = (pid ≡ chosen old (ready_at w now)) × IsAfter old pid new
 IsChosen w now old new (Rest until) = new ≡ old
+
+-- the one that comes next of these, and then the order has gone on; where there is none, it stays
+abbrev pub IsNextOf : List ℕ → Order → Order → Option ℕ → Type 0
+IsNextOf ids old new None = (ids ≡ []) × (new ≡ old)
+IsNextOf ids old new (Some pid) = (0 < length ids) × (pid ≡ chosen old ids) × IsAfter old pid new
+
+-- the one at the drawn place of these; where there is none, nothing is drawn
+abbrev pub IsDrawn : List ℕ → Generator → Generator → Option ℕ → Type 0
+IsDrawn ids old new None = (ids ≡ []) × (new ≡ old)
+IsDrawn ids old new (Some pid) = (0 < length ids) × (pid ≡ get_or ids ((drawn old.x / 65536) % length ids) 0) × (new.x ≡ drawn old.x)

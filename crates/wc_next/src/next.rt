@@ -1,16 +1,14 @@
 //! What a run does next.
 
 ghost use Rattle.std.specs.Prelude.{◌≡◌, IfOk};
-ghost use Rattle.wc_next.specs.Next.{ComesNext, IsLeastDue, due_of, sooner};
+ghost use Rattle.wc_next.specs.Next.{ComesNext, first_moment};
 ghost use Rattle.wc_next.specs.Order.{IsChosen};
 ghost use Rattle.wc_next.specs.Standing.{StandsAs};
 ghost use Rattle.wc_next.specs.declared.standing.Standing.TheVariants.{Going};
 
 use crate::order::Order;
 use std::alloc::{AllocError, Global};
-use wc_core::ready;
-use wc_state::{Part, ProcessRecord};
-use wc_world::{World, has_ended};
+use wc_world::World;
 
 /// What a run does next at a moment.
 #[derive(Clone, Copy, Debug, PartialEq, Eq)]
@@ -21,42 +19,14 @@ pub enum Next {
     Rest(u64),
 }
 
-/// The due moment of a live job that waits and isn't paused.
-fn due_of(process: &ProcessRecord) -> Option<u64>
-    ensures { result ≡ due_of process.now }
+/// The first of due moments, if there is one.
+fn first_moment(dues: &[(u64, u32)]) -> Option<u64>
+    ensures { result ≡ first_moment dues.now }
 {
-    if process.paused || has_ended(process.state) {
+    if dues.is_empty() {
         return None;
     }
-    match &process.part {
-        Part::Job(job) => Some(job.due),
-        Part::Fresh | Part::Chain(_) | Part::Over => None,
-    }
-}
-
-/// The lesser of two moments, where both are there.
-fn sooner(first: Option<u64>, second: Option<u64>) -> Option<u64>
-    ensures { result ≡ sooner first second }
-{
-    match (first, second) {
-        (Some(one), Some(two)) => Some(one.min(two)),
-        (Some(one), None) => Some(one),
-        (None, other) => other,
-    }
-}
-
-/// The least due moment of a live job that isn't paused, if there is one.
-fn least_due(world: &World) -> Option<u64>
-    ensures { IsLeastDue world.now.world result }
-{
-    // What accepted changes make is told by the graph.
-    let _graph = world.graph();
-    let records = world.records().as_slice();
-    let mut least = None;
-    for record in records {
-        least = sooner(least, due_of(record));
-    }
-    least
+    Some(dues[0].0)
 }
 
 /// What comes next at a moment, where some process is ready or will be.
@@ -72,11 +42,10 @@ pub fn next_turn(
 {
     // What accepted changes make is told by the graph.
     let _graph = world.graph();
-    let ids = ready(alloc, world, now)?;
-    if !ids.is_empty() {
-        return Ok(Next::Turn(order.choose(ids.as_slice())));
+    if let Some(pid) = order.next(alloc, world, now)? {
+        return Ok(Next::Turn(pid));
     }
-    match least_due(world) {
+    match first_moment(world.ready_later()) {
         Some(due) => Ok(Next::Rest(due)),
         None => unreachable!(),
     }

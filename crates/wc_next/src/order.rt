@@ -1,9 +1,14 @@
 //! Which of the ready processes comes next.
 
-ghost use Rattle.std.specs.Prelude.{◌≡◌, ◌<◌, length};
-ghost use Rattle.wc_next.specs.Order.{IsOf, IsAfter, chosen, first_above};
+ghost use Rattle.std.specs.Prelude.{◌≡◌, IfOk};
+ghost use Rattle.std.specs.Option.{unwrap_or};
+ghost use Rattle.wc_records.specs.Ready as records;
+ghost use Rattle.wc_machine.specs.Readiness.{ready_at};
+ghost use Rattle.wc_next.specs.Order.{IsOf, IsNextOf, IsDrawn};
 
+use std::alloc::{AllocError, Global};
 use wc_disk::Generator;
+use wc_world::World;
 
 /// In which order processes have their turns.
 #[derive(Debug, Drop)]
@@ -14,17 +19,30 @@ pub enum Order {
     Drawn(Generator),
 }
 
-/// The first number above a bound, else the first of all.
-fn first_above(ready: &[u32], last: u32) -> u32
-    requires { 0 < length ready.now }
-    ensures { result ≡ first_above last ready.now }
+/// The lowest ready process above the last one that had a turn, else the lowest, if there is one; it is the last one then.
+fn in_round(world: &World, now: u64, last: &mut u32) -> Option<u32>
+    ensures next { result ≡ records.first_above last.old (ready_at world.now.world now) }
+    ensures last { last.new ≡ unwrap_or result last.old }
 {
-    for pid in ready {
-        if last < *pid {
-            return *pid;
-        }
+    let next = world.next_ready(*last, now);
+    *last = next.unwrap_or(*last);
+    next
+}
+
+/// The ready process at the place that a generator draws; where none is ready, it draws nothing.
+fn in_draw(
+    alloc: Global,
+    world: &World,
+    now: u64,
+    generator: &mut Generator,
+) -> Result<Option<u32>, AllocError>
+    ensures { IfOk result (IsDrawn (ready_at world.now.world now) generator.old generator.new) }
+{
+    let ids = world.ready(alloc, now)?;
+    if ids.is_empty() {
+        return Ok(None);
     }
-    ready[0]
+    Ok(Some(ids[generator.draw() as usize % ids.len()]))
 }
 
 impl Order {
@@ -39,19 +57,19 @@ impl Order {
         }
     }
 
-    /// Chooses one of the ready processes, which ascend.
-    pub fn choose(&mut self, ready: &[u32]) -> u32
-        requires { 0 < length ready.now }
-        ensures chosen { result ≡ chosen self.old ready.now }
-        ensures after { IsAfter self.old result self.new }
+    /// Chooses the next of the processes that are ready at a moment, if there is one. Only a draw takes memory, for the list of
+    /// them.
+    pub fn next(
+        &mut self,
+        alloc: Global,
+        world: &World,
+        now: u64,
+    ) -> Result<Option<u32>, AllocError>
+        ensures { IfOk result (IsNextOf (ready_at world.now.world now) self.old self.new) }
     {
         match self {
-            Order::Round(last) => {
-                let pid = first_above(ready, *last);
-                *last = pid;
-                pid
-            }
-            Order::Drawn(generator) => ready[generator.draw() as usize % ready.len()],
+            Order::Round(last) => Ok(in_round(world, now, last)),
+            Order::Drawn(generator) => in_draw(alloc, world, now, generator),
         }
     }
 }

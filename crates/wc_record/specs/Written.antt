@@ -22,9 +22,9 @@ use Rattle.wc_state.specs.declared.record.Checkpoint.{Checkpoint}
 use Rattle.wc_state.specs.declared.record.Part.{Part}
 use Rattle.wc_state.specs.declared.record.Part.TheVariants as part
 use Rattle.wc_world.specs.Fits.{names_ascend}
-use Rattle.wc_world.specs.declared.change.NewProcess.{NewProcess}
-use Rattle.wc_world.specs.declared.change.SetProcess.{SetProcess}
-use Rattle.wc_world.specs.declared.change.Kept.{Kept}
+use Rattle.wc_records.specs.declared.change.NewProcess.{NewProcess}
+use Rattle.wc_records.specs.declared.change.SetProcess.{SetProcess}
+use Rattle.wc_records.specs.declared.change.Kept.{Kept}
 use Rattle.wc_world.specs.declared.change.Change.{Change}
 use Rattle.wc_world.specs.declared.change.Change.TheVariants as change
 

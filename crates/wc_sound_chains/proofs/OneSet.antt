@@ -12,7 +12,7 @@ use Rattle.wc_state.specs.declared.record.ProcessRecord.{ProcessRecord}
 use Rattle.wc_semantics.specs.Meaning.{is_killed as is_cut}
 use Rattle.wc_semantics.specs.Tables.{Path}
 use Rattle.wc_world.specs.Fits.{calls_from}
-use Rattle.wc_world.specs.declared.change.SetProcess.{SetProcess}
+use Rattle.wc_records.specs.declared.change.SetProcess.{SetProcess}
 use Rattle.wc_world.specs.declared.change.Change.TheVariants as change
 use Rattle.wc_world.specs.Applied.{applied, set, is_created, is_killed, started_in}
 use Rattle.wc_world.specs.Records.{find_record, has_ended}

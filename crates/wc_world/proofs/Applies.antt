@@ -6,6 +6,8 @@ use Rattle.wc_world.specs.Applied.{after_change, changed, begun, applied}
 use Rattle.wc_world.specs.Accepted.{Setting, setting, Fits, Apply, IsAccepted, IsReached}
 use Rattle.wc_world.specs.Room.{Room, HasRoom}
 use Rattle.wc_world.specs.Drafts.{Ascends}
+use Rattle.wc_world.specs.Calls.{AwaitsCalled}
+use Rattle.wc_world.proofs.Awaiting.{change_awaits, fits_sets, reached_awaits}
 use Rattle.wc_world.proofs.Ascents.{change_ascends, reached_ascends}
 
 -- the changes left make of the world so far what all of them make of the old one, and each of them applies and has room
@@ -14,6 +16,7 @@ pub record Remain (s : Setting) (final w : World) (room : Room) (rest : List Cha
   pub fits : Apply s w rest
   pub enough : HasRoom room rest
   pub ascending : Ascends w
+  pub awaits : AwaitsCalled w
 
 -- a world and changes that equal those in hand
 pub remain_equal : (s : Setting) (final v w : World) (room more : Room) (cs ds : List Change) → v ≡ w → room ≡ more → cs ≡ ds → Remain s final v room cs → Remain s final w more ds
@@ -32,10 +35,11 @@ remain_next s final w room more c cs h has = record {
   fits = h.fits.1;
   enough = has;
   ascending = change_ascends s.batch w c h.ascending;
+  awaits = change_awaits s.batch w c (fits_sets s w c h.fits.0) h.awaits;
 }
 
 pub remain_all : (w : World) (room : Room) (cs : List Change) → IsReached w → IsAccepted w cs → HasRoom room cs → Remain (setting w cs) (applied w cs) (begun w) room cs
-remain_all w room cs reached accepted has = record { whole = refl; fits = accepted.each; enough = has; ascending = reached_ascends w reached }
+remain_all w room cs reached accepted has = record { whole = refl; fits = accepted.each; enough = has; ascending = reached_ascends w reached; awaits = reached_awaits w reached }
 
 pub remain_none : (s : Setting) (final w : World) (room : Room) → Remain s final w room [] → w ≡ final
 remain_none s final w room h = h.whole

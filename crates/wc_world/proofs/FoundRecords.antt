@@ -29,7 +29,7 @@ pub right : (a b : Bool) → a && b ≡ true → b ≡ true
 right true b h = h
 right false b h = absurd (cc)
 
-calls_is : (t : LinkType) → calls t ≡ true → IsCall t
+pub calls_is : (t : LinkType) → calls t ≡ true → IsCall t
 calls_is link.InputCalc h = absurd (cc)
 calls_is link.InputWork h = absurd (cc)
 calls_is link.Create h = absurd (cc)

@@ -14,12 +14,12 @@ pub mod FoundRecords
 pub mod LabelledValues
 pub mod RecordedEnvironments
 pub mod RecordedTrees
-pub mod Halving
 pub mod Slotted
 mod Ascents
 mod Allowed
 mod Needs
 mod Applies
+mod Awaiting
 mod LinkCorrect
 pub mod After
 pub mod Lengths

@@ -1,8 +1,11 @@
 -- Walks down the links of a process.
-use Rattle.std.proofs.Common.{◌≡◌, ◌≢◌, ℕ, ◌<◌, ◌≤◌, ◌-◌, ◌+◌, ◌==◌, ◌&&◌, ◌||◌, Bool, true, false, List, [], ◌∷◌, length, get_or, drop, Some, zero, suc, refl, sym, ap, ◌∙◌, arith}
+use Rattle.std.proofs.Common.{◌≡◌, ◌≢◌, ℕ, ◌<◌, ◌≤◌, ◌-◌, ◌+◌, ◌==◌, ◌&&◌, ◌||◌, Bool, true, false, List, [], ◌∷◌, length, get_or, drop, Some, zero, suc, inl, inr, refl, sym, ap, ◌∙◌, arith}
 use Rattle.std.specs.Prelude.{slice_get, if◌then◌else◌}
-use Rattle.std.specs.List.{list_any}
-use Rattle.std.proofs.lemmas.Bool.{ne_eqb}
+use Rattle.std.proofs.lemmas.Bool.{cases_eq, eq-eqb, eqb-true, ne_eqb}
+use Rattle.std.proofs.lemmas.Option.{slice_get-get_or}
+use Rattle.wc_graph.specs.Rules.{IsLinkCorrect}
+use Rattle.wc_graph.specs.declared.node.NodeKind.{NodeKind}
+use Rattle.wc_world.proofs.FoundRecords.{left, right, calls_is}
 use Rattle.std.proofs.lemmas.List.{drop_all, at_drop_more}
 use Rattle.wc_graph.specs.declared.link.Link.{Link}
 use Rattle.wc_graph.specs.Index.{Skips, source_of, target_of}
@@ -102,6 +105,51 @@ call_at caller pid (x ∷ xs) zero l few read is =
     or_left (is_call_from caller x && (x.target == pid)) (has_called xs caller pid) (ap (λ (y : Link). is_call_from caller y && (y.target == pid)) (sym read) ∙ is)
 call_at caller pid (x ∷ xs) (suc k) l few read is =
     or_right (is_call_from caller x && (x.target == pid)) (has_called xs caller pid) (call_at caller pid xs k l (omega (arith, few)) read is)
+
+-- ---- who called a process
+
+not_with : (a e x t : Bool) → e ≡ true → ((a && e) && t) ≡ false → ((a && x) && t) ≡ false
+not_with false e x t is h = refl
+not_with true false x t is h = absurd (cc)
+not_with true true true t is h = h
+not_with true true false t is h = refl
+
+-- a link that is no call into the process is none from anyone
+pub from_nobody : (caller pid : ℕ) (l : Link) → (is_call_from l.source l && (l.target == pid)) ≡ false → (is_call_from caller l && (l.target == pid)) ≡ false
+from_nobody caller pid l h = not_with (calls l.link) (l.source == l.source) (l.source == caller) (l.target == pid) (eq-eqb l.source l.source refl) h
+
+-- a call into the process is from a process that called it
+called_where : (caller pid : ℕ) (links : List Link) → has_called links caller pid ≡ true
+    → (k : ℕ) × (m : Link) × (slice_get links k ≡ Some m) × ((is_call_from caller m && (m.target == pid)) ≡ true)
+called_where caller pid [] h = absurd (cc)
+called_where caller pid (x ∷ xs) h = by_test (is_call_from caller x && (x.target == pid)) refl h (called_where caller pid xs)
+  where
+    by_test : (b : Bool) → (is_call_from caller x && (x.target == pid)) ≡ b → (b || has_called xs caller pid) ≡ true
+        → (has_called xs caller pid ≡ true → (k : ℕ) × (m : Link) × (slice_get xs k ≡ Some m) × ((is_call_from caller m && (m.target == pid)) ≡ true))
+        → (k : ℕ) × (m : Link) × (slice_get (x ∷ xs) k ≡ Some m) × ((is_call_from caller m && (m.target == pid)) ≡ true)
+    by_test true is e rest = (zero, x, refl, is)
+    by_test false is e rest = let more = rest e in (suc more.0, more.1, more.2, more.3)
+
+-- At most one process called a process.
+pub one_caller : (caller pid : ℕ) (nodes : List NodeKind) (links : List Link) (k : ℕ) (l : Link) → IsLinkCorrect nodes links → k < length links → l ≡ get_or links k l
+    → (is_call_from l.source l && (l.target == pid)) ≡ true → has_called links caller pid ≡ true → l.source ≡ caller
+one_caller caller pid nodes links k l correct few read is called =
+    let other = called_where caller pid links called in
+    let here : slice_get links k ≡ Some l = slice_get-get_or links k l few ∙ ap (λ (x : Link). Some x) (sym read) in
+    let one = left (calls l.link && (l.source == l.source)) (l.target == pid) is in
+    let two = left (calls other.1.link && (other.1.source == caller)) (other.1.target == pid) other.3 in
+    let ends : l.target ≡ other.1.target
+    = eqb-true l.target pid (right (calls l.link && (l.source == l.source)) (l.target == pid) is)
+    ∙ sym (eqb-true other.1.target pid (right (calls other.1.link && (other.1.source == caller)) (other.1.target == pid) other.3)) in
+    elim (cases_eq k other.0) [
+      | inl same ↦
+          let there : slice_get links k ≡ Some other.1 = ap (slice_get links) same ∙ other.2 in
+          let equal : l ≡ other.1 = cc in
+          ap (λ (x : Link). x.source) equal ∙ eqb-true other.1.source caller (right (calls other.1.link) (other.1.source == caller) two)
+      | inr apart ↦
+          absurd ((correct.apart k other.0 l other.1 apart here other.2).callers
+          (calls_is l.link (left (calls l.link) (l.source == l.source) one), calls_is other.1.link (left (calls other.1.link) (other.1.source == caller) two), ends))
+    ]
 
 -- ---- how many calls there are
 

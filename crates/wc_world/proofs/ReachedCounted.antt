@@ -6,8 +6,8 @@ use Rattle.std.proofs.lemmas.List.Elements.{All-push, All-weaker}
 use Rattle.wc_state.specs.declared.record.ProcessRecord.{ProcessRecord}
 use Rattle.wc_world.specs.declared.change.Change.{Change}
 use Rattle.wc_world.specs.declared.change.Change.TheVariants as change
-use Rattle.wc_world.specs.declared.change.SetProcess.{SetProcess}
-use Rattle.wc_world.specs.declared.change.Kept.{Kept}
+use Rattle.wc_records.specs.declared.change.SetProcess.{SetProcess}
+use Rattle.wc_records.specs.declared.change.Kept.{Kept}
 use Rattle.wc_world.specs.World.{World}
 use Rattle.wc_world.specs.Records.{find_record, has_ended}
 use Rattle.wc_world.specs.Applied.{next_number, made, set, is_created, is_killed, started_in, source_of, after_change, changed}

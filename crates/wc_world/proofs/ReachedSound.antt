@@ -15,9 +15,9 @@ use Rattle.wc_state.specs.declared.record.ProcessKind.TheVariants as kind
 use Rattle.wc_state.specs.declared.record.ProcessRecord.{ProcessRecord}
 use Rattle.wc_world.specs.declared.change.Change.{Change}
 use Rattle.wc_world.specs.declared.change.Change.TheVariants as change
-use Rattle.wc_world.specs.declared.change.NewProcess.{NewProcess}
-use Rattle.wc_world.specs.declared.change.SetProcess.{SetProcess}
-use Rattle.wc_world.specs.declared.change.Kept.{Kept}
+use Rattle.wc_records.specs.declared.change.NewProcess.{NewProcess}
+use Rattle.wc_records.specs.declared.change.SetProcess.{SetProcess}
+use Rattle.wc_records.specs.declared.change.Kept.{Kept}
 use Rattle.wc_world.specs.World.{World, Known}
 use Rattle.wc_world.specs.Records.{has_ended, process_node, definition_in}
 use Rattle.wc_world.specs.Applied.{next_number, made, set, keep, after_change, changed}

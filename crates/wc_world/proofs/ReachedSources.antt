@@ -3,7 +3,7 @@ use Rattle.std.proofs.Common.{◌≡◌, ℕ, zero, suc, ◌<◌, Bool, true, fa
 use Rattle.std.specs.Prelude.{◌==◌, ◌&&◌, ◌||◌, nat_lt, if◌then◌else◌}
 use Rattle.std.proofs.lemmas.Bool.{and_parts, and_from, ltb-true, lt-ltb, eqb-false}
 use Rattle.wc_state.specs.declared.record.ProcessRecord.{ProcessRecord}
-use Rattle.wc_world.specs.declared.change.SetProcess.{SetProcess}
+use Rattle.wc_records.specs.declared.change.SetProcess.{SetProcess}
 use Rattle.wc_world.specs.World.{World}
 use Rattle.wc_world.specs.Records.{find_record, is_calculation}
 use Rattle.wc_world.specs.Applied.{source_of}

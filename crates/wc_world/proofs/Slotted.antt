@@ -5,7 +5,7 @@ use Rattle.std.specs.List.{list_all}
 use Rattle.std.proofs.lemmas.Bool.{false≢true, cases_Bool, cases_eq, eq-eqb, ne_eqb, eqb-true, and_parts, and_from}
 use Rattle.wc_world.specs.declared.change.Change.{Change}
 use Rattle.wc_world.specs.declared.change.Change.TheVariants as change
-use Rattle.wc_world.specs.declared.change.Kept.{Kept}
+use Rattle.wc_records.specs.declared.change.Kept.{Kept}
 use Rattle.wc_world.specs.declared.slots.Slot.{Slot}
 use Rattle.wc_world.specs.declared.slots.Slot.TheVariants as slot
 use Rattle.wc_world.specs.Accepted.{is_in_order, kepts, made_from, how_often, is_among, keeps_each, kept_of}

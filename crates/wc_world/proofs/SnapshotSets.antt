@@ -12,8 +12,8 @@ use Rattle.wc_state.specs.declared.record.Part.{Part}
 use Rattle.wc_state.specs.declared.record.Part.TheVariants as part
 use Rattle.wc_state.specs.declared.record.ProcessRecord.{ProcessRecord}
 use Rattle.wc_world.specs.declared.change.Change.{Change}
-use Rattle.wc_world.specs.declared.change.SetProcess.{SetProcess}
-use Rattle.wc_world.specs.declared.change.Kept.{Kept}
+use Rattle.wc_records.specs.declared.change.SetProcess.{SetProcess}
+use Rattle.wc_records.specs.declared.change.Kept.{Kept}
 use Rattle.wc_world.specs.World.{World}
 use Rattle.wc_world.specs.Records.{find_record, at_process, has_called, definition_in, is_calculation}
 use Rattle.wc_world.specs.Applied.{after_change, source_of, started_in, set, keep}

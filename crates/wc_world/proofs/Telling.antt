@@ -3,7 +3,7 @@ use Rattle.std.proofs.Common.{◌≡◌, ℕ, Bool, true, false, Option, Some, N
 use Rattle.std.specs.Prelude.{if◌then◌else◌, ◌&&◌, ◌||◌, ◌==◌, nat_lt}
 use Rattle.wc_state.specs.declared.record.ProcessRecord.{ProcessRecord}
 use Rattle.wc_world.specs.declared.change.Change.TheVariants as change
-use Rattle.wc_world.specs.declared.change.SetProcess.{SetProcess}
+use Rattle.wc_records.specs.declared.change.SetProcess.{SetProcess}
 use Rattle.wc_world.specs.declared.error.WorldError.TheVariants as error
 use Rattle.wc_world.specs.declared.terms.Terms.{Terms}
 use Rattle.wc_world.specs.World.{World}
@@ -12,6 +12,7 @@ use Rattle.wc_world.specs.Applied.{started_in}
 use Rattle.wc_world.specs.Fits.{set_fits}
 use Rattle.wc_world.specs.Slots.{kept_at}
 use Rattle.wc_world.specs.Accepted.{Setting, kepts, kept_of, kept_started, kept_ended, started_after, ended_before, is_source, source_fits}
+use Rattle.wc_world.specs.Calls.{SetFits}
 use Rattle.wc_world.specs.Drafts.{Tells, started_by, ended_by, is_source_by, source_fits_by, FitsBy, RefusesBy}
 use Rattle.wc_world.proofs.FoundRecords.{left, right}
 
@@ -45,6 +46,9 @@ module _ (t : Terms) (w : World) (c : SetProcess) where
   pub set_taken : (r : ProcessRecord) → Some r ≡ find_record c.pid w.records → set_fits w c r && source_fits_by t w c r ≡ true → FitsBy t w (change.Set c)
   set_taken r found fits s h =
       (r, sym found, left (set_fits w c r) (source_fits_by t w c r) fits, source_told t s h w c r ∙ right (set_fits w c r) (source_fits_by t w c r) fits)
+
+  pub set_found : (r : ProcessRecord) → Some r ≡ find_record c.pid w.records → set_fits w c r && source_fits_by t w c r ≡ true → SetFits w c
+  set_found r found fits = (r, sym found, left (set_fits w c r) (source_fits_by t w c r) fits)
 
   pub set_refused : (r : ProcessRecord) → Some r ≡ find_record c.pid w.records → set_fits w c r && source_fits_by t w c r ≡ false → RefusesBy t w (change.Set c) (error.BadRecord c.pid)
   set_refused r found fails s h = inr (refl, (r, sym found, ap (λ (b : Bool). set_fits w c r && b) (source_told t s h w c r) ∙ fails))

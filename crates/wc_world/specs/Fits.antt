@@ -20,8 +20,8 @@ use Rattle.wc_state.specs.declared.record.Frame.{Frame}
 use Rattle.wc_state.specs.declared.record.Checkpoint.{Checkpoint}
 use Rattle.wc_state.specs.declared.record.Part.{Part}
 use Rattle.wc_state.specs.declared.record.Part.TheVariants as part
-use Rattle.wc_world.specs.declared.change.NewProcess.{NewProcess}
-use Rattle.wc_world.specs.declared.change.SetProcess.{SetProcess}
+use Rattle.wc_records.specs.declared.change.NewProcess.{NewProcess}
+use Rattle.wc_records.specs.declared.change.SetProcess.{SetProcess}
 use Rattle.wc_world.specs.World.{World, Known}
 use Rattle.wc_world.specs.Records.{find_record, has_ended, has_called, is_call_from, is_output_of, definition_in, kind_of_definition, same_kind}
 use Rattle.wc_world.specs.Blocks.{lengths_of}

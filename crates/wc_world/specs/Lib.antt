@@ -15,6 +15,7 @@ pub mod Levels
 pub mod Order
 pub mod TreeLaws
 pub mod Slots
+pub mod Calls
 pub mod Drafts
 pub mod Playing
 pub mod Linked

@@ -7,6 +7,7 @@ use Rattle.wc_world.specs.declared.terms.Terms.{Terms}
 use Rattle.wc_world.specs.World.{World}
 use Rattle.wc_world.specs.Applied.{changed}
 use Rattle.wc_world.specs.Accepted.{Setting, Apply, FirstRefused}
+use Rattle.wc_world.specs.Calls.{AwaitsCalled}
 use Rattle.wc_world.specs.Drafts.{drafted, Ascends, AreSettledBut, Tells}
 
 -- Each change applies to the world as those before it left it.
@@ -23,4 +24,5 @@ pub record Leads (t : Terms) (w : World) (cs : List Change) (d : Draft) (rest : 
   pub takes : ApplyBy t (drafted d) rest → ApplyBy t w cs
   pub refuses : (e : WorldError) → FirstRefusedBy t (drafted d) rest e → FirstRefusedBy t w cs e
   pub ascending : Ascends (drafted d)
+  pub awaits : AwaitsCalled (drafted d)
   pub settled : AreSettledBut d.touched.items d.graph.links d.records.0

@@ -1,8 +1,6 @@
 -- Looking up processes and definitions.
-use Rattle.std.specs.Prelude.{ℕ, zero, suc, Bool, true, false, ◌==◌, ◌&&◌, if◌then◌else◌, List, [], ◌∷◌, map, Option, Some, None, slice_get, option_map, option_and_then}
+use Rattle.std.specs.Prelude.{ℕ, zero, suc, Bool, true, false, ◌==◌, ◌&&◌, List, Option, None, slice_get, option_map, option_and_then}
 use Rattle.std.specs.List.{list_any}
-use Rattle.wc_value.specs.declared.process.ProcessState.{ProcessState}
-use Rattle.wc_value.specs.declared.process.ProcessState.TheVariants as state
 use Rattle.wc_syntax.specs.declared.definition.Definition.{Definition}
 use Rattle.wc_syntax.specs.declared.definition.Definition.TheVariants as definition
 use Rattle.wc_syntax.specs.Findings.{definition_named}
@@ -13,27 +11,10 @@ use Rattle.wc_graph.specs.declared.link.LinkType.TheVariants as link
 use Rattle.wc_graph.specs.declared.link.Link.{Link}
 use Rattle.wc_state.specs.declared.record.ProcessKind.{ProcessKind}
 use Rattle.wc_state.specs.declared.record.ProcessKind.TheVariants as kind
-use Rattle.wc_state.specs.declared.record.ProcessRecord.{ProcessRecord}
 use Rattle.wc_world.specs.World.{Known}
+pub use Rattle.wc_records.specs.Records.{find_record, at_process, has_ended}
 
 -- ---- processes
-
--- the record of the process with this number
-abbrev pub find_record : ℕ → List ProcessRecord → Option ProcessRecord
-find_record pid [] = None
-find_record pid (r ∷ rs) = if r.node == pid then Some r else find_record pid rs
-
--- the records, with that of this process put through a function
-abbrev pub at_process : ℕ → (ProcessRecord → ProcessRecord) → List ProcessRecord → List ProcessRecord
-at_process pid f rs = map (λ r. if r.node == pid then f r else r) rs
-
-abbrev pub has_ended : ProcessState → Bool
-has_ended state.Created = false
-has_ended state.Running = false
-has_ended state.Waiting = false
-has_ended (state.Finished n) = true
-has_ended (state.Excepted r) = true
-has_ended state.Killed = true
 
 abbrev pub process_node : ProcessKind → NodeKind
 process_node kind.Function = node.Calculation

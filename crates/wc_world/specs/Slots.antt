@@ -3,7 +3,7 @@ use Rattle.std.specs.Prelude.{◌≡◌, ◌&&◌, ℕ, zero, suc, ◌-◌, Bool
 use Rattle.std.specs.List.{list_all, filter_map}
 use Rattle.wc_world.specs.declared.change.Change.{Change}
 use Rattle.wc_world.specs.declared.change.Change.TheVariants as change
-use Rattle.wc_world.specs.declared.change.Kept.{Kept}
+use Rattle.wc_records.specs.declared.change.Kept.{Kept}
 use Rattle.wc_world.specs.declared.slots.Slot.{Slot}
 use Rattle.wc_world.specs.declared.slots.Slot.TheVariants as slot
 use Rattle.wc_world.specs.World.{World}

@@ -1,20 +1,22 @@
 //! Changes that a world accepts, applied to it.
 
-ghost use Rattle.std.specs.Prelude.{◌≡◌, [], ◌∷◌, ◌++◌, ◌+◌, ◌-◌, ◌<◌, ◌≤◌, ◌^◌, List, length, OnOk};
+ghost use Rattle.std.specs.Prelude.{◌≡◌, [], ◌∷◌, ◌++◌, ◌+◌, ◌-◌, ◌<◌, ◌≤◌, ◌^◌, true, false, List, length, All, OnOk};
 ghost use Rattle.wc_graph.specs.Refusals.{IsAllowed};
 ghost use Rattle.wc_world.specs.declared.change.Change.{Change};
-ghost use Rattle.wc_world.specs.Records.{process_node};
-ghost use Rattle.wc_world.specs.Applied.{made, after_change, applied};
+ghost use Rattle.wc_records.specs.Readiness.{ended_at};
+ghost use Rattle.wc_world.specs.Records.{at_process, process_node};
+ghost use Rattle.wc_world.specs.Calls.{awaits_called, AwaitsCalled};
+ghost use Rattle.wc_world.specs.Applied.{made, set, after_change, applied};
 ghost use Rattle.wc_world.specs.Accepted.{IsAccepted};
 ghost use Rattle.wc_world.specs.Room.{HasRoom, needed};
 ghost use Rattle.wc_world.specs.Applying.{world_of, room_of, CanApply, Ascend, IsAtLeast};
 
-use crate::change::{Change, Changes, NewProcess};
-use crate::processes::{make, node_of_kind};
-use crate::records::Records;
+use crate::change::{Change, Changes};
+use crate::processes::{caller_of, node_of_kind};
 use crate::world::{Known, Libraries, World};
 use std::alloc::{AllocError, Global};
 use wc_graph::{Graph, Link, NodeKind};
+use wc_records::{NewProcess, Records, SetProcess};
 
 /// How many items changes add.
 #[derive(Drop)]
@@ -115,7 +117,17 @@ fn put_process(graph: &mut Graph, records: &mut Records, process: NewProcess)
 {
     put_node(graph, node_of_kind(process.kind));
     let number = graph.nodes().len() as u32;
-    records.push(make(number, process));
+    records.push(number, process);
+}
+
+/// Sets what a process is from now on, in the batch of this number, and tells its caller.
+pub(crate) fn set_process(graph: &Graph, records: &mut Records, batch: u32, change: SetProcess)
+    requires live { ended_at records.old.0 change.pid ≡ false }
+    requires awaits { All (λ r. awaits_called graph.now.links r ≡ true) records.old.0 }
+    ensures { records.new ≡ (at_process change.pid (set batch change) records.old.0, records.old.1) }
+{
+    let caller = caller_of(graph, change.pid);
+    records.set(batch, change, caller);
 }
 
 /// Applies one change to the parts of a world, in the batch of this number.
@@ -129,6 +141,7 @@ fn apply_change(
 )
     requires fits { CanApply (world_of graph.old records.old libraries.old batches.old) change }
     requires ascending { Ascend 0 records.old.0 (length graph.old.nodes) }
+    requires awaits { AwaitsCalled (world_of graph.old records.old libraries.old batches.old) }
     requires room { HasRoom (room_of graph.old records.old libraries.old) (change ∷ []) }
     ensures world { world_of graph.new records.new libraries.new batches.new ≡ after_change batch (world_of graph.old records.old libraries.old batches.old) change }
     ensures room { (cs : List Change) → HasRoom (room_of graph.old records.old libraries.old) (change ∷ cs) → HasRoom (room_of graph.new records.new libraries.new) cs }
@@ -138,7 +151,7 @@ fn apply_change(
         Change::Data(value) => put_node(graph, NodeKind::Data(value)),
         Change::Process(process) => put_process(graph, records, process),
         Change::Link(link) => put_link(graph, link),
-        Change::Set(set) => records.set(batch, set),
+        Change::Set(set) => set_process(graph, records, batch, set),
         Change::Count(count) => *batches = count,
         Change::Kept(kept) => records.keep(kept),
     }

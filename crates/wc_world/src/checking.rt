@@ -7,9 +7,9 @@ ghost use Rattle.wc_world.specs.declared.error.WorldError.TheVariants as error;
 ghost use Rattle.wc_world.specs.Records.{find_record};
 ghost use Rattle.wc_world.specs.Fits.{names_ascend, set_fits};
 ghost use Rattle.wc_world.specs.Accepted.{Setting, HasNumber, Fits, Refuses, ended_fits};
+ghost use Rattle.wc_world.specs.Calls.{SetFits};
 ghost use Rattle.wc_world.specs.Drafts.{drafted, FitsBy, RefusesBy, is_source_by, source_fits_by, kept_fits_by};
 
-use crate::change::{Kept, NewProcess, SetProcess};
 use crate::checkpoints::set_fits;
 use crate::draft::Draft;
 use crate::error::WorldError;
@@ -19,6 +19,7 @@ use crate::fitting::{
 use crate::terms::Terms;
 use std::alloc::{AllocError, Global};
 use wc_graph::GraphError;
+use wc_records::{Kept, NewProcess, SetProcess};
 use wc_state::ProcessRecord;
 use wc_value::{Value, Words, is_within_depth};
 
@@ -112,6 +113,7 @@ pub(crate) fn check_set(
     terms: &Terms,
     set: &SetProcess,
 ) -> Result<(), WorldError>
+    ensures sets { OnOk result (SetFits (drafted draft.now) set.now) }
     ensures ok { OnOk result (FitsBy terms.now (drafted draft.now) (change.Set set.now)) }
     ensures refused { IfErr result (λ e. (e ≡ error.OutOfMemory) ⊎ RefusesBy terms.now (drafted draft.now) (change.Set set.now) e) }
 {

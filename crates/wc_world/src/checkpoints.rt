@@ -10,14 +10,13 @@ ghost use Rattle.wc_world.specs.Fits.{frame_fits, is_within, outline_lengths, is
 ghost use Rattle.wc_world.specs.Drafts.{drafted, on_place};
 
 use crate::blocks::lengths_of;
-use crate::change::SetProcess;
 use crate::draft::Draft;
 use crate::fitting::{fails_fit, part_fits};
 use crate::libraries::definition_in;
-use crate::processes::{has_called, has_ended};
-use crate::records::Records;
+use crate::processes::has_called;
 use std::alloc::{AllocError, Global};
 use wc_graph::{Graph, NodeKind};
+use wc_records::{Records, SetProcess, has_ended};
 use wc_state::{
     Awaits, Checkpoint, Context, CtxRef, Frame, Frames, Ids, Outs, Part, ProcessRecord,
 };

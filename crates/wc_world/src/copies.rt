@@ -2,38 +2,11 @@
 
 ghost use Rattle.std.specs.Prelude.{◌≡◌, IfOk};
 
-use crate::change::{Change, Changes, NewProcess, SetProcess};
+use crate::change::{Change, Changes};
 use crate::world::{Libraries, World};
 use std::alloc::{AllocError, Global};
 use wc_copies::copy_checked;
 use wc_value::Duplicate;
-
-impl Duplicate for NewProcess {
-    fn copy(&self) -> Result<NewProcess, AllocError> {
-        Ok(NewProcess {
-            kind: self.kind,
-            definition: self.definition.copy()?,
-            library: self.library,
-            depth: self.depth,
-            label: self.label.copy()?,
-            caching: self.caching,
-        })
-    }
-}
-
-impl Duplicate for SetProcess {
-    fn copy(&self) -> Result<SetProcess, AllocError> {
-        Ok(SetProcess {
-            pid: self.pid,
-            state: self.state,
-            paused: self.paused,
-            cached_from: self.cached_from,
-            fuel: self.fuel,
-            code: self.code,
-            part: self.part.copy()?,
-        })
-    }
-}
 
 /// A copy of a change.
 fn copy_change(alloc: Global, change: &Change) -> Result<Change, AllocError>

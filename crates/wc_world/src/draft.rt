@@ -5,20 +5,22 @@ ghost use Rattle.wc_world.specs.declared.change.Change.TheVariants as change;
 ghost use Rattle.wc_world.specs.declared.error.WorldError.TheVariants as error;
 ghost use Rattle.wc_world.specs.Applied.{after_change};
 ghost use Rattle.wc_world.specs.Accepted.{Setting, Fits, Refuses};
+ghost use Rattle.wc_world.specs.Calls.{AwaitsCalled, SetFits, SetsFitting};
 ghost use Rattle.wc_world.specs.Drafts.{drafted, Ascends, FitsBy, RefusesBy, touched_by};
 
-use crate::change::{Change, Kept, NewProcess, SetProcess};
+use crate::applying::set_process;
+use crate::change::Change;
 use crate::checking::{
     check_count, check_data, check_kept, check_library, check_process, check_set,
 };
 use crate::error::WorldError;
 use crate::fitting::call_fits;
-use crate::processes::{make, node_of_kind};
-use crate::records::Records;
+use crate::processes::node_of_kind;
 use crate::terms::Terms;
 use crate::world::Libraries;
 use std::alloc::Global;
 use wc_graph::{Graph, GraphError, Link, NodeKind, is_call};
+use wc_records::{Kept, NewProcess, Records, SetProcess};
 use wc_syntax::Checked;
 use wc_value::{Value, Words};
 
@@ -75,7 +77,7 @@ impl Draft {
         self.records.reserve(1)?;
         match self.graph.add_node(node_of_kind(process.kind)) {
             Ok(_) => {
-                self.records.push(make(number, process));
+                self.records.push(number, process);
                 Ok(())
             }
             Err(_) => Err(WorldError::OutOfMemory),
@@ -105,6 +107,8 @@ impl Draft {
     }
 
     fn take_set(&mut self, alloc: Global, terms: &Terms, set: SetProcess) -> Result<(), WorldError>
+        requires { AwaitsCalled (drafted self.old) }
+        ensures sets { OnOk result (SetFits (drafted self.old) set) }
         ensures fits { OnOk result (FitsBy terms.now (drafted self.old) (change.Set set)) }
         ensures world { OnOk result (drafted self.new ≡ after_change terms.now.batch (drafted self.old) (change.Set set)) }
         ensures touched { OnOk result (self.new.touched.items ≡ self.old.touched.items ++ touched_by (drafted self.old) (change.Set set)) }
@@ -112,7 +116,7 @@ impl Draft {
     {
         check_set(alloc, self, terms, &set)?;
         self.touched.push(set.pid)?;
-        self.records.set(terms.batch, set);
+        set_process(&self.graph, &mut self.records, terms.batch, set);
         Ok(())
     }
 
@@ -145,7 +149,9 @@ impl Draft {
         terms: &Terms,
         change: Change,
     ) -> Result<(), WorldError>
-        requires { Ascends (drafted self.old) }
+        requires ascending { Ascends (drafted self.old) }
+        requires awaits { AwaitsCalled (drafted self.old) }
+        ensures sets { OnOk result (SetsFitting (drafted self.old) change) }
         ensures fits { OnOk result (FitsBy terms.now (drafted self.old) change) }
         ensures world { OnOk result (drafted self.new ≡ after_change terms.now.batch (drafted self.old) change) }
         ensures touched { OnOk result (self.new.touched.items ≡ self.old.touched.items ++ touched_by (drafted self.old) change) }

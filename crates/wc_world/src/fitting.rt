@@ -9,14 +9,12 @@ ghost use Rattle.wc_world.specs.Fits.{comes_after, names_ascend, new_fits, is_of
 ghost use Rattle.wc_world.specs.Accepted.{ended_fits};
 ghost use Rattle.wc_world.specs.Drafts.{started_by, ended_by};
 
-use crate::change::{Kept, NewProcess, SetProcess};
 use crate::libraries::{definition_in, kind_of_definition, same_kind};
-use crate::processes::{has_ended, started_in};
-use crate::records::Records;
 use crate::slots::kept_at;
 use crate::terms::Terms;
 use crate::world::Known;
 use wc_graph::Link;
+use wc_records::{Kept, NewProcess, Records, SetProcess, has_ended, started_in};
 use wc_state::{Part, ProcessKind, ProcessRecord};
 use wc_syntax::Definition;
 use wc_value::{ProcessState, Text, Words};

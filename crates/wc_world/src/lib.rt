@@ -14,14 +14,13 @@ mod draft;
 mod environments;
 mod error;
 mod fitting;
-mod in_place;
 mod laws;
 mod libraries;
 mod linked;
 mod outputs;
 mod playing;
 mod processes;
-mod records;
+mod readiness;
 mod settling;
 mod slots;
 mod snapshots;
@@ -29,14 +28,13 @@ mod terms;
 mod trees;
 mod world;
 
-pub use change::{Change, Changes, Kept, NewProcess, SetProcess};
+pub use change::{Change, Changes};
 pub use environments::env_of;
 pub use error::WorldError;
 pub use laws::{
     changes_have_one_answer, inputs_are_linked, links_stay_correct, outputs_are_linked,
     reached_worlds_are_consistent, recorded_trees_unfold, snapshots_give_the_world,
 };
-pub use processes::has_ended;
-pub use records::Records;
 pub use trees::tree_of;
+pub use wc_records::{Kept, NewProcess, Records, SetProcess, has_ended};
 pub use world::{Known, Libraries, World};

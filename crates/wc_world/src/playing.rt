@@ -6,6 +6,7 @@ ghost use Rattle.wc_world.specs.declared.error.WorldError.TheVariants as error;
 ghost use Rattle.wc_world.specs.Applied.{changed, applied, begun};
 ghost use Rattle.wc_world.specs.Fits.{unsettled};
 ghost use Rattle.wc_world.specs.Accepted.{IsAccepted, IsRefused, IsReached};
+ghost use Rattle.wc_world.specs.Calls.{AwaitsCalled};
 ghost use Rattle.wc_world.specs.Drafts.{drafted, Ascends, AreSettledBut};
 ghost use Rattle.wc_world.specs.Playing.{ApplyBy, FirstRefusedBy};
 
@@ -26,6 +27,7 @@ impl World {
         requires { self.world.batches < 4000000000 }
         ensures world { drafted result ≡ begun self.world }
         ensures ascending { Ascends (drafted result) }
+        ensures awaits { AwaitsCalled (drafted result) }
         ensures settled { AreSettledBut result.touched.items result.graph.links result.records.0 }
         ensures reached { IsReached self.world }
     {
@@ -43,6 +45,7 @@ impl Draft {
     /// Takes changes one after another.
     fn take_all(&mut self, alloc: Global, terms: &Terms, changes: Changes) -> Result<(), WorldError>
         requires ascending { Ascends (drafted self.old) }
+        requires awaits { AwaitsCalled (drafted self.old) }
         requires settled { AreSettledBut self.old.touched.items self.old.graph.links self.old.records.0 }
         ensures each { OnOk result (ApplyBy terms.now (drafted self.old) changes) }
         ensures world { OnOk result (drafted self.new ≡ changed terms.now.batch (drafted self.old) changes) }

@@ -1,37 +1,12 @@
 //! States of processes, and the links that leave them.
 
-ghost use Rattle.std.specs.Prelude.{◌≡◌, ◌==◌, ◌&&◌};
-ghost use Rattle.wc_world.specs.Records.{has_ended, has_called, gives_output, is_call_from, is_output_of, process_node};
-ghost use Rattle.wc_world.specs.Applied.{is_created, is_killed, made, started_in};
+ghost use Rattle.std.specs.Prelude.{◌≡◌, ℕ, ◌==◌, ◌&&◌, true, Some};
+ghost use Rattle.wc_world.specs.Records.{has_called, gives_output, is_call_from, is_output_of, process_node};
 ghost use Rattle.wc_world.specs.Fits.{calls_from, has_output, is_settled, counted_calls};
 
-use crate::change::NewProcess;
 use wc_graph::{Graph, Link, LinkType, NodeKind, is_call};
+use wc_records::has_ended;
 use wc_state::{Part, ProcessKind, ProcessRecord};
-use wc_value::ProcessState;
-
-/// Whether a process in this state has ended.
-pub fn has_ended(state: ProcessState) -> bool
-    ensures { result ≡ has_ended state }
-{
-    matches!(
-        state,
-        ProcessState::Finished(_) | ProcessState::Excepted(_) | ProcessState::Killed
-    )
-}
-
-/// The batch in which a process has started after it goes to a state.
-pub(crate) fn started_in(batch: u32, record: &ProcessRecord, to: ProcessState) -> u32
-    ensures { result ≡ started_in batch «record».now to }
-{
-    let created = matches!(record.state, ProcessState::Created);
-    let starts = !matches!(to, ProcessState::Created | ProcessState::Killed);
-    if created && starts {
-        batch
-    } else {
-        record.started
-    }
-}
 
 /// The node of a process of this kind.
 pub(crate) fn node_of_kind(kind: ProcessKind) -> NodeKind
@@ -41,29 +16,6 @@ pub(crate) fn node_of_kind(kind: ProcessKind) -> NodeKind
         ProcessKind::Function => NodeKind::Calculation,
         ProcessKind::Job => NodeKind::Calculation,
         ProcessKind::Chain => NodeKind::Workflow,
-    }
-}
-
-/// The record of a new process with this number.
-pub(crate) fn make(number: u32, process: NewProcess) -> ProcessRecord
-    ensures { result ≡ made number process }
-{
-    ProcessRecord {
-        node: number,
-        kind: process.kind,
-        definition: process.definition,
-        library: process.library,
-        depth: process.depth,
-        label: process.label,
-        caching: process.caching,
-        state: ProcessState::Created,
-        paused: false,
-        cached_from: None,
-        fuel: 0,
-        code: None,
-        started: 0,
-        ended: 0,
-        part: Part::Fresh,
     }
 }
 
@@ -95,6 +47,22 @@ pub(crate) fn has_called(graph: &Graph, caller: u32, pid: u32) -> bool
         at = graph.before_into(pid, at);
     }
     false
+}
+
+/// The process that called a process, if there is one.
+pub(crate) fn caller_of(graph: &Graph, pid: u32) -> Option<u32>
+    ensures { (caller : ℕ) → has_called graph.now.links caller pid ≡ true → result ≡ Some caller }
+{
+    let links = graph.links().as_slice();
+    let mut at = graph.last_into(pid);
+    while at > 0 {
+        let link = &links[at - 1];
+        if is_call_between(link, link.source, pid) {
+            return Some(link.source);
+        }
+        at = graph.before_into(pid, at);
+    }
+    None
 }
 
 fn gives_output(link: LinkType) -> bool

@@ -5,9 +5,10 @@ ghost use Rattle.std.specs.List.{list_all};
 ghost use Rattle.wc_world.specs.Accepted.{kepts};
 ghost use Rattle.wc_world.specs.Slots.{slot_in, slots_in, is_made, made_at, kept_at, filled, AreSlotsOf};
 
-use crate::change::{Change, Kept};
+use crate::change::Change;
 use crate::snapshots::is_in_order;
 use std::alloc::{AllocError, Global};
+use wc_records::Kept;
 
 /// What is known of a node that a snapshot makes.
 #[derive(Clone, Copy)]

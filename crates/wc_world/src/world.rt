@@ -1,14 +1,15 @@
 ghost use Rattle.std.specs.Prelude.{◌≡◌, ◌↔◌, length, IsNone};
 ghost use Rattle.std.specs.Option.{option_copied};
 ghost use Rattle.wc_graph.specs.Rules.{IsLinkCorrect};
+ghost use Rattle.wc_records.specs.Readiness.{ready_at, AreDues, live_in};
 ghost use Rattle.wc_world.specs.World.{empty};
 ghost use Rattle.wc_world.specs.Records.{find_record};
 ghost use Rattle.wc_world.specs.Accepted.{IsReached};
 
-use crate::records::Records;
 use std::alloc::Global;
 use std::marker::Model;
 use wc_graph::Graph;
+use wc_records::Records;
 use wc_state::ProcessRecord;
 use wc_syntax::Checked;
 use wc_value::{Roomy, Words};
@@ -96,5 +97,27 @@ impl World {
         ensures { option_copied result ≡ find_record pid self.now.world.records }
     {
         self.records.find(pid)
+    }
+
+    /// The numbers of the processes that are ready at moment 0, and so at every moment, ascending. It takes no memory.
+    pub fn ready_at_once(&self) -> &[u32]
+        ensures { result.now ≡ ready_at self.now.world.records 0 }
+    {
+        self.records.ready_at_once()
+    }
+
+    /// The due moments of the jobs that wait for a later one and aren't paused, in order, each with the job's number. It
+    /// takes no memory.
+    pub fn ready_later(&self) -> &[(u64, u32)]
+        ensures { AreDues self.now.world.records result.now }
+    {
+        self.records.ready_later()
+    }
+
+    /// How many processes haven't ended.
+    pub fn live(&self) -> usize
+        ensures { result ≡ live_in self.now.world.records }
+    {
+        self.records.live()
     }
 }

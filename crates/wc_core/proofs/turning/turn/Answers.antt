@@ -13,11 +13,15 @@ use Rattle.wc_refusal.specs.Refusals.{FullOf, HasRoom, NoneHolds}
 use Rattle.wc_core.specs.Refusals.{RefusesTurn}
 use Rattle.std.proofs.lemmas.Result.{IfErr-weaker}
 use Rattle.wc_core.proofs.Results.{if_both}
-use Rattle.wc_core.proofs.Turns.{found_itself, turn_allowed, turn_changes, turn_continues, turn_is_accepted, turn_refused, turn_sound}
+use Rattle.wc_core.proofs.Turns.{found_itself, ready_itself, turn_allowed, turn_changes, turn_continues, turn_is_accepted, turn_refused, turn_sound}
 use Rattle.wc_core.proofs.turning.turn.Goals as goal
 
 pub turn_by_kind-requires-clause-found : goal.turn_by_kind-requires-clause-found
 turn_by_kind-requires-clause-found c = found_itself c.args.world.now.world c.args.pid c.in-Some.process.now (sym c.in-Some.ensures)
+
+pub turn_by_kind-requires-clause-ready : goal.turn_by_kind-requires-clause-ready
+turn_by_kind-requires-clause-ready c =
+    ready_itself c.args.world.now.world c.args.now c.args.pid c.in-Some.process.now (sym c.in-Some.ensures) c.is_ready.result c.is_ready.ensures c.if-not-is_ready.false
 
 pub returns-clause-changes : goal.returns-clause-changes
 returns-clause-changes c =
@@ -30,7 +34,7 @@ returns-clause-changes c =
     let most = c.args.limits.now.max_nodes in
     let reached = c.graph-graph.ensures.reached in
     let found : find_record pid w.records ≡ Some r = sym c.in-Some.ensures in
-    let ready : is_ready w now r ≡ true = search rules in
+    let ready : is_ready w now r ≡ true = ready_itself w now pid r found c.is_ready.result c.is_ready.ensures c.if-not-is_ready.false in
     if_both c.turn_by_kind.result (TurnGives poll now w r a) (λ (ds : List Change). HasRoom most (applied w ds)) (AreItsChanges poll w (turn pid a now))
     (λ cs gives room. turn_changes poll now pid w r a found ready cs reached gives) c.turn_by_kind.ensures.gives c.turn_by_kind.ensures.room
 
@@ -45,7 +49,7 @@ returns-clause-accepted c =
     let most = c.args.limits.now.max_nodes in
     let reached = c.graph-graph.ensures.reached in
     let found : find_record pid w.records ≡ Some r = sym c.in-Some.ensures in
-    let ready : is_ready w now r ≡ true = search rules in
+    let ready : is_ready w now r ≡ true = ready_itself w now pid r found c.is_ready.result c.is_ready.ensures c.if-not-is_ready.false in
     if_both c.turn_by_kind.result (TurnGives poll now w r a) (λ (ds : List Change). HasRoom most (applied w ds)) (IsAccepted w)
     (λ cs gives room. turn_is_accepted poll now pid w r a found ready cs reached gives most c.requires.limits.few_nodes room c.outputs_ascend.ensures) c.turn_by_kind.ensures.gives c.turn_by_kind.ensures.room
 
@@ -60,7 +64,7 @@ returns-clause-continues c =
     let most = c.args.limits.now.max_nodes in
     let reached = c.graph-graph.ensures.reached in
     let found : find_record pid w.records ≡ Some r = sym c.in-Some.ensures in
-    let ready : is_ready w now r ≡ true = search rules in
+    let ready : is_ready w now r ≡ true = ready_itself w now pid r found c.is_ready.result c.is_ready.ensures c.if-not-is_ready.false in
     if_both c.turn_by_kind.result (TurnGives poll now w r a) (λ (ds : List Change). HasRoom most (applied w ds)) (λ (cs : List Change). IsSound w → Continues w (applied w cs))
     (λ cs gives room. turn_continues poll now pid w r a found ready cs reached gives most c.requires.limits.few_nodes room) c.turn_by_kind.ensures.gives c.turn_by_kind.ensures.room
 
@@ -75,7 +79,7 @@ returns-clause-sound c =
     let most = c.args.limits.now.max_nodes in
     let reached = c.graph-graph.ensures.reached in
     let found : find_record pid w.records ≡ Some r = sym c.in-Some.ensures in
-    let ready : is_ready w now r ≡ true = search rules in
+    let ready : is_ready w now r ≡ true = ready_itself w now pid r found c.is_ready.result c.is_ready.ensures c.if-not-is_ready.false in
     if_both c.turn_by_kind.result (TurnGives poll now w r a) (λ (ds : List Change). HasRoom most (applied w ds)) (λ (cs : List Change). IsSound w → IsSound (applied w cs))
     (λ cs gives room. turn_sound poll now pid w r a found ready cs reached gives most c.requires.limits.few_nodes room) c.turn_by_kind.ensures.gives c.turn_by_kind.ensures.room
 
@@ -90,7 +94,7 @@ returns-clause-none c =
     let most = c.args.limits.now.max_nodes in
     let reached = c.graph-graph.ensures.reached in
     let found : find_record pid w.records ≡ Some r = sym c.in-Some.ensures in
-    let ready : is_ready w now r ≡ true = search rules in
+    let ready : is_ready w now r ≡ true = ready_itself w now pid r found c.is_ready.result c.is_ready.ensures c.if-not-is_ready.false in
     if_both c.turn_by_kind.result (TurnGives poll now w r a) (λ (ds : List Change). HasRoom most (applied w ds)) (λ (cs : List Change). NoneHolds (RefusesTurn poll w pid a now most))
     (λ cs gives room. turn_allowed poll now pid w r a found ready cs reached gives most c.requires.limits.few_nodes room) c.turn_by_kind.ensures.gives c.turn_by_kind.ensures.room
 
@@ -105,6 +109,6 @@ returns-clause-refused c =
     let most = c.args.limits.now.max_nodes in
     let reached = c.graph-graph.ensures.reached in
     let found : find_record pid w.records ≡ Some r = sym c.in-Some.ensures in
-    let ready : is_ready w now r ≡ true = search rules in
+    let ready : is_ready w now r ≡ true = ready_itself w now pid r found c.is_ready.result c.is_ready.ensures c.if-not-is_ready.false in
     IfErr-weaker c.turn_by_kind.result (FullOf (TurnGives poll now w r a) most w) (RefusesTurn poll w pid a now most)
     (turn_refused poll now pid w r a found ready most) c.turn_by_kind.ensures.refused

@@ -3,7 +3,7 @@ use Rattle.std.specs.Prelude.{List, ℕ, slice_get}
 use Rattle.std.specs.Option.{option_map}
 use Rattle.wc_state.specs.Context.{with_set}
 use Rattle.wc_world.proofs.Names.{set_next, names_next}
-use Rattle.wc_world.proofs.RecordedEnvironments.{Held, Entry, item_taken, item_lacks}
+use Rattle.wc_world.proofs.RecordedEnvironments.{Held, item_taken, item_lacks}
 use Rattle.wc_world.proofs.environments.items_of.Goals as goal
 
 pub returns-in_default : goal.returns-in_default

@@ -41,3 +41,21 @@ returns-in-Link-clause-world c = rw c.in-Link.is (ok_weaker c.take_link.result _
 pub returns-in-Link-clause-refused : goal.returns-in-Link-clause-refused
 returns-in-Link-clause-refused c =
     rw c.in-Link.is (err_weaker c.take_link.result _ _ (λ e h. ⊎_elim (λ memory. inl memory) (λ other. inr (λ s told. other s)) h) c.take_link.ensures.refused)
+
+pub returns-in-Library-clause-sets : goal.returns-in-Library-clause-sets
+returns-in-Library-clause-sets c = rw c.in-Library.is (ok_weaker c.take_library.result _ _ (λ h. tt) c.take_library.ensures.world)
+
+pub returns-in-Data-clause-sets : goal.returns-in-Data-clause-sets
+returns-in-Data-clause-sets c = rw c.in-Data.is (ok_weaker c.take_data.result _ _ (λ h. tt) c.take_data.ensures.world)
+
+pub returns-in-Process-clause-sets : goal.returns-in-Process-clause-sets
+returns-in-Process-clause-sets c = rw c.in-Process.is (ok_weaker c.take_process.result _ _ (λ h. tt) c.take_process.ensures.world)
+
+pub returns-in-Link-clause-sets : goal.returns-in-Link-clause-sets
+returns-in-Link-clause-sets c = rw c.in-Link.is (ok_weaker c.take_link.result _ _ (λ h. tt) c.take_link.ensures.world)
+
+pub returns-in-Count-clause-sets : goal.returns-in-Count-clause-sets
+returns-in-Count-clause-sets c = rw c.in-Count.is (ok_weaker c.take_count.result _ _ (λ h. tt) c.take_count.ensures.world)
+
+pub returns-in-Kept-clause-sets : goal.returns-in-Kept-clause-sets
+returns-in-Kept-clause-sets c = rw c.in-Kept.is (ok_weaker c.take_kept.result _ _ (λ h. tt) c.take_kept.ensures.world)

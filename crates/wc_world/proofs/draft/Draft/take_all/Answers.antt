@@ -12,7 +12,7 @@ loop-change-init c =
     record {
       can_next = tt;
       is_finite = tt;
-      leads = leads_as c.args.terms.now (drafted d) cs d cs _ items (leads_first c.args.terms.now d cs c.requires.ascending c.requires.settled);
+      leads = leads_as c.args.terms.now (drafted d) cs d cs _ items (leads_first c.args.terms.now d cs c.requires.ascending c.requires.awaits c.requires.settled);
     }
 
 pub loop-change-preserved : goal.loop-change-preserved
@@ -26,5 +26,5 @@ loop-change-preserved c =
     record {
       can_next = tt;
       is_finite = tt;
-      leads = leads_next t w c.args.changes d c.in-Some.change rest h c.take.new.self e.fits e.world e.touched;
+      leads = leads_next t w c.args.changes d c.in-Some.change rest h c.take.new.self e.sets e.fits e.world e.touched;
     }

@@ -71,3 +71,7 @@ loop-change-preserved c =
           remain_equal s final (after_change s.batch w c.in-Some.change) next more more cs cs after refl refl
           (remain_next s final w room more c.in-Some.change cs remain (c.apply_change.ensures.room cs remain.enough));
     }
+
+pub apply_change-requires-clause-awaits : goal.apply_change-requires-clause-awaits
+apply_change-requires-clause-awaits c =
+    c.loop-change.invariant.remain.awaits

@@ -2,6 +2,7 @@ use Rattle.std.proofs.Common.{ℕ, List, sym, subst}
 use Rattle.wc_world.specs.Applying.{world_of}
 use Rattle.wc_world.specs.Drafts.{AreSettledBut}
 use Rattle.wc_world.proofs.Ascents.{reached_ascends}
+use Rattle.wc_world.proofs.Awaiting.{reached_awaits}
 use Rattle.wc_world.proofs.Played.{reached_settled}
 use Rattle.wc_world.proofs.Unsettled.{settled_first}
 use Rattle.wc_world.proofs.world.World.begin.Goals as goal
@@ -10,6 +11,11 @@ pub returns-clause-ascending : goal.returns-clause-ascending
 returns-clause-ascending c =
     let i = c.self.inside in
     reached_ascends (world_of i.graph i.records i.libraries i.batches) c.self.invariant
+
+pub returns-clause-awaits : goal.returns-clause-awaits
+returns-clause-awaits c =
+    let i = c.self.inside in
+    reached_awaits (world_of i.graph i.records i.libraries i.batches) c.self.invariant
 
 pub returns-clause-settled : goal.returns-clause-settled
 returns-clause-settled c =

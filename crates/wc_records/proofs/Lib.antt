@@ -1,0 +1,17 @@
+pub mod Halving
+pub mod Marks
+pub mod Standing
+pub mod Orders
+pub mod Passed
+pub mod Chosen
+pub mod Finding
+pub mod Counted
+pub mod DueMoments
+pub mod Setting
+pub mod Growing
+pub mod Keeping
+pub mod Firsts
+pub mod Moments
+pub mod Joined
+pub mod Parted
+pub mod Waiting

@@ -1,0 +1,4 @@
+mod Deciding
+mod Links
+mod Changes
+mod Holding

@@ -11,7 +11,7 @@ use Rattle.clap.specs.Faults.{turn_fault, walk_fault, flags_fault, defaults_faul
 use Rattle.clap.specs.Kinds.{Kinds, or_else}
 use Rattle.clap.specs.declared.error.kind.ErrorKind.TheVariants as kind
 use Rattle.wc_cli.specs.declared.command.Command.{Command}
-use Rattle.wc_cli.specs.Words.{Line, Values, line_of, are_of, value_of, options_of, dry_of, check_of, submit_of, run_of, alone, one_number, with_number, named_command, command_in, command_of}
+use Rattle.wc_cli.specs.Words.{Line, Values, line_of, are_of, value_of, options_of, dry_of, check_of, submit_of, run_of, drill_of, alone, one_number, with_number, named_command, command_in, command_of}
 use Rattle.wc_cli.specs.declared.command.Command.TheVariants.{Init, View, Pack}
 use Rattle.wc_cli.specs.declared.command.View.TheVariants as view
 use Rattle.wc_cli.specs.Line as set
@@ -25,7 +25,7 @@ use Rattle.wc_cli.proofs.Tops.{top, ready_app, names, fault_at, name_unknown, le
 
 abbrev commands : List Text
 commands = codes "dry" ∷ codes "submit" ∷ codes "run" ∷ codes "check" ∷ codes "init" ∷ codes "list" ∷ codes "tree" ∷ codes "show" ∷ codes "graph" ∷ codes "pause" ∷ codes "play" ∷ codes "kill"
-    ∷ codes "pack" ∷ codes "verify" ∷ []
+    ∷ codes "pack" ∷ codes "verify" ∷ codes "drill" ∷ []
 
 built_line : built set.line_app ≡ ready_app commands
 built_line = refl
@@ -53,7 +53,7 @@ others word (name ∷ names) k = go (bytes_eq word name) refl (others word names
 unknown_command : (word : Text) (operands : List Text) (value : Values) → known commands word ≡ false → named_command word operands value ≡ None
 unknown_command word operands value k =
     let a : AreOther word commands = others word commands k in
-    rw (a.0, a.1.1.1.0, a.1.0, a.1.1.0, a.1.1.1.1.0, a.1.1.1.1.1.0, a.1.1.1.1.1.1.1.1.0, a.1.1.1.1.1.1.1.1.1.1.1.1.0, a.1.1.1.1.1.1.1.1.1.1.1.1.1.0)
+    rw (a.0, a.1.1.1.0, a.1.0, a.1.1.0, a.1.1.1.1.0, a.1.1.1.1.1.0, a.1.1.1.1.1.1.1.1.0, a.1.1.1.1.1.1.1.1.1.1.1.1.0, a.1.1.1.1.1.1.1.1.1.1.1.1.1.0, a.1.1.1.1.1.1.1.1.1.1.1.1.1.1.0)
     (go (one_number operands) (bytes_eq word (codes "tree")) (bytes_eq word (codes "show")) (bytes_eq word (codes "pause")) (bytes_eq word (codes "play")) (bytes_eq word (codes "kill"))
     a.1.1.1.1.1.1.0 a.1.1.1.1.1.1.1.0 a.1.1.1.1.1.1.1.1.1.0 a.1.1.1.1.1.1.1.1.1.1.0 a.1.1.1.1.1.1.1.1.1.1.1.0)
   where
@@ -175,6 +175,7 @@ chosen word operands dry submit run =
     else if bytes_eq word (codes "graph") then alone (View view.Graph) operands
     else if bytes_eq word (codes "pack") then alone Pack operands
     else if bytes_eq word (codes "verify") then alone (View view.Verify) operands
+    else if bytes_eq word (codes "drill") then drill_of operands
     else option_and_then (with_number word) (one_number operands)
 
 named_same : (word : Text) (rows : List Row) (l : Line) → Says rows l → named_command word (set.operands_in rows) (set.values_in rows) ≡ named_command word l.operands (λ name. value_of name l.options)

@@ -59,7 +59,7 @@ with_views_app = with_plain (with_plain (with_plain (with_plain with_store_app (
 
 -- the whole command line
 abbrev pub line_app : App
-line_app = with_plain (with_plain (with_plain with_views_app (codes "kill")) (codes "pack")) (codes "verify")
+line_app = with_plain (with_plain (with_plain (with_plain with_views_app (codes "kill")) (codes "pack")) (codes "verify")) (codes "drill")
 
 -- ---- what `clap` has read
 

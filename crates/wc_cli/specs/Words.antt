@@ -5,7 +5,7 @@ use Rattle.std.specs.List.{position_or_len, before_first, after_first, list_all,
 use Rattle.std.specs.Str.{bytes_eq}
 use Rattle.std.specs.Str.Parse.{digits_value}
 use Rattle.wc_cli.specs.declared.command.Command.{Command}
-use Rattle.wc_cli.specs.declared.command.Command.TheVariants.{Check, Dry, Init, Submit, Run, View, Pause, Play, Kill, Pack}
+use Rattle.wc_cli.specs.declared.command.Command.TheVariants.{Check, Dry, Init, Submit, Run, View, Pause, Play, Kill, Pack, Drill}
 use Rattle.wc_cli.specs.declared.command.View.TheVariants as view
 
 -- ---- a word PORT=VALUE
@@ -174,6 +174,15 @@ abbrev pub one_number : List (List ℕ) → Option ℕ
 one_number (n ∷ []) = number_of n
 one_number _ = None
 
+abbrev pub drill_with : Option ℕ → Option ℕ → Option Command
+drill_with (Some seed) (Some count) = Some (Drill seed count)
+drill_with _ _ = None
+
+-- `drill SEED N`
+abbrev pub drill_of : List (List ℕ) → Option Command
+drill_of (seed ∷ count ∷ []) = drill_with (within 0 2147483647 (digits_of seed)) (within 0 10000 (digits_of count))
+drill_of _ = None
+
 -- a command that takes no operands
 abbrev pub alone : Command → List (List ℕ) → Option Command
 alone c [] = Some c
@@ -201,6 +210,7 @@ named_command word operands value =
     else if bytes_eq word (codes "graph") then alone (View view.Graph) operands
     else if bytes_eq word (codes "pack") then alone Pack operands
     else if bytes_eq word (codes "verify") then alone (View view.Verify) operands
+    else if bytes_eq word (codes "drill") then drill_of operands
     else option_and_then (with_number word) (one_number operands)
 
 -- the command with this name and line, where it has the options of the line

@@ -5,7 +5,7 @@ ghost use Rattle.std.specs.List.{list_all};
 ghost use Rattle.std.specs.Str.{is_utf8};
 ghost use Rattle.clap.specs.Words.{all_of, found_of, rows_of, subcommand_rows_of};
 ghost use Rattle.wc_cli.specs.Line.{operand_id, operands_in, values_in, command_met};
-ghost use Rattle.wc_cli.specs.Words.{cut_word, cut_all, digits_of, within, number_up_to, number_of, dry_of, check_of, submit_of, run_of, one_number, with_number, alone, named_command, command_of};
+ghost use Rattle.wc_cli.specs.Words.{cut_word, cut_all, digits_of, within, number_up_to, number_of, dry_of, check_of, submit_of, run_of, drill_of, one_number, with_number, alone, named_command, command_of};
 
 use crate::line::{OPERAND, matches_of};
 use clap::ArgMatches;
@@ -26,6 +26,9 @@ const TURNS: u64 = 1_000_000;
 
 /// The greatest seed.
 const MOST_SEED: u64 = 2_147_483_647;
+
+/// The most chains that a drill may run.
+const MOST_CHAINS: u64 = 10_000;
 
 /// A word `PORT=VALUE`, cut at its first `=`.
 pub type Given = (Text, Text);
@@ -121,6 +124,13 @@ pub enum Command {
     },
     /// `pack`: the store written anew in its shortest form.
     Pack,
+    /// `drill SEED N`: a new store, in which generated chains run to their end.
+    Drill {
+        /// What the numbers of the chains are drawn from.
+        seed: u32,
+        /// How many chains.
+        count: u32,
+    },
 }
 
 /// A text cut at its first `=`, if it has one.
@@ -314,6 +324,24 @@ fn run_command(
     }
 }
 
+/// The command `drill` with these operands.
+fn drill_command(operands: &[Text]) -> Option<Command>
+    ensures { result ≡ drill_of operands.now }
+{
+    let [seed, count] = operands else {
+        return None;
+    };
+    let seed = number_within(seed.as_str(), 0, MOST_SEED);
+    let count = number_within(count.as_str(), 0, MOST_CHAINS);
+    match (seed, count) {
+        (Some(seed), Some(count)) => Some(Command::Drill {
+            seed: seed as u32,
+            count: count as u32,
+        }),
+        _ => None,
+    }
+}
+
 /// The number of a node or a process, where it is the one operand.
 fn numbered(operands: &[Text]) -> Option<u32>
     ensures { result ≡ one_number operands.now }
@@ -365,6 +393,7 @@ fn named(alloc: Global, word: &str, matches: &ArgMatches) -> Result<Option<Comma
         "graph" => Ok(alone(Command::View(View::Graph), operands)),
         "pack" => Ok(alone(Command::Pack, operands)),
         "verify" => Ok(alone(Command::View(View::Verify), operands)),
+        "drill" => Ok(drill_command(operands)),
         _ => match numbered(operands) {
             Some(number) => Ok(numbered_command(word, number)),
             None => Ok(None),

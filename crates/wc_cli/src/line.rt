@@ -168,7 +168,8 @@ fn whole<'a>(alloc: Global) -> Result<Command<'a>, AllocError>
     let to_kill = with_plain(alloc, line, "kill")?;
     let to_pack = with_plain(alloc, to_kill, "pack")?;
     let to_verify = with_plain(alloc, to_pack, "verify")?;
-    Ok(to_verify)
+    let to_drill = with_plain(alloc, to_verify, "drill")?;
+    Ok(to_drill)
 }
 
 /// Whether memory ran out.

@@ -1,5 +1,5 @@
 -- What is acknowledged stands.
-use Rattle.std.proofs.Common.{◌≡◌, inl, inr, ⊎_elim, ℕ, List, [], Option, Some, None, Result, Ok, Err, IsTrue, sym, ap, subst, ◌∙◌}
+use Rattle.std.proofs.Common.{◌≡◌, ◌≤◌, inl, inr, ⊎_elim, ℕ, List, [], Option, Some, None, Result, Ok, Err, IsTrue, sym, ap, subst, ◌∙◌, arith}
 use Rattle.wc_disk.specs.declared.disk.Disk as disk
 use Rattle.wc_journal.specs.declared.error.Found.{Found}
 use Rattle.wc_state.specs.declared.record.What.{What}
@@ -10,9 +10,11 @@ use Rattle.wc_core.proofs.Happening.{after_some}
 use Rattle.wc_store.specs.Held.{Standing, nothing, damage, a_world}
 use Rattle.wc_store.specs.Laws.{HeldIsReached}
 use Rattle.wc_state.specs.Ranges.{AreLimits}
+use Rattle.wc_runner.specs.declared.running.RunEnd.{RunEnd}
+use Rattle.wc_runner.specs.declared.running.RunEnd.TheVariants.{AllEnded, Spent, Resting}
 use Rattle.wc_config.specs.declared.settings.Settings.{Settings}
 use Rattle.wc_cli.specs.declared.command.Command.{Command}
-use Rattle.wc_cli.specs.declared.command.Command.TheVariants.{Dry, Check, Init, Submit, Run, View, Pause, Play, Kill, Pack}
+use Rattle.wc_cli.specs.declared.command.Command.TheVariants.{Dry, Check, Init, Submit, Run, View, Pause, Play, Kill, Pack, Drill}
 use Rattle.wc_cli.specs.Words.{command_of}
 use Rattle.wc_engine.specs.declared.deed.Asked.TheVariants as asked
 use Rattle.wc_engine.specs.declared.deed.Begin.TheVariants as begin
@@ -31,9 +33,10 @@ use Rattle.wc_engine.specs.declared.submission.Prepared.{Prepared}
 use Rattle.wc_engine.specs.declared.submission.Prepared.TheVariants as prepared
 use Rattle.wc_engine.specs.Crashes.{AreDurable, Stands}
 use Rattle.wc_engine.specs.Owed.{visit, OwedPlan, IsOwed, NeedDisks}
-use Rattle.wc_engine.specs.Plans.{Plans, PlansSubmission, IsReadyDeed, IsReadyWork, plan_of_prepared, plan_of_run}
+use Rattle.wc_engine.specs.Plans.{Plans, PlansSubmission, IsReadyDeed, IsReadyWork, chains_of, plan_of_prepared, plan_of_run}
 use Rattle.wc_engine.specs.Replies.{refuses, IsDoneOrFull, OwesStatus, Writes}
 use Rattle.wc_engine.specs.Events.{TellsAlone}
+use Rattle.wc_engine.specs.Drilling.{EndsAt, HasEnded, IsToldDrilled, has_drilled}
 use Rattle.wc_engine.specs.Rows.{HasHappened, row, work_row}
 use Rattle.wc_engine.specs.Stored.{Images, Hold, is_damaged, is_full}
 use Rattle.wc_engine.specs.Settings.{SettingsReady, submitted_with}
@@ -78,6 +81,9 @@ run_ready : (turns seed : ℕ) (s : Result Settings Cause) (d : Deed) → Settin
 run_ready turns seed (Err c) d limits is = absurd (cc)
 run_ready turns seed (Ok t) d limits is = subst IsReadyDeed (same_deed d _ is) limits
 
+few_chains : (count : ℕ) → chains_of count ≤ 10000
+few_chains count = grind arith
+
 plan_ready : (told : Option (List ℕ → Option (List ℕ))) (command : Option Command) (d : Deed) → Plans told command (plan.On d) → IsReadyDeed d
 plan_ready told None d p = absurd (cc)
 plan_ready told (Some (Check file)) d p = absurd (cc p.2)
@@ -91,6 +97,7 @@ plan_ready told (Some (Kill pid)) d p = subst IsReadyDeed (same_deed d _ p) tt
 plan_ready told (Some (Run turns seed settings)) d p = run_ready turns seed p.0 d (settings_ready told settings p.0 p.1) p.2
 plan_ready told (Some (View v)) d p = subst IsReadyDeed (same_deed d _ p) tt
 plan_ready told (Some Pack) d p = subst IsReadyDeed (same_deed d _ p) tt
+plan_ready told (Some (Drill seed count)) d p = subst IsReadyDeed (same_deed d (deed.Begin (begin.Drill seed (chains_of count))) p) (few_chains count)
 
 -- ---- what was done
 
@@ -121,11 +128,24 @@ work_acknowledged law (work.Event a) ready before w after r held ok (inr u) = �
 work_acknowledged law (work.Run o) ready before w after r held ok runs = (runs.later, runs.held, tt)
 work_acknowledged law work.Pack ready before w after r held ok packs = (w, packs.0, tt)
 
+-- a drill whose status is Ok has run to its end
+drill_ended : (seed count : ℕ) (w : World) (r : Reply) → HasEnded seed count w r → r.status ≡ status.Ok → IsToldDrilled seed count r.text w
+drill_ended seed count w r h ok = ended h.end h.ends h.reply
+  where
+    ended : (e : RunEnd) → EndsAt seed count w e → r ≡ has_drilled seed count w e → IsToldDrilled seed count r.text w
+    ended AllEnded ends reply = (ends, ap (λ (x : Reply). x.text) reply)
+    ended Spent ends reply = let both : status.Spent ≡ status.Ok = sym (ap (λ (x : Reply). x.status) reply) ∙ ok in absurd (cc)
+    ended Resting ends reply = let both : status.Resting ≡ status.Ok = sym (ap (λ (x : Reply). x.status) reply) ∙ ok in absurd (cc)
+
 row_acknowledged : HeldIsReached → (d : Deed) → IsReadyDeed d → (before : Images) (s : Standing) (after : Images) (r : Reply) → Hold before s → r.status ≡ status.Ok
     → (row d).does before s after r → HoldsAcknowledged after ((row d).acknowledges r.text)
 row_acknowledged law (deed.Begin begin.Init) ready before nothing after r held ok at = (empty, at.0.held, tt)
 row_acknowledged law (deed.Begin begin.Init) ready before (damage disk place found) after r held ok at = absurd (not_damaged disk place found r at.1 ok)
 row_acknowledged law (deed.Begin begin.Init) ready before (a_world w) after r held ok at = absurd (not_refused cause.StoreExists r at.1 ok)
+row_acknowledged law (deed.Begin (begin.Drill seed count)) ready before nothing after r held ok at =
+    (at.world, at.held, ⊎_elim (λ ended. drill_ended seed count at.world r ended ok) (λ full. absurd (not_full full.2.what full.2.many full.2.limit r full.2.reply ok)) at.ends)
+row_acknowledged law (deed.Begin (begin.Drill seed count)) ready before (damage disk place found) after r held ok at = absurd (not_damaged disk place found r at.1 ok)
+row_acknowledged law (deed.Begin (begin.Drill seed count)) ready before (a_world w) after r held ok at = absurd (not_refused cause.StoreExists r at.1 ok)
 row_acknowledged law (deed.Work k) ready before nothing after r held ok at = absurd (not_refused cause.NoStore r at.1 ok)
 row_acknowledged law (deed.Work k) ready before (damage disk place found) after r held ok at = absurd (not_damaged disk place found r at.1 ok)
 row_acknowledged law (deed.Work k) ready before (a_world w) after r held ok at = work_acknowledged law k ready before w after r held ok at

@@ -1,8 +1,7 @@
 -- What each pair of images holds at any moment and at exit.
 use Rattle.std.proofs.Common.{◌≡◌, ◌≤◌, inl, inr, ⊎_elim, ℕ, List, Option, sym, subst}
 use Rattle.wc_disk.specs.declared.disk.Disk as disk
-use Rattle.wc_world.specs.World.{World, empty}
-use Rattle.wc_machine.specs.Laws.{EmptyIsSound}
+use Rattle.wc_world.specs.World.{World}
 use Rattle.wc_machine.specs.Sound.{IsSound}
 use Rattle.wc_store.specs.Held.{IsHeld, nothing, a_world}
 use Rattle.wc_store.specs.Laws.{HeldIsOne}
@@ -27,12 +26,12 @@ keeping_sound law makes one two a b w (inr sound) held keeping =
     inr (keeping.0, keeping.1, (keeping.3 (subst IsSound same sound.2)).sound)
 
 module _ {D : Type 0} (g : disk.Ghosts D) where
-  kept_sound : HeldIsOne → EmptyIsSound → (begins : Type 0) (makes : World → World → Type 0) (one two : D) (a b : List ℕ) → EachPair g one two HoldsSound
+  kept_sound : HeldIsOne → (begins : World → Type 0) (makes : World → World → Type 0) (one two : D) (a b : List ℕ) → EachPair g one two HoldsSound
       → g.may_leave one (g.seen one) → g.may_leave two (g.seen two) → Kept g begins makes one two a b → HoldsSound a b
-  kept_sound law sound begins makes one two a b entry reads reads_too (inl was) = entry a b was.0 was.1
-  kept_sound law sound begins makes one two a b entry reads reads_too (inr (inl begun)) =
-      ⊎_elim (λ none. inl none) (λ held. inr (empty, held, sound)) begun.1.held
-  kept_sound law sound begins makes one two a b entry reads reads_too (inr (inr h)) =
+  kept_sound law begins makes one two a b entry reads reads_too (inl was) = entry a b was.0 was.1
+  kept_sound law begins makes one two a b entry reads reads_too (inr (inl begun)) =
+      ⊎_elim (λ none. inl none) (λ h. inr (h.0, h.1, h.3.sound)) begun.held
+  kept_sound law begins makes one two a b entry reads reads_too (inr (inr h)) =
       keeping_sound law makes (g.seen one) (g.seen two) a b h.0 (entry (g.seen one) (g.seen two) reads reads_too) h.1 h.2
 
   pub durable_same : (one two : D) → AreDurable g one two → EachPair g one two (HoldsTheSame g one two)
@@ -40,12 +39,12 @@ module _ {D : Type 0} (g : disk.Ghosts D) where
       subst (λ (x : List ℕ). IsHeld a x s) (sym (durable.durable_two b left_too))
       (subst (λ (x : List ℕ). IsHeld x (g.seen two) s) (sym (durable.durable_one a left)) held)
 
-  pub stay_sound : HeldIsOne → EmptyIsSound → ((d : D) (image : List ℕ) → g.left_since d (g.moment d) image → g.may_leave d image)
+  pub stay_sound : HeldIsOne → ((d : D) (image : List ℕ) → g.left_since d (g.moment d) image → g.may_leave d image)
       → ((d : D) (t : ℕ) (image : List ℕ) → t ≤ g.moment d → g.may_leave d image → g.left_since d t image)
       → (told : Option (List ℕ → Option (List ℕ))) (words : List (List ℕ)) (one two one_new two_new : D) (result : Status) → EachPair g one two HoldsSound
       → g.may_leave one (g.seen one) → g.may_leave two (g.seen two) → LeavesMade g told words one two one_new two_new
       → ((disk at : ℕ) (found : Option ℕ) → result ≡ status.Damaged disk at found → ⊥) → ((f : Fault) → result ≡ status.Unsound f → ⊥) → StaySound g one two one_new two_new result
-  stay_sound law sound at_now counts told words one two one_new two_new result entry reads reads_too made whole faultless =
+  stay_sound law at_now counts told words one two one_new two_new result entry reads reads_too made whole faultless =
       let moments = weaker_moments g at_now counts one two one_new two_new (Kept g (BegunBy told words) (MadeBy told words) one two) HoldsSound
-      (λ a b. kept_sound law sound (BegunBy told words) (MadeBy told words) one two a b entry reads reads_too) made in
+      (λ a b. kept_sound law (BegunBy told words) (MadeBy told words) one two a b entry reads reads_too) made in
       record { moments = moments; exit = exit_moments g at_now counts one two one_new two_new HoldsSound moments; whole = whole; faultless = faultless }

@@ -2,27 +2,30 @@
 use Rattle.std.proofs.Common.{◌≡◌, ◌≤◌, inl, inr, ⊎_elim, ℕ, List, Result, refl, sym, subst}
 use Rattle.wc_disk.specs.declared.disk.Disk as disk
 use Rattle.wc_disk.specs.Images.{LeavesOnly}
-use Rattle.wc_disk.proofs.Runs.{no_call, both_runs}
+use Rattle.wc_disk.proofs.Runs.{no_call, both_runs, weaker_run}
 use Rattle.wc_state.specs.declared.record.Limits.{Limits}
-use Rattle.wc_world.specs.World.{World}
-use Rattle.wc_world.specs.Accepted.{IsReached}
+use Rattle.wc_world.specs.World.{World, empty}
+use Rattle.wc_world.specs.Accepted.{IsReached, nothing}
+use Rattle.wc_machine.proofs.EmptyWorld.{empty_is_sound}
 use Rattle.wc_store.specs.declared.error.StoreError.{StoreError}
 use Rattle.wc_store.specs.declared.store.Store.{Store}
 use Rattle.wc_store.specs.Held.{Standing, IsHeld, a_world}
 use Rattle.wc_store.specs.declared.place.Place.{Place}
 use Rattle.wc_store.specs.declared.place.Place.TheVariants.{One, Two}
 use Rattle.wc_store.specs.Places.{its}
-use Rattle.wc_store.specs.Stores.{other, StandsFor, CommitLeaves, PackLeaves, InTwoParts, AreImages, HoldsOneOf, InitLeaves}
+use Rattle.wc_store.specs.Stores.{other, StandsFor, CommitLeaves, PackLeaves, InTwoParts, AreImages, HoldsOneOf, BeginsFrom, InitLeaves}
 use Rattle.wc_store.proofs.Parts.{then_none, then_commit, then_pack, then_worlds, weaker_parts, one_part, OfInit, init_parts}
 use Rattle.wc_store.specs.Laws.{HeldIsReached}
-use Rattle.wc_runner.specs.Laws.{TurnsKeepSound, WorldsContinueThemselves}
+use Rattle.wc_runner.specs.Laws.{StaysSound, TurnsKeepSound, WorldsContinueThemselves}
+use Rattle.wc_runner.proofs.Continuing.{continues_itself}
 use Rattle.wc_runner.specs.Leaves.{LeavesWorlds, SomeTurns}
 use Rattle.wc_runner.specs.Outside.{Outside}
-use Rattle.wc_engine.specs.Crashes.{Keeps, HoldsKeeping, Kept, WritesOne, LeavesPairs, LeavesKept}
+use Rattle.wc_engine.specs.Crashes.{Keeps, HoldsKeeping, ComesOfNothing, Kept, WritesOne, LeavesPairs, LeavesKept}
 use Rattle.wc_engine.specs.declared.deed.RunOptions.{RunOptions}
 use Rattle.wc_engine.specs.Running.{widest}
+use Rattle.wc_engine.proofs.Moments.{at_moments}
 use Rattle.wc_engine.proofs.Widening.{some_turns}
-use Rattle.wc_engine.specs.Rows.{Stays, TakesSome}
+use Rattle.wc_engine.specs.Rows.{IsEmpty, Stays, TakesSome}
 
 keeps_itself : WorldsContinueThemselves → (w : World) → IsReached w → Keeps w w
 keeps_itself law w reached sound = record { sound = sound; continues = law w reached; reached = reached }
@@ -30,6 +33,22 @@ keeps_itself law w reached sound = record { sound = sound; continues = law w rea
 pub images_hold : (one two a b : List ℕ) (s : Standing) → IsHeld one two s → AreImages one two a b → IsHeld a b s
 images_hold one two a b s held are =
     subst (λ (x : List ℕ). IsHeld a x s) (sym are.1) (subst (λ (x : List ℕ). IsHeld x two s) (sym are.0) held)
+
+-- ---- a store that is begun
+
+-- the empty world is sound
+empty_stays : StaysSound empty empty
+empty_stays = record { sound = empty_is_sound; continues = continues_itself empty nothing; reached = nothing }
+
+-- a store is begun with the empty world
+begins_empty : (one two a b : List ℕ) → BeginsFrom one two a b → ComesOfNothing IsEmpty one two a b
+begins_empty one two a b begins = record {
+  before = begins.before;
+  some = (empty, refl);
+  held = ⊎_elim (λ none. inl none) (λ held. inr (empty, held, refl, empty_stays)) begins.held;
+}
+
+-- ---- what is left
 
 module _ {D : Type 0} (g : disk.Ghosts D) (at_now : (d : D) (image : List ℕ) → g.left_since d (g.moment d) image → g.may_leave d image) where
   none_asked : (d : D) → LeavesOnly g d d (g.may_leave d)
@@ -109,16 +128,17 @@ module _ {D : Type 0} (g : disk.Ghosts D) (at_now : (d : D) (image : List ℕ) �
 
   module _ (counts : (d : D) (t : ℕ) (image : List ℕ) → t ≤ g.moment d → g.may_leave d image → g.left_since d t image) where
     -- a call that writes nothing
-    pub unwritten : (begins : Type 0) (makes : World → World → Type 0) (one two one_new two_new : D) → LeavesOnly g one one_new (g.may_leave one)
+    pub unwritten : (begins : World → Type 0) (makes : World → World → Type 0) (one two one_new two_new : D) → LeavesOnly g one one_new (g.may_leave one)
         → LeavesOnly g two two_new (g.may_leave two) → LeavesKept g begins makes one two one_new two_new
-    unwritten begins makes one two one_new two_new first second = record {
-      parts = weaker_parts g at_now one two one_new two_new (λ a b. g.may_leave one a × g.may_leave two b) (Kept g begins makes one two)
-          (one_part g at_now counts one two one_new two_new (record { only_one = first; only_two = second })) (λ a b was. inl was);
-      one_writes = inl first;
-    }
+    unwritten begins makes one two one_new two_new first second =
+        inl (record {
+          rest_only = first;
+          own_only = weaker_run g two two_new (g.may_leave two) (λ b. (a : List ℕ) → g.may_leave one_new a → Kept g begins makes one two a b) second
+              (λ b left a now. inl (first.each a (counts one_new (g.moment one) a first.later now), left));
+        })
 
     -- a call that asks no disk
-    pub unasked : (begins : Type 0) (makes : World → World → Type 0) (one two : D) → LeavesKept g begins makes one two one two
+    pub unasked : (begins : World → Type 0) (makes : World → World → Type 0) (one two : D) → LeavesKept g begins makes one two one two
     unasked begins makes one two = unwritten begins makes one two one two (none_asked one) (none_asked two)
 
     -- a disk is read, and then not written
@@ -143,22 +163,27 @@ module _ {D : Type 0} (g : disk.Ghosts D) (at_now : (d : D) (image : List ℕ) �
     }
 
     -- a call that reads a world, and then leaves worlds that keep it
-    pub goes_on : (begins : Type 0) (makes : World → World → Type 0) (w : World) (one two one_mid two_mid one_new two_new : D) → IsHeld (g.seen one) (g.seen two) (a_world w)
+    pub goes_on : (begins : World → Type 0) (makes : World → World → Type 0) (w : World) (one two one_mid two_mid one_new two_new : D) → IsHeld (g.seen one) (g.seen two) (a_world w)
         → LeavesOnly g one one_mid (g.may_leave one) → LeavesOnly g two two_mid (g.may_leave two)
         → LeavesPairs g one_mid two_mid one_new two_new (HoldsKeeping makes w) → LeavesKept g begins makes one two one_new two_new
-    goes_on begins makes w one two one_mid two_mid one_new two_new held first second leaves = record {
-      parts = weaker_parts g at_now one two one_new two_new (HoldsKeeping makes w) (Kept g begins makes one two)
-          (after_reading (HoldsKeeping makes w) one two one_mid two_mid one_new two_new first second leaves.parts) (λ a b keeps. inr (inr (w, held, keeps)));
-      one_writes = ⊎_elim (λ still. inl (read_on one one_mid one_new first still)) (λ still. inr (read_on two two_mid two_new second still)) leaves.one_writes;
-    }
+    goes_on begins makes w one two one_mid two_mid one_new two_new held first second leaves =
+        at_moments g at_now counts one two one_new two_new (Kept g begins makes one two) (λ a b la lb. inl (la, lb))
+        (record {
+          parts = weaker_parts g at_now one two one_new two_new (HoldsKeeping makes w) (Kept g begins makes one two)
+              (after_reading (HoldsKeeping makes w) one two one_mid two_mid one_new two_new first second leaves.parts) (λ a b keeps. inr (inr (w, held, keeps)));
+          one_writes = ⊎_elim (λ still. inl (read_on one one_mid one_new first still)) (λ still. inr (read_on two two_mid two_new second still)) leaves.one_writes;
+        })
 
     -- `init`
     pub begun : (result : Result Store StoreError) (one two one_new two_new : D) → g.may_leave one (g.seen one) → g.may_leave two (g.seen two)
-        → InitLeaves g result one two one_new two_new → LeavesOnly g two two_new (g.may_leave two) → LeavesKept g (Unit {0}) Stays one two one_new two_new
-    begun result one two one_new two_new reads reads_too leaves second = record {
-      parts = weaker_parts g at_now one two one_new two_new (OfInit g at_now counts one two) (Kept g (Unit {0}) Stays one two)
-          (init_parts g at_now counts result one two one_new two_new leaves)
-          (λ a b. ⊎_elim (λ was. inl was)
-          (⊎_elim (λ are. inl (subst (g.may_leave one) (sym are.0) reads, subst (g.may_leave two) (sym are.1) reads_too)) (λ begins. inr (inl (tt, begins)))));
-      one_writes = inr second;
-    }
+        → InitLeaves g result one two one_new two_new → LeavesOnly g two two_new (g.may_leave two) → LeavesKept g IsEmpty Stays one two one_new two_new
+    begun result one two one_new two_new reads reads_too leaves second =
+        at_moments g at_now counts one two one_new two_new (Kept g IsEmpty Stays one two) (λ a b la lb. inl (la, lb))
+        (record {
+          parts = weaker_parts g at_now one two one_new two_new (OfInit g at_now counts one two) (Kept g IsEmpty Stays one two)
+              (init_parts g at_now counts result one two one_new two_new leaves)
+              (λ a b. ⊎_elim (λ was. inl was)
+              (⊎_elim (λ are. inl (subst (g.may_leave one) (sym are.0) reads, subst (g.may_leave two) (sym are.1) reads_too))
+              (λ begins. inr (inl (begins_empty (g.seen one) (g.seen two) a b begins)))));
+          one_writes = inr second;
+        })

@@ -16,8 +16,9 @@ pub mod Widening
 pub mod Turns
 pub mod Undone
 pub mod Unwriting
-pub mod Leaving
 pub mod Moments
+pub mod Leaving
+pub mod Drilled
 pub mod Viewing
 pub mod Shaping
 pub mod Replied

@@ -7,7 +7,7 @@ use Rattle.wc_store.specs.Stores.{InTwoParts}
 use Rattle.wc_cli.specs.Words.{command_of}
 use Rattle.wc_engine.specs.declared.deed.Deed.{Deed}
 use Rattle.wc_engine.specs.declared.deed.Plan.TheVariants as plan
-use Rattle.wc_engine.specs.Crashes.{EachPair, LeavesPairs, LeavesKept, Kept, OneSide, AtAnyMoment, BegunBy, MadeBy, LeavesMade}
+use Rattle.wc_engine.specs.Crashes.{EachPair, LeavesPairs, LeavesKept, ComesOfNothing, Kept, OneSide, AtAnyMoment, BegunBy, MadeBy, LeavesMade}
 use Rattle.wc_engine.specs.Plans.{Plans}
 use Rattle.wc_engine.specs.Rows.{row}
 
@@ -49,7 +49,7 @@ module _ {D : Type 0} (g : disk.Ghosts D) (at_now : (d : D) (image : List ℕ) �
       entered : (a : List ℕ) → g.may_leave one_new a → g.may_leave one a
       entered a now = still.each a (counts one_new (g.moment one) a still.later now)
 
-  at_moments : (one two one_new two_new : D) (P : List ℕ → List ℕ → Type 0) → ((a b : List ℕ) → g.may_leave one a → g.may_leave two b → P a b)
+  pub at_moments : (one two one_new two_new : D) (P : List ℕ → List ℕ → Type 0) → ((a b : List ℕ) → g.may_leave one a → g.may_leave two b → P a b)
       → LeavesPairs g one two one_new two_new P → AtAnyMoment g one two one_new two_new P
   at_moments one two one_new two_new P entry leaves =
       ⊎_elim (λ still. inl (one_side one two one_new two_new P entry still leaves.parts))
@@ -94,11 +94,20 @@ module _ {D : Type 0} (g : disk.Ghosts D) (at_now : (d : D) (image : List ℕ) �
     pub made_unasked : (one two : D) → LeavesMade g told words one two one two
     made_unasked one two = unasked_moments one two (Kept g (BegunBy told words) (MadeBy told words) one two) (λ a b la lb. inl (la, lb))
 
+    -- what a deed begins is begun by the words that plan it
+    begun_by : (d : Deed) (one two a b : List ℕ) → Plans told (command_of words) (plan.On d) → ComesOfNothing (row d).begins one two a b
+        → ComesOfNothing (BegunBy told words) one two a b
+    begun_by d one two a b plans begun = record {
+      before = begun.before;
+      some = (begun.some.0, (d, plans, begun.some.1));
+      held = ⊎_elim (λ none. inl none) (λ h. inr (h.0, h.1, (d, plans, h.2), h.3)) begun.held;
+    }
+
     pub made : (d : Deed) (one two one_new two_new : D) → Plans told (command_of words) (plan.On d) → LeavesKept g (row d).begins (row d).makes one two one_new two_new
         → LeavesMade g told words one two one_new two_new
     made d one two one_new two_new plans leaves =
         weaker_moments one two one_new two_new (Kept g (row d).begins (row d).makes one two) (Kept g (BegunBy told words) (MadeBy told words) one two)
         (λ a b. ⊎_elim (λ was. inl was)
-        (⊎_elim (λ begun. inr (inl ((d, plans, begun.0), begun.1)))
+        (⊎_elim (λ begun. inr (inl (begun_by d (g.seen one) (g.seen two) a b plans begun)))
         (λ k. inr (inr (k.0, k.1, (k.2.0, k.2.1, inr (d, plans, k.2.2), k.2.3))))))
-        (at_moments one two one_new two_new (Kept g (row d).begins (row d).makes one two) (λ a b la lb. inl (la, lb)) leaves)
+        leaves

@@ -13,7 +13,7 @@ use Rattle.wc_parser.proofs.Texts.{one_text_answer}
 use Rattle.wc_check.proofs.Single.{one_first}
 use Rattle.wc_config.specs.declared.settings.Settings.{Settings}
 use Rattle.wc_cli.specs.declared.command.Command.{Command}
-use Rattle.wc_cli.specs.declared.command.Command.TheVariants.{Check, Dry, Init, Submit, Run, View, Pause, Play, Kill, Pack}
+use Rattle.wc_cli.specs.declared.command.Command.TheVariants.{Check, Dry, Init, Submit, Run, View, Pause, Play, Kill, Pack, Drill}
 use Rattle.wc_cli.specs.Words.{command_of}
 use Rattle.wc_engine.specs.declared.commands.dry.Trial.{Trial}
 use Rattle.wc_engine.specs.declared.reading.Read.{Read}
@@ -152,6 +152,7 @@ one_plan told (Some (Kill pid)) p q h a b = a ∙ sym b
 one_plan told (Some (Run turns seed settings)) p q h a b = a.2 ∙ ap (plan_of_run turns seed) (settings_from told settings a.0 b.0 h a.1 b.1) ∙ sym b.2
 one_plan told (Some (View v)) p q h a b = a ∙ sym b
 one_plan told (Some Pack) p q h a b = a ∙ sym b
+one_plan told (Some (Drill seed count)) p q h a b = a ∙ sym b
 
 -- ---- a deed
 
@@ -164,6 +165,7 @@ work_once law work.Pack c before after r s world p q = one_pack before after r s
 
 row_once : HeldIsOne → (d : Deed) → (row d).certain → (before after : Images) (r s : Reply) → Done (row d) before after r → Done (row d) before after s → r ≡ s
 row_once law (deed.Begin begin.Init) c before after r s p q = one_init law before after r s p q
+row_once law (deed.Begin (begin.Drill seed count)) c before after r s p q = absurd c
 row_once law (deed.Work w) c before after r s p q = one_on law (work_row w).does before after r s (work_once law w c before after r s) p q
 
 one_owed : HeldIsOne → (v : Visit) (p : Plan) (r s : Reply) → ((d : Deed) → p ≡ plan.On d → (row d).certain × IsTrue v.tells_one × IsTrue v.tells_two)

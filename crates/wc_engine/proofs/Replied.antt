@@ -9,7 +9,7 @@ use Rattle.wc_semantics.specs.Tables.{plain, no_kills}
 use Rattle.wc_semantics.specs.Meaning.{meaning}
 use Rattle.wc_config.specs.declared.settings.Settings.{Settings}
 use Rattle.wc_cli.specs.declared.command.Command.{Command}
-use Rattle.wc_cli.specs.declared.command.Command.TheVariants.{Check, Dry, Init, Submit, Run, View, Pause, Play, Kill, Pack}
+use Rattle.wc_cli.specs.declared.command.Command.TheVariants.{Check, Dry, Init, Submit, Run, View, Pause, Play, Kill, Pack, Drill}
 use Rattle.wc_cli.specs.Words.{command_of}
 use Rattle.wc_value.specs.declared.value.Value.{Value}
 use Rattle.wc_json.specs.Tables.{Row}
@@ -101,6 +101,7 @@ told_replied told (Some (Kill pid)) r p = absurd (cc)
 told_replied told (Some (Run turns seed settings)) r p = run_refused turns seed p.0 r (sym p.2)
 told_replied told (Some (View v)) r p = absurd (cc)
 told_replied told (Some Pack) r p = absurd (cc)
+told_replied told (Some (Drill seed count)) r p = absurd (cc)
 
 plan_replied : (told : Option (List ℕ → Option (List ℕ))) (command : Option Command) (v : Visit) (p : Plan) (r : Reply) → Plans told command p → OwedPlan v p r → IsReplied r.status
 plan_replied told command v (plan.Told t) r plans owed = subst (λ (x : Reply). IsReplied x.status) (sym owed.0) (is_replied t.status (told_replied told command t plans))

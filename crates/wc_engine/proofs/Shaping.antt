@@ -3,6 +3,8 @@ use Rattle.std.proofs.Common.{◌≡◌, inl, inr, ℕ, List, Some, Result, Ok, 
 use Rattle.wc_journal.specs.declared.journal.Journal.{Journal}
 use Rattle.wc_world.specs.declared.change.Change.{Change}
 use Rattle.wc_world.specs.World.{World}
+use Rattle.wc_runner.specs.declared.running.RunEnd.{RunEnd}
+use Rattle.wc_runner.specs.declared.running.RunEnd.TheVariants.{AllEnded, Spent, Resting}
 use Rattle.wc_store.specs.declared.error.StoreError.{StoreError}
 use Rattle.wc_store.specs.declared.error.StoreError.TheVariants as error
 use Rattle.wc_store.specs.Held.{Standing}
@@ -17,6 +19,7 @@ use Rattle.wc_engine.specs.declared.reply.Reply.{Reply}
 use Rattle.wc_engine.specs.Opening.{NoWorld, TellsDamage, store_reply}
 use Rattle.wc_engine.specs.Replies.{IsReplied}
 use Rattle.wc_engine.specs.Entries.{IsStorable}
+use Rattle.wc_engine.specs.Drilling.{has_drilled}
 use Rattle.wc_engine.specs.Events.{TellsAlone, limits_of}
 use Rattle.wc_engine.specs.Rows.{row, work_row, event_row, pack_row}
 use Rattle.wc_engine.specs.Stored.{is_damaged, is_full}
@@ -51,10 +54,19 @@ work_replied (work.Run o) r (w, v, takes, inr f) = same_replied r _ f.1.reply tt
 work_replied work.Pack r (generation, w, inl p) = same_replied r _ p.1 tt
 work_replied work.Pack r (generation, w, inr f) = same_replied r _ f.4 tt
 
+end_replied : (seed count : ℕ) (w : World) (end : RunEnd) → IsReplied (has_drilled seed count w end).status
+end_replied seed count w AllEnded = tt
+end_replied seed count w Spent = tt
+end_replied seed count w Resting = tt
+
 pub row_replied : (d : Deed) (r : Reply) → (row d).may r → IsReplied r.status
 row_replied (deed.Begin begin.Init) r (inl is) = same_replied r _ is tt
 row_replied (deed.Begin begin.Init) r (inr (inl is)) = same_replied r _ is tt
 row_replied (deed.Begin begin.Init) r (inr (inr d)) = damage_replied r d
+row_replied (deed.Begin (begin.Drill seed count)) r (inl (w, inl h)) = same_replied r (has_drilled seed count w h.end) h.reply (end_replied seed count w h.end)
+row_replied (deed.Begin (begin.Drill seed count)) r (inl (w, inr f)) = same_replied r _ f.1.reply tt
+row_replied (deed.Begin (begin.Drill seed count)) r (inr (inl is)) = same_replied r _ is tt
+row_replied (deed.Begin (begin.Drill seed count)) r (inr (inr d)) = damage_replied r d
 row_replied (deed.Work w) r (inl none) = none_replied r none
 row_replied (deed.Work w) r (inr p) = work_replied w r p
 

@@ -21,6 +21,7 @@ use Rattle.wc_engine.specs.declared.status.Fault.{Fault}
 use Rattle.wc_engine.specs.declared.status.Status.{Status}
 use Rattle.wc_engine.specs.declared.status.Status.TheVariants as status
 use Rattle.wc_engine.specs.Crashes.{HoldsSound}
+use Rattle.wc_engine.specs.Drilling.{has_drilled}
 use Rattle.wc_engine.specs.Events.{TellsAlone}
 use Rattle.wc_engine.specs.Owed.{Visit, OwedPlan}
 use Rattle.wc_engine.specs.Plans.{Plans}
@@ -57,6 +58,11 @@ run_tells : (end : RunEnd) (w v : World) → TellsWhole (has_run end w v)
 run_tells AllEnded w v = tt
 run_tells Spent w v = tt
 run_tells Resting w v = tt
+
+drill_tells : (seed count : ℕ) (w : World) (end : RunEnd) → TellsWhole (has_drilled seed count w end)
+drill_tells seed count w AllEnded = tt
+drill_tells seed count w Spent = tt
+drill_tells seed count w Resting = tt
 
 -- ---- what is done on a store
 
@@ -101,6 +107,10 @@ module _ (law : HeldIsOne) (before after : Images) (r : Reply) (sound : HoldsSou
   row_tells (deed.Begin begin.Init) nothing held at = same_tells r _ at.2 tt
   row_tells (deed.Begin begin.Init) (damage disk place found) held at = absurd (no_damage law before sound disk place found held)
   row_tells (deed.Begin begin.Init) (a_world w) held at = same_tells r _ at.1 tt
+  row_tells (deed.Begin (begin.Drill seed count)) nothing held at =
+      ⊎_elim (λ ended. same_tells r (has_drilled seed count at.world ended.end) ended.reply (drill_tells seed count at.world ended.end)) (λ full. same_tells r _ full.2.reply tt) at.ends
+  row_tells (deed.Begin (begin.Drill seed count)) (damage disk place found) held at = absurd (no_damage law before sound disk place found held)
+  row_tells (deed.Begin (begin.Drill seed count)) (a_world w) held at = same_tells r _ at.1 tt
   row_tells (deed.Work k) nothing held at = same_tells r _ at.1 tt
   row_tells (deed.Work k) (damage disk place found) held at = absurd (no_damage law before sound disk place found held)
   row_tells (deed.Work k) (a_world w) held at = work_tells k before w after r (sound_world law before sound w held) at

@@ -49,6 +49,7 @@ work_undone work.Pack owed ended h memory reading disks u = said_of_reply IsBefo
 pub row_undone : (d : Deed) (owed ended : Status) → OwesStatus owed ended → (ended ≡ status.OutOfMemory → ⊥) → (ended ≡ status.ReadFault → ⊥) → (ended ≡ status.DiskFault → ⊥)
     → (row d).undone ended → (row d).undone owed
 row_undone (deed.Begin begin.Init) owed ended h memory reading disks u = said_of_reply IsBeforeStoring (λ never. never) owed ended h memory reading disks u
+row_undone (deed.Begin (begin.Drill seed count)) owed ended h memory reading disks u = said_of_reply IsBeforeTurns (λ never. never) owed ended h memory reading disks u
 row_undone (deed.Work w) owed ended h memory reading disks u = work_undone w owed ended h memory reading disks u
 
 -- ---- what is left
@@ -95,7 +96,7 @@ module _ {D : Type 0} (g : disk.Ghosts D) where
   module _ (counts : (d : D) (t : ℕ) (image : List ℕ) → t ≤ g.moment d → g.may_leave d image → g.left_since d t image) (one two one_new two_new : D) (reads : g.may_leave one (g.seen one))
       (reads_too : g.may_leave two (g.seen two)) (reads_new : g.may_leave one_new (g.seen one_new)) (reads_new_too : g.may_leave two_new (g.seen two_new)) where
     -- the images from the middle on are those that the disks read as
-    images_again : InTwoParts g one two one_new two_new (AreImages (g.seen one) (g.seen two)) → InOnePart g one two one_new two_new
+    pub images_again : InTwoParts g one two one_new two_new (AreImages (g.seen one) (g.seen two)) → InOnePart g one two one_new two_new
     images_again parts = record {
       only_one = reads_again one parts.one_between one_new reads parts.first_one parts.later_one
           (λ t a le left.

@@ -3,11 +3,11 @@ use Rattle.std.specs.Prelude.{◌≡◌, ◌⊎◌, ℕ, List, Option}
 use Rattle.wc_disk.specs.declared.disk.Disk as disk
 use Rattle.wc_disk.specs.Images.{LeavesOnly}
 use Rattle.wc_disk.specs.Steps.{Only}
-use Rattle.wc_world.specs.World.{World}
+use Rattle.wc_world.specs.World.{World, empty}
 use Rattle.wc_machine.specs.Sound.{IsSound}
 use Rattle.wc_runner.specs.Laws.{StaysSound}
 use Rattle.wc_store.specs.Held.{Standing, IsHeld, nothing, a_world}
-use Rattle.wc_store.specs.Stores.{InTwoParts, BeginsFrom}
+use Rattle.wc_store.specs.Stores.{InTwoParts}
 use Rattle.wc_cli.specs.Words.{command_of}
 use Rattle.wc_engine.specs.declared.deed.Deed.{Deed}
 use Rattle.wc_engine.specs.declared.deed.Plan.TheVariants as plan
@@ -48,13 +48,24 @@ Keeps w v = IsSound w → StaysSound w v
 abbrev pub HoldsKeeping : (World → World → Type 0) → World → List ℕ → List ℕ → Type 0
 HoldsKeeping makes w a b = (v : World) × IsHeld a b (a_world v) × makes w v × Keeps w v
 
--- What comes of two images in a call that begins a store only where `begins` holds, and makes of a world only what `makes` says: where
--- they hold nothing, and it begins a store, nothing or the empty world; where they hold a world, one that it makes of that and that keeps it.
-abbrev pub ComesOf : (begins : Type 0) → (makes : World → World → Type 0) → (one two a b : List ℕ) → Type 0
-ComesOf begins makes one two a b = (begins × BeginsFrom one two a b) ⊎ ((w : World) × IsHeld one two (a_world w) × HoldsKeeping makes w a b)
+-- the pair holds a world with which the call may begin a store, which is sound and continues the empty one
+abbrev pub HoldsBegun : (World → Type 0) → List ℕ → List ℕ → Type 0
+HoldsBegun begins a b = (v : World) × IsHeld a b (a_world v) × begins v × StaysSound empty v
+
+-- What comes of two images that hold nothing in a call that may begin a store with the worlds that `begins` says, of which there are some:
+-- nothing, or such a world.
+pub record ComesOfNothing (begins : World → Type 0) (one two a b : List ℕ) : Type 0 where
+  pub before : IsHeld one two nothing
+  pub some : (v : World) × begins v
+  pub held : IsHeld a b nothing ⊎ HoldsBegun begins a b
+
+-- What comes of two images in a call that begins a store with no other worlds than `begins` says, and makes of a world only what `makes`
+-- says: where they hold nothing, nothing, or a world with which it begins; where they hold a world, one that it makes of that and that keeps it.
+abbrev pub ComesOf : (begins : World → Type 0) → (makes : World → World → Type 0) → (one two a b : List ℕ) → Type 0
+ComesOf begins makes one two a b = ComesOfNothing begins one two a b ⊎ ((w : World) × IsHeld one two (a_world w) × HoldsKeeping makes w a b)
 
 -- the pair is one that a crash at entry might have left, or holds what comes of what the disks read as at entry
-abbrev pub Kept : {D : Type 0} → disk.Ghosts D → (begins : Type 0) → (makes : World → World → Type 0) → D → D → List ℕ → List ℕ → Type 0
+abbrev pub Kept : {D : Type 0} → disk.Ghosts D → (begins : World → Type 0) → (makes : World → World → Type 0) → D → D → List ℕ → List ℕ → Type 0
 Kept g begins makes one two a b = (g.may_leave one a × g.may_leave two b) ⊎ ComesOf begins makes (g.seen one) (g.seen two) a b
 
 -- one of the disks is not written: each of its images is one that a crash at entry might have left
@@ -65,10 +76,6 @@ WritesOne g one two one_new two_new = LeavesOnly g one one_new (g.may_leave one)
 pub record LeavesPairs {D : Type 0} (g : disk.Ghosts D) (one two one_new two_new : D) (P : List ℕ → List ℕ → Type 0) : Type 0 where
   pub parts : InTwoParts g one two one_new two_new P
   pub one_writes : WritesOne g one two one_new two_new
-
--- what a deed leaves at each of its moments
-abbrev pub LeavesKept : {D : Type 0} → disk.Ghosts D → (begins : Type 0) → (makes : World → World → Type 0) → (one two one_new two_new : D) → Type 0
-LeavesKept g begins makes one two one_new two_new = LeavesPairs g one two one_new two_new (Kept g begins makes one two)
 
 -- ---- at any moment
 
@@ -82,11 +89,15 @@ pub record OneSide {D : Type 0} (g : disk.Ghosts D) (rest rest_new own own_new :
 abbrev pub AtAnyMoment : {D : Type 0} → disk.Ghosts D → (one two one_new two_new : D) → (List ℕ → List ℕ → Type 0) → Type 0
 AtAnyMoment g one two one_new two_new P = OneSide g one one_new two two_new P ⊎ OneSide g two two_new one one_new (λ b a. P a b)
 
+-- what a deed leaves
+abbrev pub LeavesKept : {D : Type 0} → disk.Ghosts D → (begins : World → Type 0) → (makes : World → World → Type 0) → (one two one_new two_new : D) → Type 0
+LeavesKept g begins makes one two one_new two_new = AtAnyMoment g one two one_new two_new (Kept g begins makes one two)
+
 -- ---- by words
 
--- what some deed that the words plan begins, and what it makes of a world
-abbrev pub BegunBy : Option (List ℕ → Option (List ℕ)) → List (List ℕ) → Type 0
-BegunBy told words = OfSome told words (λ k. k.begins)
+-- with which worlds some deed that the words plan begins a store, and what it makes of a world
+abbrev pub BegunBy : Option (List ℕ → Option (List ℕ)) → List (List ℕ) → World → Type 0
+BegunBy told words v = OfSome told words (λ k. k.begins v)
 
 abbrev pub MadeBy : Option (List ℕ → Option (List ℕ)) → List (List ℕ) → World → World → Type 0
 MadeBy told words w v = (v ≡ w) ⊎ OfSome told words (λ k. k.makes w v)

@@ -12,6 +12,7 @@ pub mod Opening
 pub mod Views
 pub mod Events
 pub mod Running
+pub mod Drilling
 pub mod Undone
 pub mod Acknowledged
 pub mod Plans

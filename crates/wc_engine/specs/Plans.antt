@@ -1,11 +1,12 @@
 -- What words plan.
-use Rattle.std.specs.Prelude.{◌≡◌, ℕ, min, List, Option, Some, None, Result, Ok, Err}
+use Rattle.std.specs.Prelude.{◌≡◌, ◌≤◌, ℕ, min, List, Option, Some, None, Result, Ok, Err}
 use Rattle.wc_state.specs.Ranges.{AreLimits}
 use Rattle.wc_config.specs.declared.settings.Settings.{Settings}
 use Rattle.wc_cli.specs.declared.command.Command.{Command}
-use Rattle.wc_cli.specs.declared.command.Command.TheVariants.{Dry, Check, Init, Submit, Run, View, Pause, Play, Kill, Pack}
+use Rattle.wc_cli.specs.declared.command.Command.TheVariants.{Dry, Check, Init, Submit, Run, View, Pause, Play, Kill, Pack, Drill}
 use Rattle.wc_engine.specs.declared.deed.Asked.{Asked}
 use Rattle.wc_engine.specs.declared.deed.Asked.TheVariants as asked
+use Rattle.wc_engine.specs.declared.deed.Begin.{Begin}
 use Rattle.wc_engine.specs.declared.deed.Begin.TheVariants as begin
 use Rattle.wc_engine.specs.declared.deed.Deed.{Deed}
 use Rattle.wc_engine.specs.declared.deed.Deed.TheVariants as deed
@@ -48,6 +49,10 @@ abbrev pub plan_of_run : (turns seed : ℕ) → Result Settings Cause → Plan
 plan_of_run turns seed (Err c) = plan.Told (refuses c)
 plan_of_run turns seed (Ok t) = on (work.Run (record { turns = turns; seed = seed_of seed; limits = t.limits }))
 
+-- how many chains a drill may run at most; words give none that are more
+abbrev pub chains_of : ℕ → ℕ
+chains_of count = min count 10000
+
 -- Words that are this command, or are none, plan this, on a shelf that tells this.
 abbrev pub Plans : Option (List ℕ → Option (List ℕ)) → Option Command → Plan → Type 0
 Plans told None p = p ≡ plan.Told (refuses cause.Words)
@@ -63,6 +68,7 @@ Plans told (Some (Kill pid)) p = p ≡ on (work.Event (asked.Kill pid))
 Plans told (Some (Run turns seed settings)) p = (s : Result Settings Cause) × SettingsFrom told settings s × (p ≡ plan_of_run turns seed s)
 Plans told (Some (View v)) p = p ≡ on (work.View v)
 Plans told (Some Pack) p = p ≡ on work.Pack
+Plans told (Some (Drill seed count)) p = p ≡ plan.On (deed.Begin (begin.Drill seed (chains_of count)))
 
 -- the command names no file
 abbrev pub NamesNoFile : Option Command → Type 0
@@ -84,8 +90,13 @@ IsReadyWork (work.Event a) = IsReadyAsked a
 IsReadyWork (work.Run o) = AreLimits o.limits
 IsReadyWork work.Pack = Unit {0}
 
+-- a drill has no more chains than it may have
+abbrev pub IsReadyBegin : Begin → Type 0
+IsReadyBegin begin.Init = Unit {0}
+IsReadyBegin (begin.Drill seed count) = count ≤ 10000
+
 abbrev pub IsReadyDeed : Deed → Type 0
-IsReadyDeed (deed.Begin b) = Unit {0}
+IsReadyDeed (deed.Begin b) = IsReadyBegin b
 IsReadyDeed (deed.Work w) = IsReadyWork w
 
 abbrev pub IsReadyPlan : Plan → Type 0

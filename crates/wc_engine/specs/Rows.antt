@@ -1,7 +1,7 @@
 -- What each deed promises: one row each.
 use Rattle.std.specs.Prelude.{◌≡◌, ◌⊎◌, ◌+◌, ℕ, false, true, List}
 use Rattle.wc_state.specs.declared.record.What.{What}
-use Rattle.wc_world.specs.World.{World}
+use Rattle.wc_world.specs.World.{World, empty}
 use Rattle.wc_runner.specs.Leaves.{SomeTurns}
 use Rattle.wc_store.specs.Held.{Standing}
 use Rattle.wc_store.specs.Preparing.{HasGeneration}
@@ -21,7 +21,9 @@ use Rattle.wc_engine.specs.declared.deed.Work.TheVariants as work
 use Rattle.wc_engine.specs.declared.reply.Reply.{Reply}
 use Rattle.wc_engine.specs.declared.status.Cause.TheVariants as cause
 use Rattle.wc_engine.specs.declared.status.Status.{Status}
+use Rattle.wc_drill.specs.Drilled.{Drills}
 use Rattle.wc_engine.specs.Acknowledged.{HasProcess, HasMark, IsKilled}
+use Rattle.wc_engine.specs.Drilling.{DrillAt, IsToldDrilled, MayDrill}
 use Rattle.wc_engine.specs.Events.{MayHappen, MayEnter, Enters}
 use Rattle.wc_engine.specs.Opening.{NoWorld, TellsDamage}
 use Rattle.wc_engine.specs.Replies.{refuses, prints}
@@ -118,8 +120,8 @@ work_row work.Pack = pack_row
 -- ---- deeds
 
 pub record Row : Type 1 where
-  -- it makes a store where there is none
-  pub begins : Type 0
+  -- with which worlds it may begin a store, at any moment, where there is none
+  pub begins : World → Type 0
   pub makes : World → World → Type 0
   -- what it has done, by what the disks hold at entry
   pub does : Images → Standing → Images → Reply → Type 0
@@ -128,9 +130,25 @@ pub record Row : Type 1 where
   pub undone : Status → Type 0
   pub acknowledges : List ℕ → World → Type 0
 
+-- the world is the empty one
+abbrev pub IsEmpty : World → Type 0
+IsEmpty v = v ≡ empty
+
+-- any ready process may be the one for which the store is too full, so that its reply isn't certain
+abbrev pub drill_row : (seed count : ℕ) → Row
+drill_row seed count = record {
+  begins = Drills seed count;
+  makes = Stays;
+  does = DrillAt seed count;
+  may = λ r. MayDrill seed count r ⊎ ((r ≡ refuses cause.StoreExists) ⊎ TellsDamage r);
+  certain = ⊥;
+  undone = IsBeforeTurns;
+  acknowledges = IsToldDrilled seed count;
+}
+
 abbrev pub begin_row : Begin → Row
 begin_row begin.Init = record {
-  begins = Unit {0};
+  begins = IsEmpty;
   makes = Stays;
   does = InitAt;
   may = λ r. (r ≡ prints initialised_text) ⊎ ((r ≡ refuses cause.StoreExists) ⊎ TellsDamage r);
@@ -138,11 +156,12 @@ begin_row begin.Init = record {
   undone = IsBeforeStoring;
   acknowledges = λ text w. Unit {0};
 }
+begin_row (begin.Drill seed count) = drill_row seed count
 
 -- where there is no store, or a disk is damaged, this is told and nothing is done
 abbrev pub on_store : WorkRow → Row
 on_store k = record {
-  begins = ⊥;
+  begins = λ v. ⊥;
   makes = k.makes;
   does = λ before. AtStore before (k.does before);
   may = λ r. NoWorld r ⊎ k.may r;

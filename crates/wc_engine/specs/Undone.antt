@@ -14,7 +14,7 @@ LeavesUnwritten g one two one_new two_new = InOnePart g one two one_new two_new 
 
 -- ---- by the status
 
--- `run` was refused before its first turn
+-- `run` was refused before its first turn, or `drill` before a store was made
 abbrev pub IsBeforeTurns : Status → Type 0
 IsBeforeTurns (status.Refused c) = Unit {0}
 IsBeforeTurns (status.Damaged disk at found) = Unit {0}

@@ -13,6 +13,7 @@ ghost use Rattle.wc_engine.specs.declared.deed.Deed.TheVariants.{Work as OnStore
 
 use crate::beginning::init_reply;
 use crate::deed::{Begin, Deed, Work};
+use crate::drilling::drill_reply;
 use crate::error::ActError;
 use crate::events::event_reply;
 use crate::laws::worlds_are_kept;
@@ -100,6 +101,7 @@ pub fn act<D: Disk, T: Transport, P: Pacer>(
 {
     match deed {
         Deed::Begin(Begin::Init) => init_reply(alloc, one, two),
+        Deed::Begin(Begin::Drill { seed, count }) => drill_reply(alloc, one, two, seed, count),
         Deed::Work(work) => work_reply(alloc, work, one, two, transport, pacer),
     }
 }

@@ -23,6 +23,13 @@ pub enum Asked {
 pub enum Begin {
     /// An empty store.
     Init,
+    /// A store in which generated chains run to their end.
+    Drill {
+        /// What the numbers of the chains are drawn from.
+        seed: u32,
+        /// How many chains.
+        count: u32,
+    },
 }
 
 /// How a run goes.

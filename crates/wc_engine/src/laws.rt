@@ -7,7 +7,6 @@ ghost use Rattle.wc_world.specs.Fits.{names_ascend};
 ghost use Rattle.wc_config.specs.Settings.{caching_on};
 ghost use Rattle.wc_store.specs.Held.{IsHeld, nothing};
 ghost use Rattle.wc_store.specs.Laws.{HeldIsOne, HeldIsReached};
-ghost use Rattle.wc_machine.specs.Laws.{EmptyIsSound};
 ghost use Rattle.wc_runner.specs.Laws.{WorldsContinueThemselves};
 ghost use Rattle.wc_engine.specs.Crashes.{HoldsSound};
 ghost use Rattle.wc_engine.specs.Files.{Reads, ReadsFrom};
@@ -18,7 +17,6 @@ ghost use Rattle.wc_config.specs.declared.settings.Settings.{Settings};
 ghost use Rattle.wc_engine.specs.declared.reading.Read.{Read};
 ghost use Rattle.wc_engine.specs.declared.submission.Prepared.{Prepared};
 
-use wc_machine::the_empty_world_is_sound;
 use wc_runner::worlds_continue_themselves;
 use wc_store::{held_worlds_are_reached, images_hold_one_thing};
 
@@ -51,11 +49,9 @@ pub fn empty_disks_hold_nothing()
 pub(crate) fn worlds_are_kept()
     ensures one { HeldIsOne }
     ensures reached { HeldIsReached }
-    ensures empty { EmptyIsSound }
     ensures same { WorldsContinueThemselves }
 {
     images_hold_one_thing();
     held_worlds_are_reached();
-    the_empty_world_is_sound();
     worlds_continue_themselves();
 }

@@ -5,6 +5,7 @@ mod acting;
 mod beginning;
 mod commands;
 mod deed;
+mod drilling;
 mod error;
 mod events;
 mod further;

@@ -39,7 +39,7 @@ fn byte_of(found: Found) -> Option<u8>
 }
 
 /// A damaged store.
-fn damaged(alloc: Global, disk: u8, at: u64, found: Found) -> Result<Reply, AllocError>
+pub(crate) fn damaged(alloc: Global, disk: u8, at: u64, found: Found) -> Result<Reply, AllocError>
     ensures { IfOk result (λ r. r ≡ is_damaged disk at found) }
 {
     let found = byte_of(found);

@@ -1,10 +1,10 @@
 //! What words ask for, as the shelf's files make it. No disk is in scope.
 
-ghost use Rattle.std.specs.Prelude.{◌≡◌, None, Some, IfOk};
+ghost use Rattle.std.specs.Prelude.{◌≡◌, ◌≤◌, None, Some, IfOk};
 ghost use Rattle.wc_state.specs.Ranges.{AreLimits};
 ghost use Rattle.wc_cli.specs.Words.{command_of};
 ghost use Rattle.wc_engine.specs.Calls.{CountsShelf};
-ghost use Rattle.wc_engine.specs.Plans.{IsReadyPlan, NamesNoFile, Plans, PlansSubmission, plan_of_prepared, plan_of_run, seed_of};
+ghost use Rattle.wc_engine.specs.Plans.{IsReadyPlan, NamesNoFile, Plans, PlansSubmission, chains_of, plan_of_prepared, plan_of_run, seed_of};
 ghost use Rattle.wc_engine.specs.Settings.{SettingsFrom, SettingsReady};
 ghost use Rattle.wc_engine.specs.Submits.{SubmitsReady};
 
@@ -96,6 +96,14 @@ fn seed_of(seed: u64) -> u32
     u32::try_from(seed).unwrap_or(u32::MAX)
 }
 
+/// How many chains a drill may run at most; words give none that are more.
+fn chains_of(count: u32) -> u32
+    ensures value { result ≡ chains_of count }
+    ensures few { result ≤ 10000 }
+{
+    if count < 10_000 { count } else { 10_000 }
+}
+
 /// What the words of `run` plan with these settings.
 fn plan_of_run(
     alloc: Global,
@@ -180,6 +188,10 @@ fn plan_command<R: Shelf>(alloc: Global, command: Command, shelf: &mut R) -> Res
         Command::Kill { pid } => Ok(Plan::On(Deed::Work(Work::Event(Asked::Kill(pid))))),
         Command::View(view) => Ok(Plan::On(Deed::Work(Work::View(view)))),
         Command::Pack => Ok(Plan::On(Deed::Work(Work::Pack))),
+        Command::Drill { seed, count } => Ok(Plan::On(Deed::Begin(Begin::Drill {
+            seed,
+            count: chains_of(count),
+        }))),
     }
 }
 

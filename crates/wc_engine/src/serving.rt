@@ -62,7 +62,7 @@ fn answer<R: Shelf, D: Disk, T: Transport, P: Pacer>(
 /// for no library, or its library breaks a rule; the library doesn't define the name; the file of inputs isn't there or
 /// gives none; for `dry`: the table file isn't there or has no table; a port is given badly, of
 /// which the least is named; for `dry`: the table has no result of a job, or the fuel doesn't suffice; for a command of a store: a disk
-/// is damaged; there is no store, or for `init` there is one; there is no such process; it has
+/// is damaged; there is no store, or for `init` and `drill` there is one; there is no such process; it has
 /// ended; the store would be too full. Else the text of the command is written, also where `run` took as many turns as it may, or where each
 /// live process rests.
 pub fn serve<R: Shelf, W: Sink, D: Disk, T: Transport, P: Pacer>(
@@ -79,14 +79,16 @@ pub fn serve<R: Shelf, W: Sink, D: Disk, T: Transport, P: Pacer>(
     ensures replied { IsReplied result → (r : AReply) × IsOwed (R.contents shelf.old) (visit D.Disk one.old two.old one.new two.new) words.now r
         × (r.status ≡ result) × Writes r.text (W.taken sink.old) (W.taken sink.new) }
     // Where the shelf tells its contents, each deed that the words plan is certain, and the disks that it asks tell their bytes, what is
-    // owed is the status, unless memory runs out or something fails. All deeds are certain but `run`.
+    // owed is the status, unless memory runs out or something fails. All deeds are certain but `run` and `drill`.
     ensures exact { IsCertain (R.contents shelf.old) (D.tells one.old) (D.tells two.old) words.now
         → (r : AReply) → IsOwed (R.contents shelf.old) (visit D.Disk one.old two.old one.new two.new) words.now r → OwesStatus r.status result }
     // At any moment of the call one of the disks has only images that a crash at entry might have left. Each image of the other, beside each
     // that the first may leave at exit, is such a pair, or holds what the words make of what the disks read as at entry: of nothing, where they
-    // begin a store, nothing or the empty world; of a world, the same world, or what a deed that they plan makes of it, which for `submit` is
-    // the one submission as which its words are prepared, within the limits of its settings, for `pause`, `play` and `kill` that event, and for
-    // `run` what at most as many turns and rests as are given make, within the limits of its settings, whatever the transport replies. What is made of a sound world is sound, and continues it.
+    // begin a store, nothing or a world with which they begin it, which is sound, for `init` the empty one, and for `drill` what submissions of its
+    // first chains, and turns once all are submitted, make of that; of a world, the same world, or what a deed that they plan makes of it, which
+    // for `submit` is the one submission as which its words are prepared, within the limits of its settings, for `pause`, `play` and `kill` that
+    // event, and for `run` what at most as many turns and rests as are given make, within the limits of its settings, whatever the transport
+    // replies. What is made of a sound world is sound, and continues it.
     ensures crash { IsTrue (D.tells one.old) → IsTrue (D.tells two.old) → LeavesMade D.Disk (R.contents shelf.old) words.now one.old two.old one.new two.new }
     // Once a deed was done, or found the store too full, nothing is pending, and each pair of images holds what the disks then read as.
     ensures durable { NeedDisks (R.contents shelf.old) words.now → IsDoneOrFull result → IsTrue (D.tells one.old) → IsTrue (D.tells two.old) → AreDurable D.Disk one.new two.new
@@ -97,7 +99,7 @@ pub fn serve<R: Shelf, W: Sink, D: Disk, T: Transport, P: Pacer>(
     ensures sound { IsTrue (D.tells one.old) → IsTrue (D.tells two.old) → EachPair D.Disk one.old two.old HoldsSound → StaySound D.Disk one.old two.old one.new two.new result }
     // What was done with status Ok stands: each pair of images at exit holds the world of which the deed's row acknowledges what was written.
     // After `submit` it has the process of the number that was written, with library, name, inputs and caching; after `pause`, `play` and `kill` that
-    // process has the pause mark, has none, or is killed, and then all that it called have ended.
+    // process has the pause mark, has none, or is killed, and then all that it called have ended; after `drill` all its chains have run to their end.
     ensures acknowledged { NeedDisks (R.contents shelf.old) words.now → result ≡ Status.Ok → IsTrue (D.tells one.old) → IsTrue (D.tells two.old) → Stands D.Disk (R.contents shelf.old) words.now one.new two.new (W.taken sink.old) (W.taken sink.new) }
     // Nothing was written where the rows of the deeds that the words plan say so for this status: by a view, however it ends; by none that ends
     // with Refused, Damaged or ReadFault; by events and `pack` that end with Full; nor by `init` and events that end with OutOfMemory. Then

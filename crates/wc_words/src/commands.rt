@@ -102,6 +102,7 @@ fn shown(alloc: Global, line: &str) -> Result<String, Fail> {
         Command::Play { pid } => shown_number(alloc, "play", pid),
         Command::Kill { pid } => shown_number(alloc, "kill", pid),
         Command::Pack => Ok(String::from_str(alloc, "pack")?),
+        Command::Drill { seed, count } => Ok(format!(in alloc; "drill {seed} {count}")?),
     }
 }
 
@@ -185,7 +186,7 @@ const REFUSED: [&str; 35] = [
 ];
 
 /// Lines with their commands of a store.
-const OF_A_STORE: [(&str, &str); 54] = [
+const OF_A_STORE: [(&str, &str); 63] = [
     ("init", "init"),
     ("init --", "init"),
     ("init f", "words"),
@@ -243,6 +244,15 @@ const OF_A_STORE: [(&str, &str); 54] = [
     ("verify", "verify"),
     ("verify --", "verify"),
     ("verify 1", "words"),
+    ("drill 1 2", "drill 1 2"),
+    ("drill 0 0", "drill 0 0"),
+    ("drill 2147483647 -- 10000", "drill 2147483647 10000"),
+    ("drill 2147483648 1", "words"),
+    ("drill 1 10001", "words"),
+    ("drill -1 1", "words"),
+    ("drill 1 1 1", "words"),
+    ("drill 1", "words"),
+    ("drill", "words"),
     ("pack", "pack"),
     ("pack --", "pack"),
     ("pack f", "words"),

@@ -3,9 +3,21 @@ use Rattle.wc_engine.specs.Opening.{Opens}
 use Rattle.wc_engine.specs.Rows.{work_row}
 use Rattle.wc_engine.specs.declared.opening.Opened.{Opened}
 use Rattle.wc_engine.proofs.Doing.{held_before, goes_does}
-use Rattle.wc_engine.proofs.Leaving.{goes_on}
+use Rattle.wc_engine.proofs.Leaving.{goes_on, unwritten}
 use Rattle.wc_engine.proofs.Unwriting.{then_untouched}
 use Rattle.wc_engine.proofs.acting.work_reply.Goals as goal
+
+pub returns-in_err-reply-clause-kept : goal.returns-in_err-reply-clause-kept
+returns-in_err-reply-clause-kept g c =
+    λ told told_too.
+    unwritten g.D.Disk g.met.D.Disk.only_now g.met.D.Disk.counts_now (λ v. ⊥) (work_row c.args.work).makes c.args.one.now c.args.two.now c.open_store.new.one c.open_store.new.two
+    c.open_store.ensures.any_moment_one c.open_store.ensures.any_moment_two
+
+pub returns-in-Told-clause-kept : goal.returns-in-Told-clause-kept
+returns-in-Told-clause-kept g c =
+    λ told told_too.
+    unwritten g.D.Disk g.met.D.Disk.only_now g.met.D.Disk.counts_now (λ v. ⊥) (work_row c.args.work).makes c.args.one.now c.args.two.now c.open_store.new.one c.open_store.new.two
+    c.open_store.ensures.any_moment_one c.open_store.ensures.any_moment_two
 
 pub returns-in-Held-clause-does : goal.returns-in-Held-clause-does
 returns-in-Held-clause-does g c =
@@ -25,7 +37,7 @@ returns-in-Held-clause-kept g c =
     let P : Opened → Type 0 = λ o. IsTrue (g.D.Disk.tells one) → IsTrue (g.D.Disk.tells two) → Opens g.D.Disk one two c.open_store.new.one c.open_store.new.two o in
     let opens = subst P c.in-Held.is c.in_ok-reply.ensures.opens told told_too in
     let tells = c.open_store.ensures.tells in
-    goes_on g.D.Disk g.met.D.Disk.only_now g.met.D.Disk.counts_now ⊥ (work_row c.args.work).makes store.world.world one two c.open_store.new.one c.open_store.new.two c.worked.new.one c.worked.new.two
+    goes_on g.D.Disk g.met.D.Disk.only_now g.met.D.Disk.counts_now (λ v. ⊥) (work_row c.args.work).makes store.world.world one two c.open_store.new.one c.open_store.new.two c.worked.new.one c.worked.new.two
     (held_before g.D.Disk store one two c.open_store.new.one c.open_store.new.two opens) c.open_store.ensures.any_moment_one c.open_store.ensures.any_moment_two
     (c.worked.ensures.kept (subst (λ (b : Bool). IsTrue b) (sym tells.0) told) (subst (λ (b : Bool). IsTrue b) (sym tells.1) told_too))
 

@@ -7,7 +7,8 @@ use Rattle.wc_store.specs.Held.{IsHeld}
 use Rattle.wc_engine.specs.Crashes.{AreDurable}
 use Rattle.wc_engine.specs.Replies.{prints}
 use Rattle.wc_engine.proofs.Doing.{has_begun, refused_init}
-use Rattle.wc_engine.proofs.Leaving.{begun}
+use Rattle.wc_engine.proofs.Leaving.{begun, unasked}
+use Rattle.wc_engine.specs.Rows.{IsEmpty, Stays}
 use Rattle.wc_engine.proofs.Undone.{init_undone}
 use Rattle.wc_engine.specs.Undone.{IsBeforeStoring}
 use Rattle.wc_engine.proofs.Unwriting.{none_asked, refused_init as refused_unwritten}
@@ -44,6 +45,9 @@ returns-in-Err-clause-kept g c =
     λ told told_too.
     begun g.D.Disk g.met.D.Disk.only_now g.met.D.Disk.counts_now c.init.result c.args.one.now c.args.two.now c.init.new.one c.init.new.two
     (g.met.D.Disk.reads_as c.args.one.now told) (g.met.D.Disk.reads_as c.args.two.now told_too) (c.init.ensures.parts told told_too) c.init.ensures.any_moment_two
+
+pub returns-in_err-text-clause-kept : goal.returns-in_err-text-clause-kept
+returns-in_err-text-clause-kept g c = λ told told_too. unasked g.D.Disk g.met.D.Disk.only_now g.met.D.Disk.counts_now IsEmpty Stays c.args.one.now c.args.two.now
 
 pub returns-in_err-text-clause-unwritten : goal.returns-in_err-text-clause-unwritten
 returns-in_err-text-clause-unwritten g c = λ ends told told_too. none_asked g.D.Disk g.met.D.Disk.only_now c.args.one.now c.args.two.now

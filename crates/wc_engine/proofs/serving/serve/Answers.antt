@@ -35,7 +35,7 @@ returns-in-Ok-clause-sound g c =
     let owed = c.in-Ok.ensures.owed in
     let whole = owed_tells c.worlds_are_kept.ensures.one (g.R.Shelf.contents c.args.shelf.now) (command_of c.args.words.now) (visit g.D.Disk c.args.one.now c.args.two.now c.answer.new.one c.answer.new.two) owed.0 c.in-Ok.reply
     (entry (g.D.Disk.seen c.args.one.now) (g.D.Disk.seen c.args.two.now) reads reads_too) told told_too owed.1 owed.2 in
-    stay_sound g.D.Disk c.worlds_are_kept.ensures.one c.worlds_are_kept.ensures.empty g.met.D.Disk.only_now g.met.D.Disk.counts_now (g.R.Shelf.contents c.args.shelf.now) c.args.words.now c.args.one.now c.args.two.now c.answer.new.one c.answer.new.two
+    stay_sound g.D.Disk c.worlds_are_kept.ensures.one g.met.D.Disk.only_now g.met.D.Disk.counts_now (g.R.Shelf.contents c.args.shelf.now) c.args.words.now c.args.one.now c.args.two.now c.answer.new.one c.answer.new.two
     c.finish.result entry reads reads_too (c.answer.ensures.made told told_too) (ends_whole c.in-Ok.reply.status c.finish.result c.finish.ensures.status whole)
     (ends_faultless c.in-Ok.reply.status c.finish.result c.finish.ensures.status whole)
 
@@ -80,17 +80,17 @@ returns-in-Ok-clause-write_fault g c =
 pub returns-in-Err-OutOfMemory-clause-sound : goal.returns-in-Err-OutOfMemory-clause-sound
 returns-in-Err-OutOfMemory-clause-sound g c =
     λ told told_too entry.
-    stay_sound g.D.Disk c.worlds_are_kept.ensures.one c.worlds_are_kept.ensures.empty g.met.D.Disk.only_now g.met.D.Disk.counts_now (g.R.Shelf.contents c.args.shelf.now) c.args.words.now c.args.one.now c.args.two.now c.answer.new.one c.answer.new.two
+    stay_sound g.D.Disk c.worlds_are_kept.ensures.one g.met.D.Disk.only_now g.met.D.Disk.counts_now (g.R.Shelf.contents c.args.shelf.now) c.args.words.now c.args.one.now c.args.two.now c.answer.new.one c.answer.new.two
     status.OutOfMemory entry (g.met.D.Disk.reads_as c.args.one.now told) (g.met.D.Disk.reads_as c.args.two.now told_too) (c.answer.ensures.made told told_too) (λ disk at found is. cc) (λ f is. cc)
 
 pub returns-in-Err-ReadFault-clause-sound : goal.returns-in-Err-ReadFault-clause-sound
 returns-in-Err-ReadFault-clause-sound g c =
     λ told told_too entry.
-    stay_sound g.D.Disk c.worlds_are_kept.ensures.one c.worlds_are_kept.ensures.empty g.met.D.Disk.only_now g.met.D.Disk.counts_now (g.R.Shelf.contents c.args.shelf.now) c.args.words.now c.args.one.now c.args.two.now c.answer.new.one c.answer.new.two
+    stay_sound g.D.Disk c.worlds_are_kept.ensures.one g.met.D.Disk.only_now g.met.D.Disk.counts_now (g.R.Shelf.contents c.args.shelf.now) c.args.words.now c.args.one.now c.args.two.now c.answer.new.one c.answer.new.two
     status.ReadFault entry (g.met.D.Disk.reads_as c.args.one.now told) (g.met.D.Disk.reads_as c.args.two.now told_too) (c.answer.ensures.made told told_too) (λ disk at found is. cc) (λ f is. cc)
 
 pub returns-in-Err-DiskFault-clause-sound : goal.returns-in-Err-DiskFault-clause-sound
 returns-in-Err-DiskFault-clause-sound g c =
     λ told told_too entry.
-    stay_sound g.D.Disk c.worlds_are_kept.ensures.one c.worlds_are_kept.ensures.empty g.met.D.Disk.only_now g.met.D.Disk.counts_now (g.R.Shelf.contents c.args.shelf.now) c.args.words.now c.args.one.now c.args.two.now c.answer.new.one c.answer.new.two
+    stay_sound g.D.Disk c.worlds_are_kept.ensures.one g.met.D.Disk.only_now g.met.D.Disk.counts_now (g.R.Shelf.contents c.args.shelf.now) c.args.words.now c.args.one.now c.args.two.now c.answer.new.one c.answer.new.two
     status.DiskFault entry (g.met.D.Disk.reads_as c.args.one.now told) (g.met.D.Disk.reads_as c.args.two.now told_too) (c.answer.ensures.made told told_too) (λ disk at found is. cc) (λ f is. cc)

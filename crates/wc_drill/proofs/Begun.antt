@@ -1,0 +1,188 @@
+-- A store that is made, and what is left on the disks from then on.
+use Rattle.std.proofs.Common.{◌≡◌, ◌⊎◌, inl, inr, ⊎_elim, ◌≤◌, ℕ, List, Result, Ok, Err, sym, ap, subst, ◌∙◌, arith}
+use Rattle.std.specs.Prelude.{IfErr, IsTrue}
+use Rattle.wc_disk.specs.declared.disk.Disk as disk
+use Rattle.wc_disk.specs.Images.{LeavesOnly}
+use Rattle.wc_disk.specs.Steps.{Only}
+use Rattle.wc_disk.proofs.Runs.{no_call, both_runs, weaker_run}
+use Rattle.wc_world.specs.World.{empty}
+use Rattle.wc_runner.specs.Leaves.{HoldsSome, LeavesWorlds}
+use Rattle.wc_store.specs.Held.{IsHeld, Standing, nothing, a_world}
+use Rattle.wc_store.specs.Refusals.{RefusesInit}
+use Rattle.wc_store.specs.Refusals.{Counts as CountsStore, IsUnchanged as IsUnchangedStore}
+use Rattle.wc_store.specs.declared.store.Store.{Store}
+use Rattle.wc_store.specs.Stores.{AreImages, BeginsFrom, InitLeaves, InOnePart, InTwoParts}
+use Rattle.wc_store.specs.declared.error.StoreError.{StoreError}
+use Rattle.wc_store.specs.declared.error.StoreError.TheVariants as store_error
+use Rattle.wc_store.specs.declared.place.Place.TheVariants.{One}
+use Rattle.wc_drill.specs.declared.error.DrillError.{DrillError}
+use Rattle.wc_drill.specs.declared.error.DrillError.TheVariants as drill
+use Rattle.wc_drill.specs.Drilled.{Drills}
+use Rattle.wc_drill.specs.Leaves.{DrilledBeside, DrilledOr, IsBegun, IsOfDrill, RefusedLeaves}
+use Rattle.wc_drill.specs.Refusals.{Counts, IsOfInit, RefusesDrill, RefusesDrilled, of_init}
+use Rattle.wc_drill.proofs.Joined.{of_some}
+use Rattle.wc_drill.specs.Drilled as drilled
+
+-- a drill of which nothing is done yet has made the empty world
+begins : (seed count : ℕ) → Drills seed count empty
+begins seed count = of_some seed count empty (0, omega arith, drilled.none empty)
+
+of_beginning : (seed count : ℕ) (one two image rest : List ℕ) → BeginsFrom one two image rest → IsOfDrill seed count one two image rest
+of_beginning seed count one two image rest b = record { before = b.before; held = ⊎_elim (λ none. inl none) (λ held. inr (empty, begins seed count, held)) b.held }
+
+module _ {D : Type 0} (g : disk.Ghosts D) (at_now : (d : D) (image : List ℕ) → g.left_since d (g.moment d) image → g.may_leave d image)
+    (counts : (d : D) (t : ℕ) (image : List ℕ) → t ≤ g.moment d → g.may_leave d image → g.left_since d t image)
+    (reads : (d : D) → IsTrue (g.tells d) → g.may_leave d (g.seen d)) (seed count : ℕ) where
+  -- of a call in two parts: an image of disk one from its first part, or one that is as P says beside each that disk two may leave in the end
+  own_side : (one two one_new two_new : D) (P : List ℕ → List ℕ → Type 0) → InTwoParts g one two one_new two_new P
+      → LeavesOnly g one one_new (λ a. g.may_leave one a ⊎ ((b : List ℕ) → g.may_leave two_new b → P a b))
+  own_side one two one_new two_new P parts = record {
+    later = omega (arith, parts.first_one.later, parts.later_one);
+    each = λ a left. ⊎_elim
+        (λ earlier. inl (parts.first_one.each a earlier))
+        (λ f. inr (λ b now. f b (counts two_new (g.moment parts.two_between) b parts.later_two now)))
+        (parts.since_one (g.moment one) a parts.first_one.later left);
+    before = λ t a le left. ⊎_elim
+        (λ earlier. ⊎_elim (λ old. inl old) (λ image. inr (inl image)) (parts.first_one.before t a le earlier))
+        (λ f. inr (inr (λ b now. f b (counts two_new (g.moment parts.two_between) b parts.later_two now))))
+        (parts.since_one t a (omega (arith, le, parts.first_one.later)) left);
+  }
+
+  -- no disk is called
+  pub unasked : (one two : D) → LeavesOnly g one one (DrilledBeside g seed count one two two)
+  unasked one two = no_call g one (DrilledBeside g seed count one two two) (λ image left. inl (at_now one image left))
+
+  pub unasked_two : (two : D) → LeavesOnly g two two (g.may_leave two)
+  unasked_two two = no_call g two (g.may_leave two) (at_now two)
+
+  -- ---- a store isn't made
+
+  one_part : (one two one_new two_new : D) → InOnePart g one two one_new two_new → LeavesOnly g one one_new (DrilledBeside g seed count one two two_new)
+  one_part one two one_new two_new part =
+      weaker_run g one one_new (g.may_leave one) (DrilledBeside g seed count one two two_new) part.only_one (λ a was. inl was)
+
+  two_parts : (one two one_new two_new : D) → InTwoParts g one two one_new two_new (BeginsFrom (g.seen one) (g.seen two))
+      → LeavesOnly g one one_new (DrilledBeside g seed count one two two_new)
+  two_parts one two one_new two_new parts =
+      weaker_run g one one_new (λ a. g.may_leave one a ⊎ ((b : List ℕ) → g.may_leave two_new b → BeginsFrom (g.seen one) (g.seen two) a b))
+      (DrilledBeside g seed count one two two_new) (own_side one two one_new two_new (BeginsFrom (g.seen one) (g.seen two)) parts)
+      (λ a. ⊎_elim (λ was. inl was) (λ f. inr (λ b now. of_beginning seed count (g.seen one) (g.seen two) a b (f b now))))
+
+  there : (one two one_new two_new : D) → IsTrue (g.tells one) → IsTrue (g.tells two_new) → InTwoParts g one two one_new two_new (AreImages (g.seen one) (g.seen two))
+      → LeavesOnly g one one_new (DrilledBeside g seed count one two two_new)
+  there one two one_new two_new told told_too parts =
+      weaker_run g one one_new (λ a. g.may_leave one a ⊎ ((b : List ℕ) → g.may_leave two_new b → AreImages (g.seen one) (g.seen two) a b))
+      (DrilledBeside g seed count one two two_new) (own_side one two one_new two_new (AreImages (g.seen one) (g.seen two)) parts)
+      (λ a. ⊎_elim (λ was. inl was)
+      (λ f. inl (subst (g.may_leave one) (sym (f (g.seen two_new) (reads two_new told_too)).0) (reads one told))))
+
+  -- whatever `init` refuses
+  pub unmade : (e : StoreError) (one two one_new two_new : D) → IsTrue (g.tells one) → IsTrue (g.tells two_new) → InitLeaves g (Err e) one two one_new two_new
+      → LeavesOnly g one one_new (DrilledBeside g seed count one two two_new)
+  unmade store_error.DiskFault one two one_new two_new told told_too (inl part) = one_part one two one_new two_new part
+  unmade store_error.DiskFault one two one_new two_new told told_too (inr parts) = two_parts one two one_new two_new parts
+  unmade (store_error.Damaged disk at found) one two one_new two_new told told_too part = one_part one two one_new two_new part
+  unmade (store_error.Full what most limit) one two one_new two_new told told_too part = one_part one two one_new two_new part
+  unmade store_error.AlreadyThere one two one_new two_new told told_too parts = there one two one_new two_new told told_too parts
+  unmade store_error.OutOfMemory one two one_new two_new told told_too part = one_part one two one_new two_new part
+
+  -- ---- a store is made, and drilled
+
+  module _ (one two one_mid two_mid one_new two_new : D) (parts : InTwoParts g one two one_mid two_mid (BeginsFrom (g.seen one) (g.seen two)))
+      (before : IsHeld (g.seen one) (g.seen two) nothing) (durable : Only (g.seen two_mid) (g.may_leave two_mid))
+      (leaves : LeavesWorlds g One (Drills seed count) one_mid two_mid one_new two_new) where
+    -- an image that disk two may leave in the end is what it reads as
+    rest_is : (b : List ℕ) → g.may_leave two_new b → b ≡ g.seen two_mid
+    rest_is b now = durable b (subst (λ (d : D). g.may_leave d b) leaves.untouched now)
+
+    pub made : LeavesOnly g one one_new (DrilledBeside g seed count one two two_new)
+    made = both_runs g one one_mid one_new (DrilledBeside g seed count one two two_mid) (HoldsSome One (Drills seed count) (g.seen two_mid))
+        (DrilledBeside g seed count one two two_new) (two_parts one two one_mid two_mid parts) leaves.each
+        (λ a. ⊎_elim (λ was. inl was) (λ f. inr (λ b now. f b (subst (λ (d : D). g.may_leave d b) leaves.untouched now))))
+        (λ a h. inr (λ b now. record {
+          before = before;
+          held = inr (h.0, h.1, subst (λ (rest : List ℕ). IsHeld a rest (a_world h.0)) (sym (rest_is b now)) h.2);
+        }))
+
+    pub made_two : LeavesOnly g two two_mid (g.may_leave two) → LeavesOnly g two two_new (g.may_leave two)
+    made_two first = subst (λ (d : D). LeavesOnly g two d (g.may_leave two)) (sym leaves.untouched) first
+
+    pub seen_still : g.seen two_mid ≡ g.seen two → g.seen two_new ≡ g.seen two
+    seen_still same = ap g.seen leaves.untouched ∙ same
+
+  -- ---- beside what disk two reads as
+
+  pub beside_read : (one two one_new two_new : D) → IsTrue (g.tells two_new) → g.seen two_new ≡ g.seen two → LeavesOnly g one one_new (DrilledBeside g seed count one two two_new)
+      → LeavesOnly g one one_new (DrilledOr seed count (g.seen one) (g.seen two) (g.may_leave one))
+  beside_read one two one_new two_new told same run =
+      weaker_run g one one_new (DrilledBeside g seed count one two two_new) (DrilledOr seed count (g.seen one) (g.seen two) (g.may_leave one)) run
+      (λ a. ⊎_elim (λ was. inl was)
+      (λ f. inr (subst (λ (rest : List ℕ). IsOfDrill seed count (g.seen one) (g.seen two) a rest) same (f (g.seen two_new) (reads two_new told)))))
+
+-- ---- refusals
+
+-- why no store is made
+pub of_init_alone : (told : Type 0) (held : Standing → Type 0) (e : StoreError) → RefusesInit told held e → IsOfInit e
+of_init_alone told held store_error.DiskFault h = tt
+of_init_alone told held (store_error.Damaged disk at found) h = tt
+of_init_alone told held (store_error.Full what most limit) h = h
+of_init_alone told held store_error.AlreadyThere h = tt
+of_init_alone told held store_error.OutOfMemory h = tt
+
+-- then none was begun
+pub not_begun : (A : Type 0) (e : StoreError) → IsBegun {T = A} (Err (of_init e)) → ⊥
+not_begun A store_error.DiskFault h = h
+not_begun A (store_error.Damaged disk at found) h = h
+not_begun A (store_error.Full what most limit) h = h
+not_begun A store_error.AlreadyThere h = h
+not_begun A store_error.OutOfMemory h = h
+
+pub counts_unmade : (A B : Type 0) (e : StoreError) (one one_new two two_new : ℕ) → CountsStore {T = A} (Err e) one one_new two two_new
+    → Counts {T = B} (Err (of_init e)) one one_new two two_new
+counts_unmade A B store_error.DiskFault one one_new two two_new h = h
+counts_unmade A B (store_error.Damaged disk at found) one one_new two two_new h = h
+counts_unmade A B (store_error.Full what most limit) one one_new two two_new h = h
+counts_unmade A B store_error.AlreadyThere one one_new two two_new h = h
+counts_unmade A B store_error.OutOfMemory one one_new two two_new h = h
+
+-- counts since the beginning, where no disk failed up to a call
+pub counts_since : {A : Type 0} (result : Result A DrillError) (one one_mid one_new two two_mid two_new : ℕ) → (one_mid ≡ one) × (two_mid ≡ two)
+    → Counts result one_mid one_new two_mid two_new → Counts result one one_new two two_new
+counts_since result one one_mid one_new two two_mid two_new same h =
+    subst (λ (m : ℕ). Counts result one one_new m two_new) same.1 (subst (λ (m : ℕ). Counts result m one_new two_mid two_new) same.0 h)
+
+module _ {D : Type 0} (g : disk.Ghosts D) (told : Type 0) (seed count : ℕ) (one two one_new two_new : D) where
+  pub init_refused : (e : StoreError) → RefusesInit told (IsHeld (g.seen one) (g.seen two)) e → RefusesDrill g told seed count one two one_new two_new (of_init e)
+  init_refused store_error.DiskFault h = tt
+  init_refused (store_error.Damaged disk at found) h = h
+  init_refused (store_error.Full what most limit) h = tt
+  init_refused store_error.AlreadyThere h = h
+  init_refused store_error.OutOfMemory h = tt
+
+  pub init_unbegun : (A : Type 0) (e : StoreError) → InitLeaves g (Err e) one two one_new two_new
+      → IsUnchangedStore {T = Store} (Err e) (g.seen one) (g.seen one_new) → RefusedLeaves {T = A} g (Err (of_init e)) one two one_new two_new
+  init_unbegun A store_error.DiskFault leaves same = tt
+  init_unbegun A (store_error.Damaged disk at found) leaves same = (leaves, same)
+  init_unbegun A (store_error.Full what most limit) leaves same = tt
+  init_unbegun A store_error.AlreadyThere leaves same = (leaves, same)
+  init_unbegun A store_error.OutOfMemory leaves same = tt
+
+  pub drilled_refused : (e : DrillError) → RefusesDrilled g told seed count one_new two_new e → RefusesDrill g told seed count one two one_new two_new e
+  drilled_refused drill.DiskFault h = tt
+  drilled_refused (drill.Damaged disk at found) h = absurd h
+  drilled_refused (drill.Full what most limit) h = h
+  drilled_refused drill.AlreadyThere h = absurd h
+  drilled_refused drill.Spent h = h
+  drilled_refused drill.Resting h = h
+  drilled_refused drill.OutOfMemory h = tt
+
+  pub drilled_unbegun : {A : Type 0} (result : Result A DrillError) → IfErr result (RefusesDrilled g told seed count one_new two_new)
+      → RefusedLeaves g result one two one_new two_new
+  drilled_unbegun (Ok a) h = tt
+  drilled_unbegun (Err drill.DiskFault) h = tt
+  drilled_unbegun (Err (drill.Damaged disk at found)) h = absurd h
+  drilled_unbegun (Err (drill.Full what most limit)) h = tt
+  drilled_unbegun (Err drill.AlreadyThere) h = absurd h
+  drilled_unbegun (Err drill.Spent) h = tt
+  drilled_unbegun (Err drill.Resting) h = tt
+  drilled_unbegun (Err drill.OutOfMemory) h = tt

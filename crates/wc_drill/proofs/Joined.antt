@@ -1,0 +1,145 @@
+-- A drill as a whole: what its submissions and its run make and leave on a new store.
+use Rattle.std.proofs.Common.{◌≡◌, inl, inr, ℕ, true, Result, Err, refl, sym, subst, arith}
+use Rattle.std.specs.Prelude.{IfOk, IfErr}
+use Rattle.wc_disk.specs.declared.disk.Disk as disk
+use Rattle.wc_journal.specs.Journals.{IsSettled}
+use Rattle.wc_world.specs.World.{World, empty}
+use Rattle.wc_runner.specs.Leaves.{LeavesWorlds, SomeTurns}
+use Rattle.wc_runner.specs.Refusals.{RefusesRun, is_live_after}
+use Rattle.wc_runner.specs.Refusals.{Counts as CountsRun}
+use Rattle.wc_runner.specs.Trips as trips
+use Rattle.wc_runner.specs.declared.error.RunError.{RunError}
+use Rattle.wc_runner.specs.declared.error.RunError.TheVariants as run
+use Rattle.wc_runner.specs.declared.running.RunEnd.{RunEnd}
+use Rattle.wc_runner.specs.declared.running.RunEnd.TheVariants as end
+use Rattle.wc_store.specs.Places.{its}
+use Rattle.wc_store.specs.Stores.{StandsFor}
+use Rattle.wc_store.specs.declared.place.Place.{Place}
+use Rattle.wc_store.specs.declared.place.Place.TheVariants.{One}
+use Rattle.wc_store.specs.declared.store.Store.{Store}
+use Rattle.wc_drill.specs.declared.error.DrillError.{DrillError}
+use Rattle.wc_drill.specs.Drilled.{Drills, HasDrilled, Submitted, outside, turns_of}
+use Rattle.wc_drill.specs.Leaves.{AreDurable, HoldsNow, IsBegun}
+use Rattle.wc_drill.specs.Refusals.{Counts, EndsDrill, RefusesChains, RefusesDrilled, of_run}
+use Rattle.wc_drill.specs.Running.{EndsSo}
+use Rattle.wc_drill.specs.Storing.{SubmittedSome}
+use Rattle.wc_drill.proofs.Leaving.{leaves_on, weaker_leaves}
+
+none_taken : (most : ℕ) (w : World) → SomeTurns outside most w w
+none_taken most w = (record { count = 0; rests = 0; few = omega arith; turns = trips.none w; batches = omega arith }, inl refl)
+
+-- what the first submissions make
+pub of_some : (seed count : ℕ) (v : World) → SubmittedSome seed count empty v → Drills seed count v
+of_some seed count v s = record { chains = s.0; some = s.1; begun = v; submitted = s.2; takes = none_taken (turns_of count) v; order = inl refl }
+
+-- what turns make once all are submitted
+pub of_turns : (seed count : ℕ) (u v : World) → Submitted seed count empty u → SomeTurns outside (turns_of count) u v → Drills seed count v
+of_turns seed count u v s t = record { chains = count; some = omega arith; begun = u; submitted = s; takes = t; order = inr refl }
+
+-- ---- a new store
+
+module _ {D : Type 0} (g : disk.Ghosts D) (seed count : ℕ) where
+  -- the submissions broke off
+  module _ (told : Type 0) (w : World) (bare : w ≡ empty) (store : Store) (one two : D) (made : store.place ≡ One) (some : SubmittedSome seed count w store.world.world)
+      (stands : store.live ≡ true → told → StandsFor g store one two) where
+    pub chains_refused : (e : RunError) → store.live ≡ is_live_after {T = Unit {0}} (Err e) → RefusesChains g told seed count w store one two e
+        → RefusesDrilled g told seed count one two (of_run e)
+    chains_refused run.DiskFault live refused = tt
+    chains_refused (run.Full what most limit) live refused = record {
+      world = store.world.world;
+      drills = of_some seed count store.world.world (subst (λ (x : World). SubmittedSome seed count x store.world.world) bare some);
+      held = λ t. (stands live t).held;
+      journal = refused.journal;
+      settled = λ t. subst (λ (p : Place). IsSettled g refused.journal (its p one two)) made (refused.settled t);
+      refused = inl (
+        refused.chain,
+        refused.before,
+        subst (λ (x : World). Submitted seed refused.chain x store.world.world) bare refused.submitted,
+        refused.refused,
+      );
+    }
+    chains_refused run.OutOfMemory live refused = tt
+
+  -- all were submitted, and turns were taken
+  module _ (told : Type 0) (begun : World) (submitted : Submitted seed count empty begun) (store : Store) (one two : D) (made : store.place ≡ One)
+      (takes : SomeTurns outside (turns_of count) begun store.world.world) (stands : store.live ≡ true → told → StandsFor g store one two) where
+    -- the run broke off
+    pub run_refused : (e : RunError) → store.live ≡ is_live_after {T = Unit {0}} (Err e) → RefusesRun g told outside store one two e
+        → RefusesDrilled g told seed count one two (of_run e)
+    run_refused run.DiskFault live refused = tt
+    run_refused (run.Full what most limit) live refused = record {
+      world = store.world.world;
+      drills = of_turns seed count begun store.world.world submitted takes;
+      held = λ t. (stands live t).held;
+      journal = refused.journal;
+      settled = λ t. subst (λ (p : Place). IsSettled g refused.journal (its p one two)) made (refused.settled t);
+      refused = inr (refused.pid, refused.refused);
+    }
+    run_refused run.OutOfMemory live refused = tt
+
+    -- the run came to an end
+    module _ (live : store.live ≡ true) where
+      holds : told → HoldsNow g one two store.world.world
+      holds t = let s : StandsFor g store one two = stands live t in record { durable_one = s.durable_one; durable_two = s.durable_two; held = s.held }
+
+      abbrev pub Done : ℕ → Type 0
+      Done batches = (w : World) × HasDrilled seed count w × (batches ≡ w.batches) × (told → HoldsNow g one two w)
+
+      pub run_done : (e : RunEnd) (result : Result ℕ DrillError) → EndsSo (turns_of count) begun store.world.world e → EndsDrill e store.world.world result
+          → IfOk result Done
+      run_done end.AllEnded result ends is =
+          subst (λ (r : Result ℕ DrillError). IfOk r Done) (sym is)
+          (store.world.world, record { begun = begun; submitted = submitted; takes = takes.0; ended = ends }, refl, holds)
+      run_done end.Spent result ends is = subst (λ (r : Result ℕ DrillError). IfOk r Done) (sym is) tt
+      run_done end.Resting result ends is = subst (λ (r : Result ℕ DrillError). IfOk r Done) (sym is) tt
+
+      pub run_ended : (e : RunEnd) (result : Result ℕ DrillError) → EndsSo (turns_of count) begun store.world.world e → EndsDrill e store.world.world result
+          → IfErr result (RefusesDrilled g told seed count one two)
+      run_ended end.AllEnded result ends is = subst (λ (r : Result ℕ DrillError). IfErr r (RefusesDrilled g told seed count one two)) (sym is) tt
+      run_ended end.Spent result ends is = subst (λ (r : Result ℕ DrillError). IfErr r (RefusesDrilled g told seed count one two)) (sym is)
+          (store.world.world, record { begun = begun; submitted = submitted; takes = ends.2; live = ends.0; goes = ends.1 }, λ t. (stands live t).held)
+      run_ended end.Resting result ends is = subst (λ (r : Result ℕ DrillError). IfErr r (RefusesDrilled g told seed count one two)) (sym is)
+          (store.world.world, record { begun = begun; submitted = submitted; takes = takes.0; live = ends.0; held_up = ends.1 }, λ t. (stands live t).held)
+
+-- ---- what stands in the end
+
+pub durable : {D : Type 0} (g : disk.Ghosts D) (store : Store) (one two : D) → StandsFor g store one two → AreDurable g one two
+durable g store one two s = record { durable_one = s.durable_one; durable_two = s.durable_two }
+
+-- a store that is left by what broke off is live where a store was made and no disk failed
+pub live_begun : (A : Type 0) (e : RunError) → IsBegun {T = A} (Err (of_run e)) → is_live_after {T = Unit {0}} (Err e) ≡ true
+live_begun A run.DiskFault begun = absurd begun
+live_begun A (run.Full what most limit) begun = refl
+live_begun A run.OutOfMemory begun = absurd begun
+
+-- ---- counts
+
+pub counts_broken : (A B : Type 0) (e : RunError) (one one_new two two_new : ℕ) → CountsRun {T = A} (Err e) one one_new two two_new
+    → Counts {T = B} (Err (of_run e)) one one_new two two_new
+counts_broken A B run.DiskFault one one_new two two_new h = h
+counts_broken A B (run.Full what most limit) one one_new two two_new h = h
+counts_broken A B run.OutOfMemory one one_new two two_new h = h
+
+pub counts_ended : (e : RunEnd) (w : World) (result : Result ℕ DrillError) (one one_new two two_new : ℕ) → EndsDrill e w result → (one_new ≡ one) × (two_new ≡ two)
+    → Counts result one one_new two two_new
+counts_ended end.AllEnded w result one one_new two two_new is h = subst (λ (r : Result ℕ DrillError). Counts r one one_new two two_new) (sym is) h
+counts_ended end.Spent w result one one_new two two_new is h = subst (λ (r : Result ℕ DrillError). Counts r one one_new two two_new) (sym is) h
+counts_ended end.Resting w result one one_new two two_new is h = subst (λ (r : Result ℕ DrillError). Counts r one one_new two two_new) (sym is) h
+
+-- ---- what is left on the disks
+
+module _ {D : Type 0} (g : disk.Ghosts D) (seed count : ℕ) where
+  -- by submissions that broke off
+  pub chains_leave : (one two one_new two_new : D) → LeavesWorlds g One (SubmittedSome seed count empty) one two one_new two_new
+      → LeavesWorlds g One (Drills seed count) one two one_new two_new
+  chains_leave one two one_new two_new leaves =
+      weaker_leaves g One (SubmittedSome seed count empty) (Drills seed count) one two one_new two_new (of_some seed count) leaves
+
+  -- by all submissions, and a run
+  pub run_leaves : (begun : World) (one two one_mid two_mid one_new two_new : D) → Submitted seed count empty begun
+      → LeavesWorlds g One (SubmittedSome seed count empty) one two one_mid two_mid
+      → LeavesWorlds g One (SomeTurns outside (turns_of count) begun) one_mid two_mid one_new two_new
+      → LeavesWorlds g One (Drills seed count) one two one_new two_new
+  run_leaves begun one two one_mid two_mid one_new two_new submitted first second =
+      leaves_on g One (SubmittedSome seed count empty) (SomeTurns outside (turns_of count) begun) (Drills seed count) one two one_mid two_mid one_new two_new
+      (of_some seed count) (λ v taken. of_turns seed count begun v submitted taken) first second

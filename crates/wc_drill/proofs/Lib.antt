@@ -1,0 +1,9 @@
+mod Results
+mod Chains
+mod Leaving
+mod UnderWay
+mod Turned
+mod Keeping
+mod Joined
+mod Ran
+mod Begun

@@ -1,0 +1,99 @@
+-- Turns of the run of a drill are turns in which each result is the square of a number.
+use Rattle.std.proofs.Common.{◌≡◌, ◌≤◌, ◌+◌, inl, inr, ⊎_elim, ℕ, List, Some, length, subst, arith}
+use Rattle.wc_io.specs.declared.pacer.Pacer as pacer
+use Rattle.wc_disk.specs.declared.disk.Disk as disk
+use Rattle.wc_value.specs.declared.process.JobResult.{JobResult}
+use Rattle.wc_value.specs.declared.process.Request.{Request}
+use Rattle.wc_journal.specs.declared.journal.Journal.{Journal}
+use Rattle.wc_state.specs.declared.record.Limits.{Limits}
+use Rattle.wc_transport.specs.Outside.{IsRow, WhereTold}
+use Rattle.wc_transport.specs.declared.transport.Transport as transport
+use Rattle.wc_world.specs.declared.change.Change.{Change}
+use Rattle.wc_world.specs.World.{World}
+use Rattle.wc_world.specs.Applied.{applied}
+use Rattle.wc_refusal.specs.Refusals.{IsFull}
+use Rattle.wc_store.specs.Refusals.{RefusesCommit}
+use Rattle.wc_store.specs.declared.error.StoreError.{StoreError}
+use Rattle.wc_store.specs.declared.error.StoreError.TheVariants as store_error
+use Rattle.wc_store.specs.declared.store.Store.{Store}
+use Rattle.wc_runner.specs.declared.error.RunError.{RunError}
+use Rattle.wc_runner.specs.declared.error.RunError.TheVariants.{DiskFault, Full, OutOfMemory}
+use Rattle.wc_runner.specs.declared.running.RunEnd.{RunEnd}
+use Rattle.wc_runner.specs.declared.running.RunEnd.TheVariants.{AllEnded, Spent, Resting}
+use Rattle.wc_runner.specs.Leaves.{SomeTurns}
+use Rattle.wc_runner.specs.Outside.{Outside, in_run}
+use Rattle.wc_runner.specs.Refusals.{RefusesStep, RefusesRun}
+use Rattle.wc_runner.specs.Running.{TakesTurns, TakesAll, TakesUpTo, EndsAs, FitsAfter}
+use Rattle.wc_runner.proofs.Widened.{Widens, turn_widened, turns_widened}
+use Rattle.wc_generated.specs.Squares.{square_rows}
+use Rattle.wc_generated.proofs.Rows.{row_is_squared}
+use Rattle.wc_drill.specs.Drilled.{outside, usual_limits}
+use Rattle.wc_drill.specs.Running.{EndsSo, TakesJust}
+
+module _ {T P : Type 0} (h : transport.Ghosts T) (k : pacer.Ghosts P) (limits : Limits) (usual : limits ≡ usual_limits) (tr tr_new : T) (pa_new : P)
+    (table : h.table tr ≡ Some (square_rows 100)) where
+  abbrev known : Outside
+  known = in_run h k limits tr tr_new pa_new
+
+  squared : (q : Request) (r : JobResult) → WhereTold (IsRow q r) (h.table tr) → outside.brings q r
+  squared q r told =
+      let row : IsRow q r (square_rows 100) = subst (WhereTold (IsRow q r)) table told in
+      row_is_squared 100 q r (omega arith) row.stands
+
+  pub wide : Widens known outside
+  wide = record { said = λ moment said. tt; gave = λ dir t q reply given. tt; brings = squared; failed = λ rises. tt; limits = usual }
+
+  takes_just : (all : ℕ) (w v : World) (begun now : ℕ) → TakesAll known all w v begun now → TakesJust all w v
+  takes_just all w v begun now t = record { count = t.count; rests = t.rests; all_of_them = t.all_of_them; turns = turns_widened known outside wide t.count t.rests w v t.turns }
+
+  -- what it has taken
+  takes_turns : (most : ℕ) (w v : World) (begun now : ℕ) → TakesUpTo known most w v begun now → TakesTurns outside most w v
+  takes_turns most w v begun now up =
+      let t = up.2 in
+      let few : t.count + t.rests ≤ most = omega (arith, up.1, t.all_of_them) in
+      record { count = t.count; rests = t.rests; few = few; turns = turns_widened known outside wide t.count t.rests w v t.turns; batches = t.batches }
+
+  -- within the limit of nodes, where any turn was taken
+  pub takes_some : (most : ℕ) (w : World) (store : Store) (begun now : ℕ) → TakesUpTo known most w store.world.world begun now → FitsAfter limits w store
+      → SomeTurns outside most w store.world.world
+  takes_some most w store begun now up fits = (
+    takes_turns most w store.world.world begun now up,
+    ⊎_elim (λ still. inl still) (λ f. inr (subst (λ (l : Limits). length store.world.world.nodes ≤ l.max_nodes) usual f.0)) fits,
+  )
+
+  -- how it ends
+  pub ends_so : (most : ℕ) (w v : World) (begun now : ℕ) (e : RunEnd) → EndsAs known most w v begun now e → EndsSo most w v e
+  ends_so most w v begun now AllEnded e = e
+  ends_so most w v begun now Spent e = (e.0, e.1, takes_just most w v begun now e.2)
+  ends_so most w v begun now Resting e = e
+
+  -- what it leaves
+  pub some_turns : (most : ℕ) (w v : World) → SomeTurns known most w v → SomeTurns outside most w v
+  some_turns most w v s = (
+    record { count = s.0.count; rests = s.0.rests; few = s.0.few; turns = turns_widened known outside wide s.0.count s.0.rests w v s.0.turns; batches = s.0.batches },
+    ⊎_elim (λ still. inl still) (λ few. inr (subst (λ (l : Limits). length v.nodes ≤ l.max_nodes) usual few)) s.1,
+  )
+
+  stored : (journal : Journal) (w : World) (cs : List Change) (e : StoreError) → RefusesCommit journal limits w cs e → RefusesCommit journal outside.limits w cs e
+  stored journal w cs e h = subst (λ (l : Limits). RefusesCommit journal l w cs e) usual h
+
+  refuses_step : (journal : Journal) (w : World) (pid : ℕ) (e : RunError) → RefusesStep known journal w pid e → RefusesStep outside journal w pid e
+  refuses_step journal w pid DiskFault r = (r.0, turn_widened known outside wide pid w r.0 r.1, stored journal w r.0 store_error.DiskFault r.2)
+  refuses_step journal w pid (Full what count limit) (inl r) =
+      inl (r.0, turn_widened known outside wide pid w r.0 r.1, subst (λ (l : Limits). IsFull l.max_nodes (applied w r.0) what count limit) usual r.2)
+  refuses_step journal w pid (Full what count limit) (inr r) =
+      inr (r.0, turn_widened known outside wide pid w r.0 r.1, stored journal w r.0 (store_error.Full what count limit) r.2)
+  refuses_step journal w pid OutOfMemory r = tt
+
+  -- why it breaks off
+  pub refuses_run : {D : Type 0} (g : disk.Ghosts D) (told : Type 0) (store : Store) (one two : D) (e : RunError) → RefusesRun g told known store one two e
+      → RefusesRun g told outside store one two e
+  refuses_run g told store one two DiskFault r = tt
+  refuses_run g told store one two (Full what count limit) r = record {
+    pid = r.pid;
+    journal = r.journal;
+    version = r.version;
+    settled = r.settled;
+    refused = refuses_step r.journal store.world.world r.pid (Full what count limit) r.refused;
+  }
+  refuses_run g told store one two OutOfMemory r = tt

@@ -1,0 +1,53 @@
+-- What a drill leaves on its disks.
+use Rattle.std.specs.Prelude.{◌≡◌, ◌⊎◌, ℕ, List, Result, Ok, Err}
+use Rattle.wc_disk.specs.declared.disk.Disk as disk
+use Rattle.wc_disk.specs.Steps.{Only}
+use Rattle.wc_world.specs.World.{World}
+use Rattle.wc_store.specs.Held.{IsHeld, nothing, a_world}
+use Rattle.wc_store.specs.Stores.{InOnePart, InTwoParts, AreImages}
+use Rattle.wc_drill.specs.declared.error.DrillError.{DrillError}
+use Rattle.wc_drill.specs.declared.error.DrillError.TheVariants.{DiskFault, Damaged, Full, AlreadyThere, Spent, Resting, OutOfMemory}
+use Rattle.wc_drill.specs.Drilled.{Drills}
+
+-- An image of disk one, beside one of disk two, is one of a drill: where the disks held nothing, the two hold nothing, or a world that the drill
+-- makes of the empty one.
+pub record IsOfDrill (seed count : ℕ) (one two image rest : List ℕ) : Type 0 where
+  pub before : IsHeld one two nothing
+  pub held : IsHeld image rest nothing ⊎ ((v : World) × Drills seed count v × IsHeld image rest (a_world v))
+
+-- the image is one that a crash at entry might have left, or one of the drill beside what disk two reads as
+abbrev pub DrilledOr : (seed count : ℕ) → (one two : List ℕ) → (List ℕ → Type 0) → List ℕ → Type 0
+DrilledOr seed count one two before image = before image ⊎ IsOfDrill seed count one two image two
+
+-- or one of the drill beside each image that disk two may leave in the end
+abbrev pub DrilledBeside : {D : Type 0} → disk.Ghosts D → (seed count : ℕ) → (one two two_new : D) → List ℕ → Type 0
+DrilledBeside g seed count one two two_new image =
+    g.may_leave one image ⊎ ((rest : List ℕ) → g.may_leave two_new rest → IsOfDrill seed count (g.seen one) (g.seen two) image rest)
+
+-- Nothing is pending on either disk.
+pub record AreDurable {D : Type 0} (g : disk.Ghosts D) (one two : D) : Type 0 where
+  pub durable_one : Only (g.seen one) (g.may_leave one)
+  pub durable_two : Only (g.seen two) (g.may_leave two)
+
+-- Nothing is pending on either disk, and they hold this world.
+pub record HoldsNow {D : Type 0} (g : disk.Ghosts D) (one two : D) (w : World) : Type 0 where
+  pub durable_one : Only (g.seen one) (g.may_leave one)
+  pub durable_two : Only (g.seen two) (g.may_leave two)
+  pub held : IsHeld (g.seen one) (g.seen two) (a_world w)
+
+-- a store was made
+abbrev pub IsBegun : {T : Type 0} → Result T DrillError → Type 0
+IsBegun (Ok answer) = Unit {0}
+IsBegun (Err DiskFault) = ⊥
+IsBegun (Err (Damaged number at found)) = ⊥
+IsBegun (Err (Full what count limit)) = Unit {0}
+IsBegun (Err AlreadyThere) = ⊥
+IsBegun (Err Spent) = Unit {0}
+IsBegun (Err Resting) = Unit {0}
+IsBegun (Err OutOfMemory) = ⊥
+
+-- what a drill leaves that wasn't begun, since there is a store, or damage
+abbrev pub RefusedLeaves : {D T : Type 0} → disk.Ghosts D → Result T DrillError → (one two one_new two_new : D) → Type 0
+RefusedLeaves g (Err (Damaged number at found)) one two one_new two_new = InOnePart g one two one_new two_new × (g.seen one_new ≡ g.seen one)
+RefusedLeaves g (Err AlreadyThere) one two one_new two_new = InTwoParts g one two one_new two_new (AreImages (g.seen one) (g.seen two)) × (g.seen one_new ≡ g.seen one)
+RefusedLeaves g _ one two one_new two_new = Unit {0}

@@ -1,0 +1,127 @@
+-- Why a drill has no end, and what is counted.
+use Rattle.std.specs.Prelude.{◌≡◌, ◌⊎◌, ◌<◌, ℕ, true, false, Result, Ok, Err}
+use Rattle.wc_io.specs.Counts.{Rises}
+use Rattle.wc_disk.specs.declared.disk.Disk as disk
+use Rattle.wc_journal.specs.declared.journal.Journal.{Journal}
+use Rattle.wc_journal.specs.Journals.{IsSettled}
+use Rattle.wc_world.specs.World.{World, empty}
+use Rattle.wc_next.specs.Standing.{is_any_live, is_resting}
+use Rattle.wc_store.specs.Held.{IsHeld, damage, a_world}
+use Rattle.wc_store.specs.Places.{its}
+use Rattle.wc_store.specs.declared.store.Store.{Store}
+use Rattle.wc_store.specs.declared.error.StoreError.{StoreError}
+use Rattle.wc_store.specs.declared.error.StoreError.TheVariants as store_error
+use Rattle.wc_runner.specs.declared.running.RunEnd.{RunEnd}
+use Rattle.wc_runner.specs.declared.running.RunEnd.TheVariants as end
+use Rattle.wc_runner.specs.Refusals.{RefusesStep}
+use Rattle.wc_runner.specs.Running.{TakesTurns}
+use Rattle.wc_runner.specs.declared.error.RunError.{RunError}
+use Rattle.wc_runner.specs.declared.error.RunError.TheVariants as run
+use Rattle.wc_generated.specs.Draws.{first_number, second_number}
+use Rattle.wc_drill.specs.declared.error.DrillError.{DrillError}
+use Rattle.wc_drill.specs.declared.error.DrillError.TheVariants.{DiskFault, Damaged, Full, AlreadyThere, Spent, Resting, OutOfMemory}
+use Rattle.wc_drill.specs.Drilled.{Submitted, Drills, outside, turns_of}
+use Rattle.wc_drill.specs.Running.{TakesJust}
+use Rattle.wc_drill.specs.Storing.{RefusesChain}
+
+-- what a drill tells of what breaks off a run
+abbrev pub of_run : RunError → DrillError
+of_run run.DiskFault = DiskFault
+of_run (run.Full what count limit) = Full what count limit
+of_run run.OutOfMemory = OutOfMemory
+
+-- what is told of a store that isn't made; a new one is never full
+abbrev pub IsOfInit : StoreError → Type 0
+IsOfInit (store_error.Full what count limit) = ⊥
+IsOfInit _ = Unit {0}
+
+abbrev pub of_init : StoreError → DrillError
+of_init store_error.DiskFault = DiskFault
+of_init (store_error.Damaged number at found) = Damaged number at found
+of_init (store_error.Full what count limit) = OutOfMemory
+of_init store_error.AlreadyThere = AlreadyThere
+of_init store_error.OutOfMemory = OutOfMemory
+
+-- what is told of the end of a run: how many batches there are, where no process is live
+abbrev pub EndsDrill : RunEnd → World → Result ℕ DrillError → Type 0
+EndsDrill end.AllEnded w result = result ≡ Ok w.batches
+EndsDrill end.Spent w result = result ≡ Err Spent
+EndsDrill end.Resting w result = result ≡ Err Resting
+
+-- ---- fullness
+
+-- The next of so many chains finds the store full, by a journal that stands for the store's disk, where the disks tell their bytes.
+pub record IsFullAtChain {D : Type 0} (g : disk.Ghosts D) (told : Type 0) (seed count : ℕ) (w : World) (store : Store) (one two : D) (e : RunError) : Type 0 where
+  pub chain : ℕ
+  pub before : chain < count
+  pub submitted : Submitted seed chain w store.world.world
+  pub journal : Journal
+  pub settled : told → IsSettled g journal (its store.place one two)
+  pub refused : RefusesChain (first_number chain seed) (second_number chain seed) journal store.world.world e
+
+-- Submissions break off so. Faults and want of memory may come at any time.
+abbrev pub RefusesChains : {D : Type 0} → disk.Ghosts D → Type 0 → (seed count : ℕ) → World → Store → D → D → RunError → Type 0
+RefusesChains g told seed count w store one two run.DiskFault = Unit {0}
+RefusesChains g told seed count w store one two (run.Full what many limit) = IsFullAtChain g told seed count w store one two (run.Full what many limit)
+RefusesChains g told seed count w store one two run.OutOfMemory = Unit {0}
+
+-- What the world is too full for: the submission of its next chain, or the turn of a ready process.
+abbrev pub IsTooFullFor : (seed count : ℕ) → Journal → World → RunError → Type 0
+IsTooFullFor seed count journal w e =
+    ((chain : ℕ) × (chain < count) × Submitted seed chain empty w × RefusesChain (first_number chain seed) (second_number chain seed) journal w e)
+    ⊎ ((pid : ℕ) × RefusesStep outside journal w pid e)
+
+-- The disks hold a world that the drill makes, and which is too full for what comes next, by the journal of disk one.
+pub record IsDrillFull {D : Type 0} (g : disk.Ghosts D) (told : Type 0) (seed count : ℕ) (one two : D) (e : RunError) : Type 0 where
+  pub world : World
+  pub drills : Drills seed count world
+  pub held : told → IsHeld (g.seen one) (g.seen two) (a_world world)
+  pub journal : Journal
+  pub settled : told → IsSettled g journal one
+  pub refused : IsTooFullFor seed count journal world e
+
+-- ---- a run that doesn't come to its end
+
+-- All chains are submitted, as many turns and rests are taken as there are, and some process could go on.
+pub record IsSpent (seed count : ℕ) (v : World) : Type 0 where
+  pub begun : World
+  pub submitted : Submitted seed count empty begun
+  pub takes : TakesJust (turns_of count) begun v
+  pub live : is_any_live v ≡ true
+  pub goes : is_resting v ≡ false
+
+-- All chains are submitted, turns and rests follow, some process is live, and each live one is held up.
+pub record IsHeldUp (seed count : ℕ) (v : World) : Type 0 where
+  pub begun : World
+  pub submitted : Submitted seed count empty begun
+  pub takes : TakesTurns outside (turns_of count) begun v
+  pub live : is_any_live v ≡ true
+  pub held_up : is_resting v ≡ true
+
+-- ---- all of them
+
+-- of a store that was made
+abbrev pub RefusesDrilled : {D : Type 0} → disk.Ghosts D → Type 0 → (seed count : ℕ) → (one_new two_new : D) → DrillError → Type 0
+RefusesDrilled g told seed count one_new two_new DiskFault = Unit {0}
+RefusesDrilled g told seed count one_new two_new (Damaged number at found) = ⊥
+RefusesDrilled g told seed count one_new two_new (Full what many limit) = IsDrillFull g told seed count one_new two_new (run.Full what many limit)
+RefusesDrilled g told seed count one_new two_new AlreadyThere = ⊥
+RefusesDrilled g told seed count one_new two_new Spent = (v : World) × IsSpent seed count v × (told → IsHeld (g.seen one_new) (g.seen two_new) (a_world v))
+RefusesDrilled g told seed count one_new two_new Resting = (v : World) × IsHeldUp seed count v × (told → IsHeld (g.seen one_new) (g.seen two_new) (a_world v))
+RefusesDrilled g told seed count one_new two_new OutOfMemory = Unit {0}
+
+-- Where the disks tell their bytes, a store that is there holds a world, and damage is what they hold. Faults and want of memory may come at
+-- any time.
+abbrev pub RefusesDrill : {D : Type 0} → disk.Ghosts D → Type 0 → (seed count : ℕ) → (one two one_new two_new : D) → DrillError → Type 0
+RefusesDrill g told seed count one two one_new two_new DiskFault = Unit {0}
+RefusesDrill g told seed count one two one_new two_new (Damaged number at found) = told → IsHeld (g.seen one) (g.seen two) (damage number at found)
+RefusesDrill g told seed count one two one_new two_new (Full what many limit) = IsDrillFull g told seed count one_new two_new (run.Full what many limit)
+RefusesDrill g told seed count one two one_new two_new AlreadyThere = told → (w : World) × IsHeld (g.seen one) (g.seen two) (a_world w)
+RefusesDrill g told seed count one two one_new two_new Spent = (v : World) × IsSpent seed count v × (told → IsHeld (g.seen one_new) (g.seen two_new) (a_world v))
+RefusesDrill g told seed count one two one_new two_new Resting = (v : World) × IsHeldUp seed count v × (told → IsHeld (g.seen one_new) (g.seen two_new) (a_world v))
+RefusesDrill g told seed count one two one_new two_new OutOfMemory = Unit {0}
+
+-- `DiskFault` comes only where the count of one of the disks rose, and each other answer leaves both counts
+abbrev pub Counts : {T : Type 0} → Result T DrillError → (one one' two two' : ℕ) → Type 0
+Counts (Err DiskFault) one one' two two' = Rises one one' ⊎ Rises two two'
+Counts _ one one' two two' = (one' ≡ one) × (two' ≡ two)

@@ -1,0 +1,51 @@
+-- What a submission of a chain is made ready as, and what it leaves.
+use Rattle.std.specs.Prelude.{◌≡◌, ◌⊎◌, ◌≤◌, ℕ, true, List, length}
+use Rattle.wc_journal.specs.declared.journal.Journal.{Journal}
+use Rattle.wc_world.specs.declared.change.Change.{Change}
+use Rattle.wc_world.specs.World.{World}
+use Rattle.wc_world.specs.Accepted.{IsAccepted}
+use Rattle.wc_world.specs.Applied.{applied}
+use Rattle.wc_machine.specs.Machine.{Leads}
+use Rattle.wc_refusal.specs.Refusals.{IsFull}
+use Rattle.wc_store.specs.Held.{is_plain}
+use Rattle.wc_store.specs.Refusals.{RefusesCommit}
+use Rattle.wc_store.specs.declared.error.StoreError.TheVariants as store_error
+use Rattle.wc_runner.specs.declared.error.RunError.{RunError}
+use Rattle.wc_runner.specs.declared.error.RunError.TheVariants.{DiskFault, Full, OutOfMemory}
+use Rattle.wc_drill.specs.Drilled.{usual_limits, submits_chain, IsSubmitted, Submitted}
+
+-- The changes are those of the submission of a chain with these numbers, and a store may commit them.
+pub record IsStorable (first second : ℕ) (w : World) (cs : List Change) : Type 0 where
+  pub leads : Leads usual_limits.poll_ms w (submits_chain first second) cs
+  pub accepted : IsAccepted w cs
+  pub plain : is_plain cs ≡ true
+  pub nodes : length (applied w cs).nodes ≤ usual_limits.max_nodes
+
+-- The world would have too many nodes, or else too many batches, after the submission.
+abbrev pub IsCrowded : (first second : ℕ) → World → RunError → Type 0
+IsCrowded first second w DiskFault = ⊥
+IsCrowded first second w (Full what count limit) =
+    (cs : List Change) × Leads usual_limits.poll_ms w (submits_chain first second) cs × IsFull usual_limits.max_nodes (applied w cs) what count limit
+IsCrowded first second w OutOfMemory = Unit {0}
+
+-- The changes of the submission can't be committed, for this reason.
+abbrev pub IsOverlong : (first second : ℕ) → Journal → World → RunError → Type 0
+IsOverlong first second journal w DiskFault = Unit {0}
+IsOverlong first second journal w (Full what count limit) =
+    (cs : List Change) × Leads usual_limits.poll_ms w (submits_chain first second) cs × RefusesCommit journal usual_limits w cs (store_error.Full what count limit)
+IsOverlong first second journal w OutOfMemory = Unit {0}
+
+-- The submission is refused so at this world, by this journal. Faults and want of memory may come at any time.
+abbrev pub RefusesChain : (first second : ℕ) → Journal → World → RunError → Type 0
+RefusesChain first second journal w DiskFault = Unit {0}
+RefusesChain first second journal w (Full what count limit) =
+    IsCrowded first second w (Full what count limit) ⊎ IsOverlong first second journal w (Full what count limit)
+RefusesChain first second journal w OutOfMemory = Unit {0}
+
+-- the world, or what the submission of a chain makes of it
+abbrev pub IsOrSubmitted : (first second : ℕ) → World → World → Type 0
+IsOrSubmitted first second w v = (v ≡ w) ⊎ IsSubmitted first second w v
+
+-- what the first of so many submissions make of the world
+abbrev pub SubmittedSome : (seed count : ℕ) → World → World → Type 0
+SubmittedSome seed count w v = (n : ℕ) × (n ≤ count) × Submitted seed n w v

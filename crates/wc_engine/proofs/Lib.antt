@@ -29,3 +29,4 @@ pub mod Exits
 pub mod Undamaged
 pub mod Acknowledging
 mod Verifying
+mod Idle

@@ -79,6 +79,24 @@ NamesNoFile (Some (Submit file name given inputs settings)) = ⊥
 NamesNoFile (Some (Run turns seed (Some file))) = ⊥
 NamesNoFile (Some _) = Unit {0}
 
+-- the command takes no turns
+abbrev pub TakesNoTurns : Option Command → Type 0
+TakesNoTurns None = Unit {0}
+TakesNoTurns (Some (Run turns seed settings)) = ⊥
+TakesNoTurns (Some _) = Unit {0}
+
+-- what is done on a store takes no turns there
+abbrev pub IsNoRun : Work → Type 0
+IsNoRun (work.View v) = Unit {0}
+IsNoRun (work.Event a) = Unit {0}
+IsNoRun (work.Run o) = ⊥
+IsNoRun work.Pack = Unit {0}
+
+-- the deed takes no turns with a transport and a clock that are handed in
+abbrev pub IsIdle : Deed → Type 0
+IsIdle (deed.Begin b) = Unit {0}
+IsIdle (deed.Work w) = IsNoRun w
+
 -- what is to be submitted is ready
 abbrev pub IsReadyAsked : Asked → Type 0
 IsReadyAsked (asked.Submit s) = IsReady s

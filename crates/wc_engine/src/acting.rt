@@ -5,7 +5,7 @@ ghost use Rattle.wc_store.specs.Stores.{StandsFor};
 ghost use Rattle.wc_engine.specs.Calls.{CountsDisks};
 ghost use Rattle.wc_engine.specs.Crashes.{AreDurable, HoldsKeeping, LeavesKept, LeavesPairs};
 ghost use Rattle.wc_engine.specs.Owed.{visit, OwedDeed};
-ghost use Rattle.wc_engine.specs.Plans.{IsReadyDeed, IsReadyWork};
+ghost use Rattle.wc_engine.specs.Plans.{IsIdle, IsNoRun, IsReadyDeed, IsReadyWork};
 ghost use Rattle.wc_engine.specs.Replies.{IsDoneOrFull};
 ghost use Rattle.wc_engine.specs.Rows.{row, work_row};
 ghost use Rattle.wc_engine.specs.Undone.{EndsWith, LeavesUnwritten};
@@ -48,6 +48,7 @@ fn worked<D: Disk, T: Transport, P: Pacer>(
     ensures durable { IfOk result (λ r. IsTrue (D.tells one.old) → IsTrue (D.tells two.old) → AreDurable D.Disk one.new two.new) }
     ensures tells { (D.tells one.new ≡ D.tells one.old) × (D.tells two.new ≡ D.tells two.old) }
     ensures untouched { EndsWith (work_row work).undone result → (one.new ≡ one.old) × (two.new ≡ two.old) }
+    ensures idle { IsNoRun work → (transport.new ≡ transport.old) × (pacer.new ≡ pacer.old) }
     ensures cause { CountsDisks result (D.faults one.old) (D.faults one.new) (D.faults two.old) (D.faults two.new) }
 {
     worlds_are_kept();
@@ -74,6 +75,7 @@ fn work_reply<D: Disk, T: Transport, P: Pacer>(
     ensures durable { IfOk result (λ r. IsDoneOrFull r.status → IsTrue (D.tells one.old) → IsTrue (D.tells two.old) → AreDurable D.Disk one.new two.new) }
     ensures tells { (D.tells one.new ≡ D.tells one.old) × (D.tells two.new ≡ D.tells two.old) }
     ensures undone { EndsWith (row (OnStore work)).undone result → IsTrue (D.tells one.old) → IsTrue (D.tells two.old) → LeavesUnwritten D.Disk one.old two.old one.new two.new }
+    ensures idle { IsNoRun work → (transport.new ≡ transport.old) × (pacer.new ≡ pacer.old) }
     ensures cause { CountsDisks result (D.faults one.old) (D.faults one.new) (D.faults two.old) (D.faults two.new) }
 {
     match open_store(alloc, one, two)? {
@@ -97,6 +99,7 @@ pub fn act<D: Disk, T: Transport, P: Pacer>(
     ensures durable { IfOk result (λ r. IsDoneOrFull r.status → IsTrue (D.tells one.old) → IsTrue (D.tells two.old) → AreDurable D.Disk one.new two.new) }
     ensures tells { (D.tells one.new ≡ D.tells one.old) × (D.tells two.new ≡ D.tells two.old) }
     ensures undone { EndsWith (row deed).undone result → IsTrue (D.tells one.old) → IsTrue (D.tells two.old) → LeavesUnwritten D.Disk one.old two.old one.new two.new }
+    ensures idle { IsIdle deed → (transport.new ≡ transport.old) × (pacer.new ≡ pacer.old) }
     ensures cause { CountsDisks result (D.faults one.old) (D.faults one.new) (D.faults two.old) (D.faults two.new) }
 {
     match deed {

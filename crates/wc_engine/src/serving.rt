@@ -7,7 +7,7 @@ ghost use Rattle.wc_io.specs.Forms.{TakesPart};
 ghost use Rattle.wc_engine.specs.Calls.{CountsReply, status_of};
 ghost use Rattle.wc_engine.specs.Crashes.{AreDurable, EachPair, HoldsSound, HoldsTheSame, LeavesMade, Stands, StaySound};
 ghost use Rattle.wc_engine.specs.Owed.{visit, AskNoDisk, IsCertain, IsNoDeeds, IsOwed, LeaveUndone, NeedDisks};
-ghost use Rattle.wc_engine.specs.Plans.{NamesNoFile};
+ghost use Rattle.wc_engine.specs.Plans.{NamesNoFile, TakesNoTurns};
 ghost use Rattle.wc_engine.specs.Replies.{IsDoneOrFull, IsReplied, OwesStatus, Writes};
 ghost use Rattle.wc_engine.specs.Undone.{LeavesUnwritten};
 ghost use Rattle.wc_engine.specs.declared.reply.Reply.{Reply as AReply};
@@ -42,6 +42,7 @@ fn answer<R: Shelf, D: Disk, T: Transport, P: Pacer>(
     ensures contents { R.contents shelf.new ≡ R.contents shelf.old }
     ensures tells { (D.tells one.new ≡ D.tells one.old) × (D.tells two.new ≡ D.tells two.old) }
     ensures unnamed { NamesNoFile (command_of words.now) → shelf.new ≡ shelf.old }
+    ensures idle { TakesNoTurns (command_of words.now) → (transport.new ≡ transport.old) × (pacer.new ≡ pacer.old) }
     ensures unasked { AskNoDisk (R.contents shelf.old) words.now → (one.new ≡ one.old) × (two.new ≡ two.old) × (status_of result ≡ Status.DiskFault → ⊥) }
     ensures early { (c : ACause) → status_of result ≡ Status.Refused c → IsNoDeeds (R.contents shelf.old) words.now c → (one.new ≡ one.old) × (two.new ≡ two.old) }
     ensures undone { LeaveUndone (R.contents shelf.old) words.now (status_of result) → IsTrue (D.tells one.old) → IsTrue (D.tells two.old) → LeavesUnwritten D.Disk one.old two.old one.new two.new }
@@ -112,6 +113,8 @@ pub fn serve<R: Shelf, W: Sink, D: Disk, T: Transport, P: Pacer>(
     ensures early { (c : ACause) → result ≡ Status.Refused c → IsNoDeeds (R.contents shelf.old) words.now c → (one.new ≡ one.old) × (two.new ≡ two.old) }
     // The shelf isn't asked for words that name no file.
     ensures unnamed { NamesNoFile (command_of words.now) → shelf.new ≡ shelf.old }
+    // Nor is the transport, nor the clock, by words that are no `run`.
+    ensures idle { TakesNoTurns (command_of words.now) → (transport.new ≡ transport.old) × (pacer.new ≡ pacer.old) }
     ensures memory { result ≡ Status.OutOfMemory → W.taken sink.new ≡ W.taken sink.old }
     // The shelf failed in this call, and no disk was asked.
     ensures read_fault { result ≡ Status.ReadFault → Rises (R.faults shelf.old) (R.faults shelf.new) × (W.taken sink.new ≡ W.taken sink.old) × (one.new ≡ one.old) × (two.new ≡ two.old) }

@@ -7,6 +7,7 @@ use Rattle.wc_engine.specs.declared.reply.Reply.{Reply}
 use Rattle.wc_engine.proofs.Answered.{plan_counts, plan_no_fault, told_no_fault, act_counts, act_no_refusal, act_undone}
 use Rattle.wc_engine.proofs.Moments.{made, made_unasked}
 use Rattle.wc_engine.proofs.Unwriting.{none_asked}
+use Rattle.wc_engine.proofs.Idle.{plan_idle}
 use Rattle.wc_engine.proofs.serving.answer.Goals as goal
 
 -- ---- there is no plan
@@ -86,6 +87,12 @@ returns-in_err-act-in-On-clause-made g c =
     made g.D.Disk g.met.D.Disk.only_now g.met.D.Disk.counts_now (g.R.Shelf.contents c.args.shelf.now) c.args.words.now c.in-On.deed c.args.one.now c.args.two.now c.act.new.one c.act.new.two plans
     (c.act.ensures.kept told told_too)
 
+pub returns-in_err-act-in-On-clause-idle : goal.returns-in_err-act-in-On-clause-idle
+returns-in_err-act-in-On-clause-idle g c =
+    λ none.
+    let plans = subst (λ (p : Plan). Plans (g.R.Shelf.contents c.args.shelf.now) (command_of c.args.words.now) p) c.in-On.is c.in_ok-reply.ensures.plans in
+    c.in_err-act-in-On.ensures.idle (plan_idle (g.R.Shelf.contents c.args.shelf.now) (command_of c.args.words.now) (plan.On c.in-On.deed) plans none)
+
 -- ---- a deed has its reply
 
 pub returns-in_ok-act-in-On-clause-owed : goal.returns-in_ok-act-in-On-clause-owed
@@ -118,3 +125,9 @@ returns-in_ok-act-in-On-clause-made g c =
 
 pub returns-in_ok-act-in-On-clause-durable : goal.returns-in_ok-act-in-On-clause-durable
 returns-in_ok-act-in-On-clause-durable g c = λ needs done told told_too. c.in_ok-act-in-On.ensures.durable done told told_too
+
+pub returns-in_ok-act-in-On-clause-idle : goal.returns-in_ok-act-in-On-clause-idle
+returns-in_ok-act-in-On-clause-idle g c =
+    λ none.
+    let plans = subst (λ (p : Plan). Plans (g.R.Shelf.contents c.args.shelf.now) (command_of c.args.words.now) p) c.in-On.is c.in_ok-reply.ensures.plans in
+    c.in_ok-act-in-On.ensures.idle (plan_idle (g.R.Shelf.contents c.args.shelf.now) (command_of c.args.words.now) (plan.On c.in-On.deed) plans none)

@@ -28,8 +28,9 @@ _wc_slot() {
       _wc_slots=$(nproc 2>/dev/null || getconf _NPROCESSORS_ONLN 2>/dev/null) || _wc_slots=0 ;;
   esac
   [ "$_wc_slots" -gt 0 ] && command -v flock >/dev/null && mkdir -p ../slots || return
-  # One waiting script at a time looks for a free slot.
+  # One waiting script at a time looks for a free slot: after 10 ms, and then less often, up to each 0.16 s.
   true >>../slots/queue && exec 8>>../slots/queue && flock 8 || return
+  _wc_rests='0.01 0.02 0.04 0.08 0.16'
   while :; do
     _wc_at=1
     while [ "$_wc_at" -le "$_wc_slots" ]; do
@@ -37,7 +38,8 @@ _wc_slot() {
       flock -n 9 && exec 8>&- && return
       _wc_at=$((_wc_at + 1))
     done
-    sleep 0.2 2>/dev/null || sleep 1
+    sleep "${_wc_rests%% *}" 2>/dev/null || sleep 1
+    _wc_rests=${_wc_rests#* }
   done
 }
 _wc_slot

@@ -3,7 +3,7 @@
 use crate::rows::joined;
 use std::alloc::Global;
 use std::test::Fail;
-use wc_record::{read_changes, write_changes};
+use wc_record::{LastLibrary, read_changes, write_changes};
 use wc_value::{Bytes, Value};
 use wc_world::Change;
 
@@ -111,7 +111,7 @@ const REFUSED: [(&str, &[u8]); 16] = [
 /// The changes that bytes spell, as bytes again.
 #[tactic(auto, using(crate::proofs::Writables::written_is_writable))]
 fn written_back(alloc: Global, bytes: &[u8]) -> Result<Bytes, Fail> {
-    let changes = read_changes(alloc, bytes)?;
+    let changes = read_changes(alloc, bytes, &mut LastLibrary::none())?;
     Ok(write_changes(alloc, &changes)?)
 }
 
@@ -140,7 +140,7 @@ fn is_library_written_back(alloc: Global) -> Result<bool, Fail> {
 
 /// Whether the data node is read.
 fn is_five_read(alloc: Global) -> Result<bool, Fail> {
-    let changes = read_changes(alloc, FIVE)?;
+    let changes = read_changes(alloc, FIVE, &mut LastLibrary::none())?;
     Ok(matches!(changes.as_slice(), [Change::Data(Value::Int(5))]))
 }
 
@@ -155,7 +155,7 @@ fn changes_are_written_back(rt: HostRuntime) -> Result<(), Fail> {
 
 /// What reading says of bytes.
 fn told(alloc: Global, bytes: &[u8]) -> Result<String, Fail> {
-    match read_changes(alloc, bytes) {
+    match read_changes(alloc, bytes, &mut LastLibrary::none()) {
         Ok(_) => Ok(String::from_str(alloc, "read")?),
         Err(error) => Ok(format!(in alloc; "{error}")?),
     }

@@ -4,12 +4,12 @@ use crate::payloads::{ADD, FIVE};
 use crate::rows::joined;
 use std::alloc::Global;
 use std::test::Fail;
-use wc_record::{read_changes, write_snapshot};
+use wc_record::{LastLibrary, read_changes, write_snapshot};
 use wc_world::{World, WorldError};
 
 /// A world with the changes that bytes spell.
 fn world_of(alloc: Global, bytes: &[u8]) -> Result<World, Fail> {
-    let changes = read_changes(alloc, bytes)?;
+    let changes = read_changes(alloc, bytes, &mut LastLibrary::none())?;
     let mut world = World::new(alloc);
     world.accepts(alloc, &changes)?;
     world.reserve(alloc, &changes)?;
@@ -25,7 +25,7 @@ const NO_LIBRARY: &[u8] = &[
 /// Whether a world takes the number 5, and refuses those changes.
 fn is_judged(alloc: Global) -> Result<bool, Fail> {
     let world = world_of(alloc, FIVE)?;
-    let changes = read_changes(alloc, NO_LIBRARY)?;
+    let changes = read_changes(alloc, NO_LIBRARY, &mut LastLibrary::none())?;
     let is_refused = world.accepts(alloc, &changes) == Err(WorldError::BadRecord(3));
     Ok(is_refused && world.graph().nodes().len() == 1)
 }

@@ -2,7 +2,7 @@ ghost use Rattle.std.specs.Prelude.{◌≡◌, ◌++◌, None, flat_map, OnOk, I
 ghost use Rattle.wc_syntax.specs.declared.definition.Definition.{Definition};
 ghost use Rattle.wc_syntax.specs.Bare.{bare_library};
 ghost use Rattle.wc_syntax.specs.Findings.{repeated_ports, reserved_ports, repeated_statuses, repeated_files, bad_declared, bad_exits, over_counts, long_names, bad_file_names};
-ghost use Rattle.wc_syntax.specs.Checked.{KeepsRules, findings_in, findings};
+ghost use Rattle.wc_syntax.specs.Checked.{IsChecked, KeepsRules, findings_in, findings};
 ghost use Rattle.wc_syntax.specs.Writable.{IsWritable};
 ghost use Rattle.wc_check.specs.Least.{least_after};
 ghost use Rattle.wc_check.specs.Refusals.{IsFirstFinding, IsRefused};
@@ -19,6 +19,7 @@ use crate::repeats::repeats;
 use crate::rules::{bad_exits, bad_outputs, over_counts, over_definitions};
 use crate::scopes::unknown_names;
 use std::alloc::{AllocError, Global};
+use std::rc::Rc;
 use wc_syntax::{Checked, Definition, Library};
 
 /// Finds what stands twice among the ports, statuses and files of a definition.
@@ -115,6 +116,14 @@ pub fn first_finding(alloc: Global, library: &Library) -> Result<Option<CheckErr
     best.refusal(alloc)
 }
 
+/// A library that is known to be checked, put where its clones share it.
+pub fn share(alloc: Global, library: Library) -> Result<Checked, AllocError>
+    requires { IsChecked library }
+    ensures { IfOk result (λ checked. checked ≡ bare_library library) }
+{
+    Ok(Checked::of(Rc::new(alloc, library)?))
+}
+
 /// Takes a library, as `parse` gives it, that meets the rules of checked libraries.
 pub fn check(alloc: Global, library: Library) -> Result<Checked, CheckError>
     requires { IsWritable library }
@@ -123,7 +132,7 @@ pub fn check(alloc: Global, library: Library) -> Result<Checked, CheckError>
     ensures err { IfErr result (λ e. IsRefused library e) }
 {
     match first_finding(alloc, &library)? {
-        None => Ok(Checked::of(library)),
+        None => Ok(share(alloc, library)?),
         Some(error) => Err(error),
     }
 }

@@ -20,7 +20,7 @@ mod rules;
 mod scopes;
 mod statuses;
 
-pub use checking::{check, first_finding};
+pub use checking::{check, first_finding, share};
 pub use error::CheckError;
 pub use laws::{
     first_refusal_is_one, offsets_break_no_rule, rules_are_kept_where_nothing_is_found,

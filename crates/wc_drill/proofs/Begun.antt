@@ -6,7 +6,7 @@ use Rattle.wc_disk.specs.Images.{LeavesOnly}
 use Rattle.wc_disk.specs.Steps.{Only}
 use Rattle.wc_disk.proofs.Runs.{no_call, both_runs, weaker_run}
 use Rattle.wc_world.specs.World.{empty}
-use Rattle.wc_runner.specs.Leaves.{HoldsSome, LeavesWorlds}
+use Rattle.wc_runner.specs.Leaves.{HoldsSome, LeavesWorlds, of_world}
 use Rattle.wc_store.specs.Held.{IsHeld, Standing, nothing, a_world}
 use Rattle.wc_store.specs.Refusals.{RefusesInit}
 use Rattle.wc_store.specs.Refusals.{Counts as CountsStore, IsUnchanged as IsUnchangedStore}
@@ -96,12 +96,12 @@ module _ {D : Type 0} (g : disk.Ghosts D) (at_now : (d : D) (image : List ℕ) �
     rest_is b now = durable b (subst (λ (d : D). g.may_leave d b) leaves.untouched now)
 
     pub made : LeavesOnly g one one_new (DrilledBeside g seed count one two two_new)
-    made = both_runs g one one_mid one_new (DrilledBeside g seed count one two two_mid) (HoldsSome One (Drills seed count) (g.seen two_mid))
+    made = both_runs g one one_mid one_new (DrilledBeside g seed count one two two_mid) (HoldsSome One (of_world (Drills seed count)) (g.seen two_mid))
         (DrilledBeside g seed count one two two_new) (two_parts one two one_mid two_mid parts) leaves.each
         (λ a. ⊎_elim (λ was. inl was) (λ f. inr (λ b now. f b (subst (λ (d : D). g.may_leave d b) leaves.untouched now))))
         (λ a h. inr (λ b now. record {
           before = before;
-          held = inr (h.0, h.1, subst (λ (rest : List ℕ). IsHeld a rest (a_world h.0)) (sym (rest_is b now)) h.2);
+          held = inr (h.0, h.2, subst (λ (rest : List ℕ). IsHeld a rest (a_world h.0)) (sym (rest_is b now)) h.3.held);
         }))
 
     pub made_two : LeavesOnly g two two_mid (g.may_leave two) → LeavesOnly g two two_new (g.may_leave two)

@@ -23,10 +23,12 @@ use Rattle.wc_refusal.specs.Refusals.{HasRoom, RefusesSubmission}
 use Rattle.wc_refusal.specs.declared.error.TurnError.{TurnError}
 use Rattle.wc_refusal.specs.declared.error.TurnError.TheVariants as turn_error
 use Rattle.wc_store.specs.Held.{is_plain}
+use Rattle.wc_store.specs.declared.error.StoreError.TheVariants as store_error
 use Rattle.wc_runner.specs.Refusals.{Counts, RefusesStored, is_live_after}
 use Rattle.wc_runner.specs.Turning.{IsRoomOrMemory, of_turn}
 use Rattle.wc_runner.specs.declared.error.RunError.{RunError}
 use Rattle.wc_runner.specs.declared.error.RunError.TheVariants.{DiskFault, Full, OutOfMemory}
+use Rattle.wc_runner.proofs.Journals.{commit_by}
 use Rattle.wc_generated.specs.Library.{chain_inputs, chain_name, library, pair}
 use Rattle.wc_generated.proofs.Given.{named}
 use Rattle.wc_drill.specs.Drilled.{IsSubmitted, submits_chain, usual_limits}
@@ -121,6 +123,14 @@ pub chain_refused : (first second : ℕ) (w : World) (cs : List Change) (journal
 chain_refused first second w cs journal DiskFault s h = tt
 chain_refused first second w cs journal (Full what count limit) s h = inr (cs, s.leads, h)
 chain_refused first second w cs journal OutOfMemory s h = tt
+
+-- it is refused alike by a journal that ends at the same place, in the same version
+pub chain_by : (first second : ℕ) (j k : Journal) (w : World) (e : RunError) → k.end ≡ j.end → k.version ≡ j.version → RefusesChain first second j w e → RefusesChain first second k w e
+chain_by first second j k w DiskFault end version h = tt
+chain_by first second j k w (Full what count limit) end version (inl h) = inl h
+chain_by first second j k w (Full what count limit) end version (inr h) =
+    inr (h.0, h.1, commit_by j k usual_limits w h.0 (store_error.Full what count limit) end version h.2)
+chain_by first second j k w OutOfMemory end version h = tt
 
 pub crowd_refused : (first second : ℕ) (w : World) (journal : Journal) (e : RunError) → IsCrowded first second w e → RefusesChain first second journal w e
 crowd_refused first second w journal DiskFault h = tt

@@ -2,9 +2,10 @@
 use Rattle.std.proofs.Common.{◌≡◌, inl, inr, ℕ, true, Result, Err, refl, sym, subst, arith}
 use Rattle.std.specs.Prelude.{IfOk, IfErr}
 use Rattle.wc_disk.specs.declared.disk.Disk as disk
-use Rattle.wc_journal.specs.Journals.{IsSettled}
+use Rattle.wc_journal.specs.Reading.{batches_of, journal_of}
 use Rattle.wc_world.specs.World.{World, empty}
-use Rattle.wc_runner.specs.Leaves.{LeavesWorlds, SomeTurns}
+use Rattle.wc_runner.specs.Leaves.{LeavesWorlds, SomeTurns, of_world}
+use Rattle.wc_runner.proofs.Leaving.{leaves_on, weaker_leaves}
 use Rattle.wc_runner.specs.Refusals.{RefusesRun, is_live_after}
 use Rattle.wc_runner.specs.Refusals.{Counts as CountsRun}
 use Rattle.wc_runner.specs.Trips as trips
@@ -12,18 +13,18 @@ use Rattle.wc_runner.specs.declared.error.RunError.{RunError}
 use Rattle.wc_runner.specs.declared.error.RunError.TheVariants as run
 use Rattle.wc_runner.specs.declared.running.RunEnd.{RunEnd}
 use Rattle.wc_runner.specs.declared.running.RunEnd.TheVariants as end
-use Rattle.wc_store.specs.Places.{its}
+use Rattle.wc_store.specs.Choosing.{chosen, on}
+use Rattle.wc_store.specs.Places.{its, number_of}
 use Rattle.wc_store.specs.Stores.{StandsFor}
 use Rattle.wc_store.specs.declared.place.Place.{Place}
 use Rattle.wc_store.specs.declared.place.Place.TheVariants.{One}
 use Rattle.wc_store.specs.declared.store.Store.{Store}
 use Rattle.wc_drill.specs.declared.error.DrillError.{DrillError}
 use Rattle.wc_drill.specs.Drilled.{Drills, HasDrilled, Submitted, outside, turns_of}
-use Rattle.wc_drill.specs.Leaves.{AreDurable, HoldsNow, IsBegun}
+use Rattle.wc_drill.specs.Leaves.{AreDurable, HoldsOnOne, HoldsNow, IsBegun, IsFirst}
 use Rattle.wc_drill.specs.Refusals.{Counts, EndsDrill, RefusesChains, RefusesDrilled, of_run}
 use Rattle.wc_drill.specs.Running.{EndsSo}
 use Rattle.wc_drill.specs.Storing.{SubmittedSome}
-use Rattle.wc_drill.proofs.Leaving.{leaves_on, weaker_leaves}
 
 none_taken : (most : ℕ) (w : World) → SomeTurns outside most w w
 none_taken most w = (record { count = 0; rests = 0; few = omega arith; turns = trips.none w; batches = omega arith }, inl refl)
@@ -38,19 +39,32 @@ of_turns seed count u v s t = record { chains = count; some = omega arith; begun
 
 -- ---- a new store
 
+-- what the disks of a store on disk one hold
+holds_by : {D : Type 0} (g : disk.Ghosts D) (store : Store) (one two : D) → IsFirst store → StandsFor g store one two → HoldsOnOne g one two store.world.world store.journal
+holds_by {D} g store one two made s = record {
+  durable_one = s.durable_one;
+  durable_two = s.durable_two;
+  held = s.held;
+  batches = batches_of (journal_of (g.seen (its store.place one two)));
+  chooses = subst (λ (p : Place). chosen (g.seen one) (g.seen two)
+      ≡ on (number_of p) store.journal.version store.journal.generation (batches_of (journal_of (g.seen (its store.place one two))))) made.0 s.chooses;
+  end = s.settled.stands.end;
+  generation = made.1;
+  version = made.2;
+}
+
 module _ {D : Type 0} (g : disk.Ghosts D) (seed count : ℕ) where
   -- the submissions broke off
-  module _ (told : Type 0) (w : World) (bare : w ≡ empty) (store : Store) (one two : D) (made : store.place ≡ One) (some : SubmittedSome seed count w store.world.world)
+  module _ (told : Type 0) (w : World) (bare : w ≡ empty) (store : Store) (one two : D) (made : IsFirst store) (some : SubmittedSome seed count w store.world.world)
       (stands : store.live ≡ true → told → StandsFor g store one two) where
-    pub chains_refused : (e : RunError) → store.live ≡ is_live_after {T = Unit {0}} (Err e) → RefusesChains g told seed count w store one two e
+    pub chains_refused : (e : RunError) → store.live ≡ is_live_after {T = Unit {0}} (Err e) → RefusesChains seed count w store e
         → RefusesDrilled g told seed count one two (of_run e)
     chains_refused run.DiskFault live refused = tt
     chains_refused (run.Full what most limit) live refused = record {
       world = store.world.world;
       drills = of_some seed count store.world.world (subst (λ (x : World). SubmittedSome seed count x store.world.world) bare some);
-      held = λ t. (stands live t).held;
-      journal = refused.journal;
-      settled = λ t. subst (λ (p : Place). IsSettled g refused.journal (its p one two)) made (refused.settled t);
+      journal = store.journal;
+      holds = λ t. holds_by g store one two made (stands live t);
       refused = inl (
         refused.chain,
         refused.before,
@@ -61,18 +75,17 @@ module _ {D : Type 0} (g : disk.Ghosts D) (seed count : ℕ) where
     chains_refused run.OutOfMemory live refused = tt
 
   -- all were submitted, and turns were taken
-  module _ (told : Type 0) (begun : World) (submitted : Submitted seed count empty begun) (store : Store) (one two : D) (made : store.place ≡ One)
+  module _ (told : Type 0) (begun : World) (submitted : Submitted seed count empty begun) (store : Store) (one two : D) (made : IsFirst store)
       (takes : SomeTurns outside (turns_of count) begun store.world.world) (stands : store.live ≡ true → told → StandsFor g store one two) where
     -- the run broke off
-    pub run_refused : (e : RunError) → store.live ≡ is_live_after {T = Unit {0}} (Err e) → RefusesRun g told outside store one two e
+    pub run_refused : (e : RunError) → store.live ≡ is_live_after {T = Unit {0}} (Err e) → RefusesRun outside store e
         → RefusesDrilled g told seed count one two (of_run e)
     run_refused run.DiskFault live refused = tt
     run_refused (run.Full what most limit) live refused = record {
       world = store.world.world;
       drills = of_turns seed count begun store.world.world submitted takes;
-      held = λ t. (stands live t).held;
-      journal = refused.journal;
-      settled = λ t. subst (λ (p : Place). IsSettled g refused.journal (its p one two)) made (refused.settled t);
+      journal = store.journal;
+      holds = λ t. holds_by g store one two made (stands live t);
       refused = inr (refused.pid, refused.refused);
     }
     run_refused run.OutOfMemory live refused = tt
@@ -80,7 +93,7 @@ module _ {D : Type 0} (g : disk.Ghosts D) (seed count : ℕ) where
     -- the run came to an end
     module _ (live : store.live ≡ true) where
       holds : told → HoldsNow g one two store.world.world
-      holds t = let s : StandsFor g store one two = stands live t in record { durable_one = s.durable_one; durable_two = s.durable_two; held = s.held }
+      holds t = (store.journal, holds_by g store one two made (stands live t))
 
       abbrev pub Done : ℕ → Type 0
       Done batches = (w : World) × HasDrilled seed count w × (batches ≡ w.batches) × (told → HoldsNow g one two w)
@@ -97,9 +110,9 @@ module _ {D : Type 0} (g : disk.Ghosts D) (seed count : ℕ) where
           → IfErr result (RefusesDrilled g told seed count one two)
       run_ended end.AllEnded result ends is = subst (λ (r : Result ℕ DrillError). IfErr r (RefusesDrilled g told seed count one two)) (sym is) tt
       run_ended end.Spent result ends is = subst (λ (r : Result ℕ DrillError). IfErr r (RefusesDrilled g told seed count one two)) (sym is)
-          (store.world.world, record { begun = begun; submitted = submitted; takes = ends.2; live = ends.0; goes = ends.1 }, λ t. (stands live t).held)
+          (store.world.world, record { begun = begun; submitted = submitted; takes = ends.2; live = ends.0; goes = ends.1 }, holds)
       run_ended end.Resting result ends is = subst (λ (r : Result ℕ DrillError). IfErr r (RefusesDrilled g told seed count one two)) (sym is)
-          (store.world.world, record { begun = begun; submitted = submitted; takes = takes.0; live = ends.0; held_up = ends.1 }, λ t. (stands live t).held)
+          (store.world.world, record { begun = begun; submitted = submitted; takes = takes.0; live = ends.0; held_up = ends.1 }, holds)
 
 -- ---- what stands in the end
 
@@ -133,7 +146,7 @@ module _ {D : Type 0} (g : disk.Ghosts D) (seed count : ℕ) where
   pub chains_leave : (one two one_new two_new : D) → LeavesWorlds g One (SubmittedSome seed count empty) one two one_new two_new
       → LeavesWorlds g One (Drills seed count) one two one_new two_new
   chains_leave one two one_new two_new leaves =
-      weaker_leaves g One (SubmittedSome seed count empty) (Drills seed count) one two one_new two_new (of_some seed count) leaves
+      weaker_leaves g One (of_world (SubmittedSome seed count empty)) (of_world (Drills seed count)) one two one_new two_new (λ v journal. of_some seed count v) leaves
 
   -- by all submissions, and a run
   pub run_leaves : (begun : World) (one two one_mid two_mid one_new two_new : D) → Submitted seed count empty begun
@@ -141,5 +154,5 @@ module _ {D : Type 0} (g : disk.Ghosts D) (seed count : ℕ) where
       → LeavesWorlds g One (SomeTurns outside (turns_of count) begun) one_mid two_mid one_new two_new
       → LeavesWorlds g One (Drills seed count) one two one_new two_new
   run_leaves begun one two one_mid two_mid one_new two_new submitted first second =
-      leaves_on g One (SubmittedSome seed count empty) (SomeTurns outside (turns_of count) begun) (Drills seed count) one two one_mid two_mid one_new two_new
-      (of_some seed count) (λ v taken. of_turns seed count begun v submitted taken) first second
+      leaves_on g One (of_world (SubmittedSome seed count empty)) (of_world (SomeTurns outside (turns_of count) begun)) (of_world (Drills seed count)) one two one_mid two_mid one_new two_new
+      (λ v journal. of_some seed count v) (λ v journal taken. of_turns seed count begun v submitted taken) first second

@@ -1,6 +1,5 @@
 mod Results
 mod Chains
-mod Leaving
 mod UnderWay
 mod Turned
 mod Keeping

@@ -14,14 +14,20 @@ use Rattle.wc_store.specs.declared.place.Place.TheVariants.{One}
 use Rattle.wc_store.specs.declared.store.Store.{Store}
 use Rattle.wc_drill.specs.declared.error.DrillError.{DrillError}
 use Rattle.wc_drill.specs.Drilled.{Drills, HasDrilled, Submitted, outside, turns_of}
-use Rattle.wc_drill.specs.Leaves.{AreDurable, HoldsNow, IsBegun}
+use Rattle.wc_drill.specs.Leaves.{AreDurable, HoldsNow, IsBegun, IsFirst}
 use Rattle.wc_drill.specs.Refusals.{Counts, EndsDrill, RefusesChains, RefusesDrilled, of_run}
 use Rattle.wc_drill.specs.Running.{EndsSo}
 use Rattle.wc_drill.specs.Storing.{SubmittedSome}
 use Rattle.wc_drill.proofs.Joined.{chains_leave, chains_refused, counts_broken, counts_ended, durable, live_begun, run_done, run_ended, run_leaves, run_refused}
-use Rattle.wc_drill.proofs.Results.{as_told}
 
-module _ {D : Type 0} (g : disk.Ghosts D) (seed count : ℕ) (old : Store) (one two : D) (bare : old.world.world ≡ empty) (made : old.place ≡ One) where
+-- a store is on the disk of another, in its generation and version
+abbrev IsPlacedAs : Store → Store → Type 0
+IsPlacedAs old s = (s.place ≡ old.place) × (s.journal.generation ≡ old.journal.generation) × (s.journal.version ≡ old.journal.version)
+
+still_first : (old s : Store) → IsFirst old → IsPlacedAs old s → IsFirst s
+still_first old s made placed = (placed.0 ∙ made.0, placed.1 ∙ made.1, placed.2 ∙ made.2)
+
+module _ {D : Type 0} (g : disk.Ghosts D) (seed count : ℕ) (old : Store) (one two : D) (bare : old.world.world ≡ empty) (made : IsFirst old) where
   abbrev pub Told : Type 0
   Told = IsTrue (g.tells one) × IsTrue (g.tells two)
 
@@ -29,18 +35,18 @@ module _ {D : Type 0} (g : disk.Ghosts D) (seed count : ℕ) (old : Store) (one 
   on_one : (one_new two_new : D) → LeavesWorlds g old.place (SubmittedSome seed count old.world.world) one two one_new two_new
       → LeavesWorlds g One (SubmittedSome seed count empty) one two one_new two_new
   on_one one_new two_new leaves =
-      subst (λ (p : Place). LeavesWorlds g p (SubmittedSome seed count empty) one two one_new two_new) made
+      subst (λ (p : Place). LeavesWorlds g p (SubmittedSome seed count empty) one two one_new two_new) made.0
       (subst (λ (w : World). LeavesWorlds g old.place (SubmittedSome seed count w) one two one_new two_new) bare leaves)
 
   -- ---- the submissions broke off
 
-  module _ (s : Store) (one_s two_s : D) (placed : s.place ≡ old.place) (e : RunError) (d : DrillError) (told_as : d ≡ of_run e) (live : s.live ≡ is_live_after {T = Unit {0}} (Err e))
+  module _ (s : Store) (one_s two_s : D) (placed : IsPlacedAs old s) (e : RunError) (d : DrillError) (told_as : d ≡ of_run e) (live : s.live ≡ is_live_after {T = Unit {0}} (Err e))
       (still : s.live ≡ true → IsTrue (g.tells one) → IsTrue (g.tells two) → StandsFor g s one_s two_s) where
-    pub broken_refused : SubmittedSome seed count old.world.world s.world.world → RefusesChains g Told seed count old.world.world s one_s two_s e
+    pub broken_refused : SubmittedSome seed count old.world.world s.world.world → RefusesChains seed count old.world.world s e
         → RefusesDrilled g Told seed count one_s two_s d
     broken_refused some refused =
         subst (RefusesDrilled g Told seed count one_s two_s) (sym told_as)
-        (chains_refused g seed count Told old.world.world bare s one_s two_s (placed ∙ made) some (λ l t. still l t.0 t.1) e live refused)
+        (chains_refused g seed count Told old.world.world bare s one_s two_s (still_first old s made placed) some (λ l t. still l t.0 t.1) e live refused)
 
     pub broken_durable : IsBegun {T = ℕ} (Err d) → IsTrue (g.tells one) → IsTrue (g.tells two) → AreDurable g one_s two_s
     broken_durable begun told told_too =
@@ -59,15 +65,15 @@ module _ {D : Type 0} (g : disk.Ghosts D) (seed count : ℕ) (old : Store) (one 
 
   -- ---- all were submitted
 
-  module _ (mid : Store) (one_mid two_mid : D) (placed : mid.place ≡ old.place) (tells : (g.tells one_mid ≡ g.tells one) × (g.tells two_mid ≡ g.tells two))
+  module _ (mid : Store) (one_mid two_mid : D) (placed : IsPlacedAs old mid) (tells : (g.tells one_mid ≡ g.tells one) × (g.tells two_mid ≡ g.tells two))
       (faults : (g.faults one_mid ≡ g.faults one) × (g.faults two_mid ≡ g.faults two)) (all : Submitted seed count old.world.world mid.world.world)
-      (s : Store) (one_s two_s : D) (placed_then : s.place ≡ mid.place) (takes : SomeTurns outside (turns_of count) mid.world.world s.world.world)
+      (s : Store) (one_s two_s : D) (placed_then : IsPlacedAs mid s) (takes : SomeTurns outside (turns_of count) mid.world.world s.world.world)
       (still : s.live ≡ true → IsTrue (g.tells one_mid) → IsTrue (g.tells two_mid) → StandsFor g s one_s two_s) where
     submitted : Submitted seed count empty mid.world.world
     submitted = subst (λ (w : World). Submitted seed count w mid.world.world) bare all
 
-    on_disk_one : s.place ≡ One
-    on_disk_one = placed_then ∙ placed ∙ made
+    first : IsFirst s
+    first = still_first mid s (still_first old mid made placed) placed_then
 
     told_one : IsTrue (g.tells one) → IsTrue (g.tells one_mid)
     told_one told = subst (λ (b : Bool). IsTrue b) (sym tells.0) told
@@ -90,7 +96,7 @@ module _ {D : Type 0} (g : disk.Ghosts D) (seed count : ℕ) (old : Store) (one 
         → IsTrue (g.tells one) → IsTrue (g.tells two) → LeavesWorlds g One (Drills seed count) one two one_s two_s
     ran_moments first second told told_too =
         run_leaves g seed count mid.world.world one two one_mid two_mid one_s two_s submitted (on_one one_mid two_mid (first told told_too))
-        (subst (λ (p : Place). LeavesWorlds g p (SomeTurns outside (turns_of count) mid.world.world) one_mid two_mid one_s two_s) (placed ∙ made)
+        (subst (λ (p : Place). LeavesWorlds g p (SomeTurns outside (turns_of count) mid.world.world) one_mid two_mid one_s two_s) (placed.0 ∙ made.0)
         (second (told_one told) (told_two told_too)))
 
     pub ran_tells : (g.tells one_s ≡ g.tells one_mid) × (g.tells two_s ≡ g.tells two_mid) → (g.tells one_s ≡ g.tells one) × (g.tells two_s ≡ g.tells two)
@@ -98,11 +104,10 @@ module _ {D : Type 0} (g : disk.Ghosts D) (seed count : ℕ) (old : Store) (one 
 
     -- the run broke off
     module _ (e : RunError) (d : DrillError) (told_as : d ≡ of_run e) (live : s.live ≡ is_live_after {T = Unit {0}} (Err e)) where
-      pub stopped_refused : RefusesRun g (IsTrue (g.tells one_mid) × IsTrue (g.tells two_mid)) outside s one_s two_s e → RefusesDrilled g Told seed count one_s two_s d
+      pub stopped_refused : RefusesRun outside s e → RefusesDrilled g Told seed count one_s two_s d
       stopped_refused refused =
           subst (RefusesDrilled g Told seed count one_s two_s) (sym told_as)
-          (run_refused g seed count Told mid.world.world submitted s one_s two_s on_disk_one takes stands e live
-          (as_told (λ (a b : Bool). RefusesRun g (IsTrue a × IsTrue b) outside s one_s two_s e) (g.tells one) (g.tells two) (g.tells one_mid) (g.tells two_mid) tells refused))
+          (run_refused g seed count Told mid.world.world submitted s one_s two_s first takes stands e live refused)
 
       pub stopped_durable : IsBegun {T = ℕ} (Err d) → IsTrue (g.tells one) → IsTrue (g.tells two) → AreDurable g one_s two_s
       stopped_durable begun told told_too =
@@ -119,7 +124,7 @@ module _ {D : Type 0} (g : disk.Ghosts D) (seed count : ℕ) (old : Store) (one 
         (is : EndsDrill end s.world.world result) where
       pub ended_done : IfOk result (λ batches. (w : World) × HasDrilled seed count w × (batches ≡ w.batches)
           × (IsTrue (g.tells one) → IsTrue (g.tells two) → HoldsNow g one_s two_s w))
-      ended_done = at result (run_done g seed count Told mid.world.world submitted s one_s two_s on_disk_one takes stands live end result ends is)
+      ended_done = at result (run_done g seed count Told mid.world.world submitted s one_s two_s first takes stands live end result ends is)
         where
           at : (r : Result ℕ DrillError) → IfOk r (λ batches. (w : World) × HasDrilled seed count w × (batches ≡ w.batches) × (Told → HoldsNow g one_s two_s w))
               → IfOk r (λ batches. (w : World) × HasDrilled seed count w × (batches ≡ w.batches) × (IsTrue (g.tells one) → IsTrue (g.tells two) → HoldsNow g one_s two_s w))
@@ -127,7 +132,7 @@ module _ {D : Type 0} (g : disk.Ghosts D) (seed count : ℕ) (old : Store) (one 
           at (Err d) h = tt
 
       pub ended_refused : IfErr result (RefusesDrilled g Told seed count one_s two_s)
-      ended_refused = run_ended g seed count Told mid.world.world submitted s one_s two_s on_disk_one takes stands live end result ends is
+      ended_refused = run_ended g seed count Told mid.world.world submitted s one_s two_s first takes stands live end result ends is
 
       pub ended_durable : IsTrue (g.tells one) → IsTrue (g.tells two) → AreDurable g one_s two_s
       ended_durable told told_too = durable g s one_s two_s (stands live (told, told_too))

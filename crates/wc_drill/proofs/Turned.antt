@@ -1,20 +1,13 @@
 -- Turns of the run of a drill are turns in which each result is the square of a number.
-use Rattle.std.proofs.Common.{◌≡◌, ◌≤◌, ◌+◌, inl, inr, ⊎_elim, ℕ, List, Some, length, subst, arith}
+use Rattle.std.proofs.Common.{◌≡◌, ◌≤◌, ◌+◌, inl, inr, ⊎_elim, ℕ, Some, length, subst, arith}
 use Rattle.wc_io.specs.declared.pacer.Pacer as pacer
-use Rattle.wc_disk.specs.declared.disk.Disk as disk
 use Rattle.wc_value.specs.declared.process.JobResult.{JobResult}
 use Rattle.wc_value.specs.declared.process.Request.{Request}
 use Rattle.wc_journal.specs.declared.journal.Journal.{Journal}
 use Rattle.wc_state.specs.declared.record.Limits.{Limits}
 use Rattle.wc_transport.specs.Outside.{IsRow, WhereTold}
 use Rattle.wc_transport.specs.declared.transport.Transport as transport
-use Rattle.wc_world.specs.declared.change.Change.{Change}
 use Rattle.wc_world.specs.World.{World}
-use Rattle.wc_world.specs.Applied.{applied}
-use Rattle.wc_refusal.specs.Refusals.{IsFull}
-use Rattle.wc_store.specs.Refusals.{RefusesCommit}
-use Rattle.wc_store.specs.declared.error.StoreError.{StoreError}
-use Rattle.wc_store.specs.declared.error.StoreError.TheVariants as store_error
 use Rattle.wc_store.specs.declared.store.Store.{Store}
 use Rattle.wc_runner.specs.declared.error.RunError.{RunError}
 use Rattle.wc_runner.specs.declared.error.RunError.TheVariants.{DiskFault, Full, OutOfMemory}
@@ -22,9 +15,9 @@ use Rattle.wc_runner.specs.declared.running.RunEnd.{RunEnd}
 use Rattle.wc_runner.specs.declared.running.RunEnd.TheVariants.{AllEnded, Spent, Resting}
 use Rattle.wc_runner.specs.Leaves.{SomeTurns}
 use Rattle.wc_runner.specs.Outside.{Outside, in_run}
-use Rattle.wc_runner.specs.Refusals.{RefusesStep, RefusesRun}
-use Rattle.wc_runner.specs.Running.{TakesTurns, TakesAll, TakesUpTo, EndsAs, FitsAfter}
-use Rattle.wc_runner.proofs.Widened.{Widens, turn_widened, turns_widened}
+use Rattle.wc_runner.specs.Refusals.{RefusesRun}
+use Rattle.wc_runner.specs.Running.{TakesTurns, TakesAll, TakesUpTo, TakesWithin, EndsAs, FitsAfter}
+use Rattle.wc_runner.proofs.Widened.{Widens, step_widened, turns_widened}
 use Rattle.wc_generated.specs.Squares.{square_rows}
 use Rattle.wc_generated.proofs.Rows.{row_is_squared}
 use Rattle.wc_drill.specs.Drilled.{outside, usual_limits}
@@ -68,32 +61,17 @@ module _ {T P : Type 0} (h : transport.Ghosts T) (k : pacer.Ghosts P) (limits : 
   ends_so most w v begun now Resting e = e
 
   -- what it leaves
-  pub some_turns : (most : ℕ) (w v : World) → SomeTurns known most w v → SomeTurns outside most w v
-  some_turns most w v s = (
+  pub some_turns : (most : ℕ) (w v : World) (journal : Journal) → TakesWithin known most w v journal → SomeTurns outside most w v
+  some_turns most w v journal s = (
     record { count = s.0.count; rests = s.0.rests; few = s.0.few; turns = turns_widened known outside wide s.0.count s.0.rests w v s.0.turns; batches = s.0.batches },
-    ⊎_elim (λ still. inl still) (λ few. inr (subst (λ (l : Limits). length v.nodes ≤ l.max_nodes) usual few)) s.1,
+    ⊎_elim (λ still. inl still) (λ fits. inr (subst (λ (l : Limits). length v.nodes ≤ l.max_nodes) usual fits.0)) s.1,
   )
 
-  stored : (journal : Journal) (w : World) (cs : List Change) (e : StoreError) → RefusesCommit journal limits w cs e → RefusesCommit journal outside.limits w cs e
-  stored journal w cs e h = subst (λ (l : Limits). RefusesCommit journal l w cs e) usual h
-
-  refuses_step : (journal : Journal) (w : World) (pid : ℕ) (e : RunError) → RefusesStep known journal w pid e → RefusesStep outside journal w pid e
-  refuses_step journal w pid DiskFault r = (r.0, turn_widened known outside wide pid w r.0 r.1, stored journal w r.0 store_error.DiskFault r.2)
-  refuses_step journal w pid (Full what count limit) (inl r) =
-      inl (r.0, turn_widened known outside wide pid w r.0 r.1, subst (λ (l : Limits). IsFull l.max_nodes (applied w r.0) what count limit) usual r.2)
-  refuses_step journal w pid (Full what count limit) (inr r) =
-      inr (r.0, turn_widened known outside wide pid w r.0 r.1, stored journal w r.0 (store_error.Full what count limit) r.2)
-  refuses_step journal w pid OutOfMemory r = tt
-
   -- why it breaks off
-  pub refuses_run : {D : Type 0} (g : disk.Ghosts D) (told : Type 0) (store : Store) (one two : D) (e : RunError) → RefusesRun g told known store one two e
-      → RefusesRun g told outside store one two e
-  refuses_run g told store one two DiskFault r = tt
-  refuses_run g told store one two (Full what count limit) r = record {
+  pub refuses_run : (store : Store) (e : RunError) → RefusesRun known store e → RefusesRun outside store e
+  refuses_run store DiskFault r = tt
+  refuses_run store (Full what count limit) r = record {
     pid = r.pid;
-    journal = r.journal;
-    version = r.version;
-    settled = r.settled;
-    refused = refuses_step r.journal store.world.world r.pid (Full what count limit) r.refused;
+    refused = step_widened known outside wide store.journal store.world.world r.pid (Full what count limit) r.refused;
   }
-  refuses_run g told store one two OutOfMemory r = tt
+  refuses_run store OutOfMemory r = tt

@@ -1,23 +1,22 @@
 -- A drill that has submitted some of its chains.
-use Rattle.std.proofs.Common.{◌≡◌, ⊎_elim, ℕ, ◌+◌, ◌*◌, ◌<◌, ◌≤◌, Bool, true, List, Result, Err, refl, sym, subst, ◌∙◌, add-one, arith}
+use Rattle.std.proofs.Common.{◌≡◌, ⊎_elim, ℕ, ◌+◌, ◌*◌, ◌<◌, ◌≤◌, Bool, true, List, Result, refl, sym, subst, ◌∙◌, add-one, arith}
 use Rattle.std.specs.Prelude.{IsTrue}
 use Rattle.wc_disk.specs.declared.disk.Disk as disk
 use Rattle.wc_disk.specs.Noise.{after_draws}
-use Rattle.wc_journal.specs.Journals.{IsSettled}
 use Rattle.wc_world.specs.World.{World}
 use Rattle.wc_store.specs.declared.place.Place.{Place}
 use Rattle.wc_store.specs.declared.store.Store.{Store}
-use Rattle.wc_store.specs.Places.{its}
 use Rattle.wc_store.specs.Stores.{StandsFor}
 use Rattle.wc_runner.specs.declared.error.RunError.{RunError}
 use Rattle.wc_runner.specs.declared.error.RunError.TheVariants.{DiskFault, Full, OutOfMemory}
-use Rattle.wc_runner.specs.Leaves.{LeavesWorlds}
-use Rattle.wc_runner.specs.Refusals.{Counts, IsUnchanged}
+use Rattle.wc_runner.specs.Leaves.{LeavesWorlds, of_world}
+use Rattle.wc_runner.proofs.Leaving.{leaves_on, stands_leaves}
+use Rattle.wc_runner.specs.Refusals.{Counts}
 use Rattle.wc_generated.specs.Draws.{first_number, second_number}
 use Rattle.wc_drill.specs.Drilled.{IsSubmitted, Submitted, none, one_more}
 use Rattle.wc_drill.specs.Refusals.{RefusesChains}
 use Rattle.wc_drill.specs.Storing.{IsOrSubmitted, RefusesChain, SubmittedSome}
-use Rattle.wc_drill.proofs.Leaving.{leaves_on, stands_leaves}
+use Rattle.wc_drill.proofs.Chains.{chain_by}
 
 -- So many chains are submitted of so many, from one store and its disks to others; the generator stands behind their draws, no disk has
 -- failed, and the store stands for its disks.
@@ -49,7 +48,7 @@ module _ {D : Type 0} (g : disk.Ghosts D) (seed count : ℕ) (old : Store) (one 
     faults = (refl, refl);
     stands = stands;
     any_moment = λ first second.
-        stands_leaves g old (SubmittedSome seed count old.world.world) one two only_now (stands first second) (0, omega arith, none old.world.world);
+        stands_leaves g old (of_world (SubmittedSome seed count old.world.world)) one two only_now (stands first second) (0, omega arith, none old.world.world);
   }
 
   -- a chain with the next numbers is submitted to the store, or not
@@ -75,9 +74,9 @@ module _ {D : Type 0} (g : disk.Ghosts D) (seed count : ℕ) (old : Store) (one 
         → (IsTrue (g.tells one_s) → IsTrue (g.tells two_s) → LeavesWorlds g s.place (IsOrSubmitted first second s.world.world) one_s two_s one_v two_v)
         → IsTrue (g.tells one) → IsTrue (g.tells two) → LeavesWorlds g old.place (SubmittedSome seed count old.world.world) one two one_v two_v
     leaves_more less leaves told told_too =
-        leaves_on g old.place (SubmittedSome seed count old.world.world) (IsOrSubmitted first second s.world.world)
-        (SubmittedSome seed count old.world.world) one two one_s two_s one_v two_v (λ w h. h)
-        (λ w either. ⊎_elim
+        leaves_on g old.place (of_world (SubmittedSome seed count old.world.world)) (of_world (IsOrSubmitted first second s.world.world))
+        (of_world (SubmittedSome seed count old.world.world)) one two one_s two_s one_v two_v (λ w journal h. h)
+        (λ w journal either. ⊎_elim
         (λ same. (n, u.few, subst (Submitted seed n old.world.world) (sym same) u.submitted))
         (λ more. (n + 1, omega (arith, less), more_submitted w more)) either)
         (u.any_moment told told_too)
@@ -110,24 +109,18 @@ module _ {D : Type 0} (g : disk.Ghosts D) (seed count : ℕ) (old : Store) (one 
     pub some_left : v.world.world ≡ s.world.world → SubmittedSome seed count old.world.world v.world.world
     some_left same = (n, u.few, subst (Submitted seed n old.world.world) (sym same) u.submitted)
 
-    pub breaks : (A : Type 0) (e : RunError) → n < count → v.world.world ≡ s.world.world → v.place ≡ s.place
-        → RefusesChain first second s.journal s.world.world e
-        → IsUnchanged {T = A} (Err e) one_s one_v → IsUnchanged {T = A} (Err e) two_s two_v
-        → RefusesChains g (IsTrue (g.tells one) × IsTrue (g.tells two)) seed count old.world.world v one_v two_v e
-    breaks A DiskFault less same placed refused still still_too = tt
-    breaks A (Full what most limit) less same placed refused still still_too = record {
+    pub breaks : (e : RunError) → n < count → v.world.world ≡ s.world.world → v.journal.end ≡ s.journal.end → v.journal.version ≡ s.journal.version
+        → RefusesChain first second s.journal s.world.world e → RefusesChains seed count old.world.world v e
+    breaks DiskFault less same end version refused = tt
+    breaks (Full what most limit) less same end version refused = record {
       chain = n;
       before = less;
       submitted = subst (Submitted seed n old.world.world) (sym same) u.submitted;
-      journal = s.journal;
-      settled = λ told.
-          subst (λ (p : Place). IsSettled g s.journal (its p one_v two_v)) (sym placed)
-          (subst (λ (d : D). IsSettled g s.journal (its s.place one_v d)) (sym still_too)
-          (subst (λ (d : D). IsSettled g s.journal (its s.place d two_s)) (sym still) (u.stands told.0 told.1).settled));
-      refused = subst (λ (w : World). RefusesChain (first_number n seed) (second_number n seed) s.journal w (Full what most limit)) (sym same)
-          (as_drawn (λ (a b : ℕ). RefusesChain a b s.journal s.world.world (Full what most limit)) refused);
+      refused = chain_by (first_number n seed) (second_number n seed) s.journal v.journal v.world.world (Full what most limit) end version
+          (subst (λ (w : World). RefusesChain (first_number n seed) (second_number n seed) s.journal w (Full what most limit)) (sym same)
+          (as_drawn (λ (a b : ℕ). RefusesChain a b s.journal s.world.world (Full what most limit)) refused));
     }
-    breaks A OutOfMemory less same placed refused still still_too = tt
+    breaks OutOfMemory less same end version refused = tt
 
     -- no disk had failed up to the call
     pub counts_since : {A : Type 0} (result : Result A RunError) → Counts result (g.faults one_s) (g.faults one_v) (g.faults two_s) (g.faults two_v)

@@ -2,9 +2,15 @@
 use Rattle.std.specs.Prelude.{◌≡◌, ◌⊎◌, ℕ, List, Result, Ok, Err}
 use Rattle.wc_disk.specs.declared.disk.Disk as disk
 use Rattle.wc_disk.specs.Steps.{Only}
+use Rattle.wc_journal.specs.Reading.{Placed, end_of}
+use Rattle.wc_journal.specs.declared.journal.Journal.{Journal}
 use Rattle.wc_world.specs.World.{World}
+use Rattle.wc_store.specs.Choosing.{chosen, on}
 use Rattle.wc_store.specs.Held.{IsHeld, nothing, a_world}
+use Rattle.wc_store.specs.Places.{number_of}
 use Rattle.wc_store.specs.Stores.{InOnePart, InTwoParts, AreImages}
+use Rattle.wc_store.specs.declared.place.Place.TheVariants.{One}
+use Rattle.wc_store.specs.declared.store.Store.{Store}
 use Rattle.wc_drill.specs.declared.error.DrillError.{DrillError}
 use Rattle.wc_drill.specs.declared.error.DrillError.TheVariants.{DiskFault, Damaged, Full, AlreadyThere, Spent, Resting, OutOfMemory}
 use Rattle.wc_drill.specs.Drilled.{Drills}
@@ -29,11 +35,24 @@ pub record AreDurable {D : Type 0} (g : disk.Ghosts D) (one two : D) : Type 0 wh
   pub durable_one : Only (g.seen one) (g.may_leave one)
   pub durable_two : Only (g.seen two) (g.may_leave two)
 
--- Nothing is pending on either disk, and they hold this world.
-pub record HoldsNow {D : Type 0} (g : disk.Ghosts D) (one two : D) (w : World) : Type 0 where
+-- The store is on disk one, and kept by a journal of generation 1 and version 2.
+abbrev pub IsFirst : Store → Type 0
+IsFirst store = (store.place ≡ One) × (store.journal.generation ≡ 1) × (store.journal.version ≡ 2)
+
+-- Nothing is pending on either disk, and they hold this world, by this journal on disk one, which is of generation 1 and version 2.
+pub record HoldsOnOne {D : Type 0} (g : disk.Ghosts D) (one two : D) (w : World) (journal : Journal) : Type 0 where
   pub durable_one : Only (g.seen one) (g.may_leave one)
   pub durable_two : Only (g.seen two) (g.may_leave two)
   pub held : IsHeld (g.seen one) (g.seen two) (a_world w)
+  pub batches : Placed
+  pub chooses : chosen (g.seen one) (g.seen two) ≡ on (number_of One) journal.version journal.generation batches
+  pub end : journal.end ≡ end_of batches
+  pub generation : journal.generation ≡ 1
+  pub version : journal.version ≡ 2
+
+-- by some such journal
+abbrev pub HoldsNow : {D : Type 0} → disk.Ghosts D → (one two : D) → World → Type 0
+HoldsNow g one two w = (journal : Journal) × HoldsOnOne g one two w journal
 
 -- a store was made
 abbrev pub IsBegun : {T : Type 0} → Result T DrillError → Type 0

@@ -1,13 +1,11 @@
 -- Why a drill has no end, and what is counted.
 use Rattle.std.specs.Prelude.{◌≡◌, ◌⊎◌, ◌<◌, ℕ, true, false, Result, Ok, Err}
-use Rattle.wc_io.specs.Counts.{Rises}
+use Rattle.wc_io.specs.Counts.{EitherRisesByOne}
 use Rattle.wc_disk.specs.declared.disk.Disk as disk
 use Rattle.wc_journal.specs.declared.journal.Journal.{Journal}
-use Rattle.wc_journal.specs.Journals.{IsSettled}
 use Rattle.wc_world.specs.World.{World, empty}
 use Rattle.wc_next.specs.Standing.{is_any_live, is_resting}
 use Rattle.wc_store.specs.Held.{IsHeld, damage, a_world}
-use Rattle.wc_store.specs.Places.{its}
 use Rattle.wc_store.specs.declared.store.Store.{Store}
 use Rattle.wc_store.specs.declared.error.StoreError.{StoreError}
 use Rattle.wc_store.specs.declared.error.StoreError.TheVariants as store_error
@@ -21,6 +19,7 @@ use Rattle.wc_generated.specs.Draws.{first_number, second_number}
 use Rattle.wc_drill.specs.declared.error.DrillError.{DrillError}
 use Rattle.wc_drill.specs.declared.error.DrillError.TheVariants.{DiskFault, Damaged, Full, AlreadyThere, Spent, Resting, OutOfMemory}
 use Rattle.wc_drill.specs.Drilled.{Submitted, Drills, outside, turns_of}
+use Rattle.wc_drill.specs.Leaves.{HoldsOnOne, HoldsNow}
 use Rattle.wc_drill.specs.Running.{TakesJust}
 use Rattle.wc_drill.specs.Storing.{RefusesChain}
 
@@ -50,20 +49,18 @@ EndsDrill end.Resting w result = result ≡ Err Resting
 
 -- ---- fullness
 
--- The next of so many chains finds the store full, by a journal that stands for the store's disk, where the disks tell their bytes.
-pub record IsFullAtChain {D : Type 0} (g : disk.Ghosts D) (told : Type 0) (seed count : ℕ) (w : World) (store : Store) (one two : D) (e : RunError) : Type 0 where
+-- The next of so many chains finds the store full, by its own journal.
+pub record IsFullAtChain (seed count : ℕ) (w : World) (store : Store) (e : RunError) : Type 0 where
   pub chain : ℕ
   pub before : chain < count
   pub submitted : Submitted seed chain w store.world.world
-  pub journal : Journal
-  pub settled : told → IsSettled g journal (its store.place one two)
-  pub refused : RefusesChain (first_number chain seed) (second_number chain seed) journal store.world.world e
+  pub refused : RefusesChain (first_number chain seed) (second_number chain seed) store.journal store.world.world e
 
 -- Submissions break off so. Faults and want of memory may come at any time.
-abbrev pub RefusesChains : {D : Type 0} → disk.Ghosts D → Type 0 → (seed count : ℕ) → World → Store → D → D → RunError → Type 0
-RefusesChains g told seed count w store one two run.DiskFault = Unit {0}
-RefusesChains g told seed count w store one two (run.Full what many limit) = IsFullAtChain g told seed count w store one two (run.Full what many limit)
-RefusesChains g told seed count w store one two run.OutOfMemory = Unit {0}
+abbrev pub RefusesChains : (seed count : ℕ) → World → Store → RunError → Type 0
+RefusesChains seed count w store run.DiskFault = Unit {0}
+RefusesChains seed count w store (run.Full what many limit) = IsFullAtChain seed count w store (run.Full what many limit)
+RefusesChains seed count w store run.OutOfMemory = Unit {0}
 
 -- What the world is too full for: the submission of its next chain, or the turn of a ready process.
 abbrev pub IsTooFullFor : (seed count : ℕ) → Journal → World → RunError → Type 0
@@ -71,13 +68,12 @@ IsTooFullFor seed count journal w e =
     ((chain : ℕ) × (chain < count) × Submitted seed chain empty w × RefusesChain (first_number chain seed) (second_number chain seed) journal w e)
     ⊎ ((pid : ℕ) × RefusesStep outside journal w pid e)
 
--- The disks hold a world that the drill makes, and which is too full for what comes next, by the journal of disk one.
+-- The disks hold a world that the drill makes, and which is too full for what comes next, by the journal that keeps it.
 pub record IsDrillFull {D : Type 0} (g : disk.Ghosts D) (told : Type 0) (seed count : ℕ) (one two : D) (e : RunError) : Type 0 where
   pub world : World
   pub drills : Drills seed count world
-  pub held : told → IsHeld (g.seen one) (g.seen two) (a_world world)
   pub journal : Journal
-  pub settled : told → IsSettled g journal one
+  pub holds : told → HoldsOnOne g one two world journal
   pub refused : IsTooFullFor seed count journal world e
 
 -- ---- a run that doesn't come to its end
@@ -106,8 +102,8 @@ RefusesDrilled g told seed count one_new two_new DiskFault = Unit {0}
 RefusesDrilled g told seed count one_new two_new (Damaged number at found) = ⊥
 RefusesDrilled g told seed count one_new two_new (Full what many limit) = IsDrillFull g told seed count one_new two_new (run.Full what many limit)
 RefusesDrilled g told seed count one_new two_new AlreadyThere = ⊥
-RefusesDrilled g told seed count one_new two_new Spent = (v : World) × IsSpent seed count v × (told → IsHeld (g.seen one_new) (g.seen two_new) (a_world v))
-RefusesDrilled g told seed count one_new two_new Resting = (v : World) × IsHeldUp seed count v × (told → IsHeld (g.seen one_new) (g.seen two_new) (a_world v))
+RefusesDrilled g told seed count one_new two_new Spent = (v : World) × IsSpent seed count v × (told → HoldsNow g one_new two_new v)
+RefusesDrilled g told seed count one_new two_new Resting = (v : World) × IsHeldUp seed count v × (told → HoldsNow g one_new two_new v)
 RefusesDrilled g told seed count one_new two_new OutOfMemory = Unit {0}
 
 -- Where the disks tell their bytes, a store that is there holds a world, and damage is what they hold. Faults and want of memory may come at
@@ -117,11 +113,11 @@ RefusesDrill g told seed count one two one_new two_new DiskFault = Unit {0}
 RefusesDrill g told seed count one two one_new two_new (Damaged number at found) = told → IsHeld (g.seen one) (g.seen two) (damage number at found)
 RefusesDrill g told seed count one two one_new two_new (Full what many limit) = IsDrillFull g told seed count one_new two_new (run.Full what many limit)
 RefusesDrill g told seed count one two one_new two_new AlreadyThere = told → (w : World) × IsHeld (g.seen one) (g.seen two) (a_world w)
-RefusesDrill g told seed count one two one_new two_new Spent = (v : World) × IsSpent seed count v × (told → IsHeld (g.seen one_new) (g.seen two_new) (a_world v))
-RefusesDrill g told seed count one two one_new two_new Resting = (v : World) × IsHeldUp seed count v × (told → IsHeld (g.seen one_new) (g.seen two_new) (a_world v))
+RefusesDrill g told seed count one two one_new two_new Spent = (v : World) × IsSpent seed count v × (told → HoldsNow g one_new two_new v)
+RefusesDrill g told seed count one two one_new two_new Resting = (v : World) × IsHeldUp seed count v × (told → HoldsNow g one_new two_new v)
 RefusesDrill g told seed count one two one_new two_new OutOfMemory = Unit {0}
 
--- `DiskFault` comes only where the count of one of the disks rose, and each other answer leaves both counts
+-- `DiskFault` comes only where the count of one of the disks rose by one and the other stayed, and each other answer leaves both counts
 abbrev pub Counts : {T : Type 0} → Result T DrillError → (one one' two two' : ℕ) → Type 0
-Counts (Err DiskFault) one one' two two' = Rises one one' ⊎ Rises two two'
+Counts (Err DiskFault) one one' two two' = EitherRisesByOne one one' two two'
 Counts _ one one' two two' = (one' ≡ one) × (two' ≡ two)

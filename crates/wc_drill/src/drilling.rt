@@ -11,7 +11,7 @@ ghost use Rattle.wc_runner.specs.Refusals.{Counts as CountsRun, RefusesRun, is_l
 ghost use Rattle.wc_generated.specs.Library.{library};
 ghost use Rattle.wc_generated.specs.Squares.{square_rows};
 ghost use Rattle.wc_drill.specs.Drilled.{Drills, HasDrilled, outside, turns_of};
-ghost use Rattle.wc_drill.specs.Leaves.{AreDurable, DrilledBeside, DrilledOr, HoldsNow, IsBegun, RefusedLeaves};
+ghost use Rattle.wc_drill.specs.Leaves.{AreDurable, DrilledBeside, DrilledOr, HoldsNow, IsBegun, IsFirst, RefusedLeaves};
 ghost use Rattle.wc_drill.specs.Refusals.{Counts, EndsDrill, IsOfInit, RefusesDrill, RefusesDrilled, of_init};
 ghost use Rattle.wc_drill.specs.Running.{EndsSo};
 
@@ -69,7 +69,7 @@ fn run_all<D: Disk>(
     ensures takes { SomeTurns outside (turns_of count) store.old.world.world store.new.world.world }
     ensures ends { IfOk result (EndsSo (turns_of count) store.old.world.world store.new.world.world) }
     ensures live { store.new.live ≡ is_live_after result }
-    ensures refused { IfErr result (RefusesRun D.Disk (IsTrue (D.tells one.old) × IsTrue (D.tells two.old)) outside store.new one.new two.new) }
+    ensures refused { IfErr result (RefusesRun outside store.new) }
     ensures still { store.new.live ≡ true → IsTrue (D.tells one.old) → IsTrue (D.tells two.old) → StandsFor D.Disk store.new one.new two.new }
     ensures place { (store.new.place ≡ store.old.place) × (store.new.journal.generation ≡ store.old.journal.generation) × (store.new.journal.version ≡ store.old.journal.version) }
     ensures any_moment { IsTrue (D.tells one.old) → IsTrue (D.tells two.old)
@@ -99,7 +99,7 @@ fn drilled<D: Disk>(
     requires table { table ≡ square_rows 100 }
     requires live { store.live ≡ true }
     requires empty { store.world.world ≡ empty }
-    requires made { store.place ≡ One }
+    requires made { IsFirst store }
     requires stands { IsTrue (D.tells one.old) → IsTrue (D.tells two.old) → StandsFor D.Disk store one.old two.old }
     ensures done { IfOk result (λ batches. (w : AWorld) × HasDrilled seed count w × (batches ≡ w.batches)
         × (IsTrue (D.tells one.old) → IsTrue (D.tells two.old) → HoldsNow D.Disk one.new two.new w)) }

@@ -32,7 +32,7 @@ pub(crate) fn run_chains<D: Disk, T: Transport, P: Pacer>(
     ensures takes { SomeTurns outside turns store.old.world.world store.new.world.world }
     ensures ends { IfOk result (EndsSo turns store.old.world.world store.new.world.world) }
     ensures live { store.new.live ≡ is_live_after result }
-    ensures refused { IfErr result (RefusesRun D.Disk (IsTrue (D.tells one.old) × IsTrue (D.tells two.old)) outside store.new one.new two.new) }
+    ensures refused { IfErr result (RefusesRun outside store.new) }
     ensures still { store.new.live ≡ true → IsTrue (D.tells one.old) → IsTrue (D.tells two.old) → StandsFor D.Disk store.new one.new two.new }
     ensures place { (store.new.place ≡ store.old.place) × (store.new.journal.generation ≡ store.old.journal.generation) × (store.new.journal.version ≡ store.old.journal.version) }
     // At each moment the disks hold what at most as many turns and rests as are given make.

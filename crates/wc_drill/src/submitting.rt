@@ -15,7 +15,6 @@ ghost use Rattle.wc_drill.specs.Refusals.{RefusesChains};
 ghost use Rattle.wc_drill.specs.Storing.{IsCrowded, IsOrSubmitted, IsStorable, RefusesChain, SubmittedSome};
 
 use std::alloc::Global;
-use wc_copies::copy_checked;
 use wc_core::submit_changes;
 use wc_disk::{Disk, Generator};
 use wc_generated::{chain_inputs, chain_name, next_numbers};
@@ -77,7 +76,7 @@ fn chain_changes(
     ensures refused { IfErr result (IsCrowded first second world.now.world) }
 {
     let limits = usual_limits();
-    let library = copy_checked(alloc, chains)?;
+    let library = chains.clone()?;
     let name = chain_name(alloc)?;
     let inputs = chain_inputs(alloc, first, second)?;
     match submit_changes(
@@ -108,6 +107,7 @@ fn committed<D: Disk>(
     requires plain { is_plain changes ≡ true }
     ensures world { OnOk result (store.new.world.world ≡ applied store.old.world.world changes) }
     ensures same { OnErr result (store.new.world.world ≡ store.old.world.world) }
+    ensures kept { OnErr result (store.new.journal.end ≡ store.old.journal.end) }
     ensures live { store.new.live ≡ is_live_after result }
     ensures refused { IfErr result (RefusesStored store.old.journal usual_limits store.old.world.world changes) }
     ensures untouched_one { IsUnchanged result one.old one.new }
@@ -115,7 +115,7 @@ fn committed<D: Disk>(
     ensures still { store.new.live ≡ true → IsTrue (D.tells one.old) → IsTrue (D.tells two.old) → StandsFor D.Disk store.new one.new two.new }
     ensures place { (store.new.place ≡ store.old.place) × (store.new.journal.generation ≡ store.old.journal.generation) × (store.new.journal.version ≡ store.old.journal.version) }
     ensures any_moment { IsTrue (D.tells one.old) → IsTrue (D.tells two.old)
-        → CommitLeaves D.Disk store.old.place store.old.world.world (applied store.old.world.world changes) one.old two.old one.new two.new }
+        → CommitLeaves D.Disk store.old usual_limits changes one.old two.old one.new two.new }
     ensures tells { (D.tells one.new ≡ D.tells one.old) × (D.tells two.new ≡ D.tells two.old) }
     ensures cause { Counts result (D.faults one.old) (D.faults one.new) (D.faults two.old) (D.faults two.new) }
 {
@@ -141,6 +141,7 @@ fn submit_chain<D: Disk>(
     requires library { chains.now ≡ library }
     ensures ok { OnOk result (IsSubmitted first second store.old.world.world store.new.world.world) }
     ensures same { OnErr result (store.new.world.world ≡ store.old.world.world) }
+    ensures kept { OnErr result (store.new.journal.end ≡ store.old.journal.end) }
     ensures live { store.new.live ≡ is_live_after result }
     ensures refused { IfErr result (RefusesChain first second store.old.journal store.old.world.world) }
     ensures untouched_one { IsUnchanged result one.old one.new }
@@ -175,7 +176,7 @@ pub(crate) fn submit_chains<D: Disk>(
     ensures all { OnOk result (Submitted seed count store.old.world.world store.new.world.world) }
     ensures some { SubmittedSome seed count store.old.world.world store.new.world.world }
     ensures live { store.new.live ≡ is_live_after result }
-    ensures refused { IfErr result (RefusesChains D.Disk (IsTrue (D.tells one.old) × IsTrue (D.tells two.old)) seed count store.old.world.world store.new one.new two.new) }
+    ensures refused { IfErr result (RefusesChains seed count store.old.world.world store.new) }
     ensures still { store.new.live ≡ true → IsTrue (D.tells one.old) → IsTrue (D.tells two.old) → StandsFor D.Disk store.new one.new two.new }
     ensures place { (store.new.place ≡ store.old.place) × (store.new.journal.generation ≡ store.old.journal.generation) × (store.new.journal.version ≡ store.old.journal.version) }
     // At each moment the disks hold what the first submissions make.

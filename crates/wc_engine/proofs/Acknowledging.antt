@@ -143,7 +143,7 @@ row_acknowledged law (deed.Begin begin.Init) ready before nothing after r held o
 row_acknowledged law (deed.Begin begin.Init) ready before (damage disk place found) after r held ok at = absurd (not_damaged disk place found r at.1 ok)
 row_acknowledged law (deed.Begin begin.Init) ready before (a_world w) after r held ok at = absurd (not_refused cause.StoreExists r at.1 ok)
 row_acknowledged law (deed.Begin (begin.Drill seed count)) ready before nothing after r held ok at =
-    (at.world, at.held, ⊎_elim (λ ended. drill_ended seed count at.world r ended ok) (λ full. absurd (not_full full.2.what full.2.many full.2.limit r full.2.reply ok)) at.ends)
+    (at.world, at.held, ⊎_elim (λ ended. drill_ended seed count at.world r ended ok) (λ full. absurd (not_full full.what full.many full.limit r full.reply ok)) at.ends)
 row_acknowledged law (deed.Begin (begin.Drill seed count)) ready before (damage disk place found) after r held ok at = absurd (not_damaged disk place found r at.1 ok)
 row_acknowledged law (deed.Begin (begin.Drill seed count)) ready before (a_world w) after r held ok at = absurd (not_refused cause.StoreExists r at.1 ok)
 row_acknowledged law (deed.Work k) ready before nothing after r held ok at = absurd (not_refused cause.NoStore r at.1 ok)

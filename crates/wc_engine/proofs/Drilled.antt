@@ -3,9 +3,10 @@ use Rattle.std.proofs.Common.{◌≡◌, ◌⊎◌, inl, inr, ⊎_elim, ◌≤�
 use Rattle.wc_disk.specs.declared.disk.Disk as disk
 use Rattle.wc_disk.specs.Images.{LeavesOnly}
 use Rattle.wc_disk.proofs.Runs.{weaker_run}
-use Rattle.wc_journal.specs.Reading.{batches_of, journal_of}
+use Rattle.wc_journal.specs.declared.journal.Journal.{Journal}
 use Rattle.wc_world.specs.World.{World, empty}
 use Rattle.wc_store.specs.Held.{Standing, IsHeld, nothing, damage, a_world}
+use Rattle.wc_store.specs.declared.place.Place.TheVariants.{One}
 use Rattle.wc_runner.specs.Leaves.{SomeTurns}
 use Rattle.wc_runner.specs.Trips as trips
 use Rattle.wc_runner.specs.declared.running.RunEnd.TheVariants.{AllEnded, Spent, Resting}
@@ -13,7 +14,7 @@ use Rattle.wc_generated.specs.Draws.{sum_of_squares}
 use Rattle.wc_generated.specs.Texts.{drilled_text}
 use Rattle.wc_drill.specs.Drilled as drilled
 use Rattle.wc_drill.specs.Drilled.{Drills, HasDrilled, outside, turns_of}
-use Rattle.wc_drill.specs.Leaves.{DrilledBeside, HoldsNow, IsBegun, IsOfDrill, RefusedLeaves}
+use Rattle.wc_drill.specs.Leaves.{DrilledBeside, HoldsOnOne, HoldsNow, IsBegun, IsOfDrill, RefusedLeaves}
 use Rattle.wc_drill.specs.Leaves.{AreDurable as AreNow}
 use Rattle.wc_drill.specs.Refusals.{RefusesDrill}
 use Rattle.wc_drill.specs.Sound.{DrillsAreSound}
@@ -71,11 +72,27 @@ module _ {D : Type 0} (g : disk.Ghosts D) (seed count : ℕ) (one two one_new tw
 
   module _ (seen_two : IsTrue (g.tells one) → IsTrue (g.tells two) → g.seen two_new ≡ g.seen two) where
     -- it came to its end
+    drilled_at : (w : World) (journal : Journal) (r : Reply) → IsTrue (g.tells one) → IsTrue (g.tells two) → HoldsOnOne g one_new two_new w journal
+        → HasEnded seed count w r ⊎ FillsUp seed count w journal r → IsDrilled seed count (g.seen one, g.seen two) (g.seen one_new, g.seen two_new) r
+    drilled_at w journal r told told_too holds ends = record {
+      world = w;
+      held = holds.held;
+      rest = seen_two told told_too;
+      journal = journal;
+      kept = record { place = One; batches = holds.batches; chooses = holds.chooses; end = holds.end };
+      place = refl;
+      version = holds.version;
+      generation = holds.generation;
+      ends = ends;
+    }
+
     ended_owed : (none : IsTrue (g.tells one) → IsTrue (g.tells two) → IsHeld (g.seen one) (g.seen two) nothing) (w : World) (r : Reply) → HasEnded seed count w r
-        → (IsTrue (g.tells one) → IsTrue (g.tells two) → IsHeld (g.seen one_new) (g.seen two_new) (a_world w)) → Owes r
-    ended_owed none w r ended held = (
+        → (IsTrue (g.tells one) → IsTrue (g.tells two) → HoldsNow g one_new two_new w) → Owes r
+    ended_owed none w r ended holds = (
       inl (w, inl ended),
-      λ told told_too. (nothing, none told told_too, record { world = w; held = held told told_too; rest = seen_two told told_too; ends = inl ended }),
+      λ told told_too.
+          let h = holds told told_too in
+          (nothing, none told told_too, drilled_at w h.0 r told told_too h.1 (inl ended)),
     )
 
     pub has_drilled : (batches : ℕ) (r : Reply) → (IsTrue (g.tells one) → IsTrue (g.tells two) → IsHeld (g.seen one) (g.seen two) nothing)
@@ -84,7 +101,7 @@ module _ {D : Type 0} (g : disk.Ghosts D) (seed count : ℕ) (one two one_new tw
     has_drilled batches r none done reply =
         ended_owed none done.0 r
         (record { end = AllEnded; ends = done.1; reply = reply ∙ ap (λ (n : ℕ). prints (drilled_text count (sum_of_squares count seed) n)) done.2 })
-        (λ told told_too. (done.3 told told_too).held)
+        done.3
 
     -- or was broken off
     pub refused_drill : {E : Type 0} (e : DrillError) (result : Result Reply E) → RefusesDrill g Told seed count one two one_new two_new e
@@ -111,12 +128,7 @@ module _ {D : Type 0} (g : disk.Ghosts D) (seed count : ℕ) (one two one_new tw
           λ told told_too. (
             nothing,
             none tt told told_too,
-            record {
-              world = refused.world;
-              held = refused.held (told, told_too);
-              rest = seen_two told told_too;
-              ends = inr (refused.journal, (batches_of (journal_of (g.seen one_new)), (refused.settled (told, told_too)).stands), fills);
-            },
+            drilled_at refused.world refused.journal r told told_too (refused.holds (told, told_too)) (inr fills),
           ),
         )
     refused_drill error.AlreadyThere (Ok r) refused none leaves reply =

@@ -9,6 +9,7 @@ use Rattle.wc_engine.specs.declared.status.Fault.{Fault}
 use Rattle.wc_engine.specs.declared.status.Status.{Status}
 use Rattle.wc_engine.specs.declared.status.Status.TheVariants as status
 use Rattle.wc_engine.specs.Crashes.{EachPair, HoldsSound, HoldsTheSame, AreDurable, HoldsKeeping, Kept, BegunBy, MadeBy, LeavesMade, StaySound}
+use Rattle.wc_engine.specs.Stored.{Images}
 use Rattle.wc_engine.proofs.Moments.{weaker_moments, exit_moments}
 
 no_world : (w : World) → nothing ≡ a_world w → ⊥
@@ -18,7 +19,7 @@ same_world : (v w : World) → a_world v ≡ a_world w → v ≡ w
 same_world v w h = cc
 
 -- a sound world is kept
-keeping_sound : HeldIsOne → (makes : World → World → Type 0) (one two a b : List ℕ) (w : World) → HoldsSound one two → IsHeld one two (a_world w) → HoldsKeeping makes w a b
+keeping_sound : HeldIsOne → (makes : World → World → Images → Type 0) (one two a b : List ℕ) (w : World) → HoldsSound one two → IsHeld one two (a_world w) → HoldsKeeping makes w a b
     → HoldsSound a b
 keeping_sound law makes one two a b w (inl none) held keeping = absurd (no_world w (law one two nothing (a_world w) none held))
 keeping_sound law makes one two a b w (inr sound) held keeping =
@@ -26,7 +27,7 @@ keeping_sound law makes one two a b w (inr sound) held keeping =
     inr (keeping.0, keeping.1, (keeping.3 (subst IsSound same sound.2)).sound)
 
 module _ {D : Type 0} (g : disk.Ghosts D) where
-  kept_sound : HeldIsOne → (begins : World → Type 0) (makes : World → World → Type 0) (one two : D) (a b : List ℕ) → EachPair g one two HoldsSound
+  kept_sound : HeldIsOne → (begins : World → Type 0) (makes : World → World → Images → Type 0) (one two : D) (a b : List ℕ) → EachPair g one two HoldsSound
       → g.may_leave one (g.seen one) → g.may_leave two (g.seen two) → Kept g begins makes one two a b → HoldsSound a b
   kept_sound law begins makes one two a b entry reads reads_too (inl was) = entry a b was.0 was.1
   kept_sound law begins makes one two a b entry reads reads_too (inr (inl begun)) =

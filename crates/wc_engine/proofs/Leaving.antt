@@ -3,8 +3,11 @@ use Rattle.std.proofs.Common.{◌≡◌, ◌≤◌, inl, inr, ⊎_elim, ℕ, Lis
 use Rattle.wc_disk.specs.declared.disk.Disk as disk
 use Rattle.wc_disk.specs.Images.{LeavesOnly}
 use Rattle.wc_disk.proofs.Runs.{no_call, both_runs, weaker_run}
+use Rattle.wc_journal.specs.declared.journal.Journal.{Journal}
 use Rattle.wc_state.specs.declared.record.Limits.{Limits}
 use Rattle.wc_world.specs.World.{World, empty}
+use Rattle.wc_world.specs.Applied.{applied}
+use Rattle.wc_world.specs.declared.change.Change.{Change}
 use Rattle.wc_world.specs.Accepted.{IsReached, nothing}
 use Rattle.wc_machine.proofs.EmptyWorld.{empty_is_sound}
 use Rattle.wc_store.specs.declared.error.StoreError.{StoreError}
@@ -13,19 +16,21 @@ use Rattle.wc_store.specs.Held.{Standing, IsHeld, a_world}
 use Rattle.wc_store.specs.declared.place.Place.{Place}
 use Rattle.wc_store.specs.declared.place.Place.TheVariants.{One, Two}
 use Rattle.wc_store.specs.Places.{its}
-use Rattle.wc_store.specs.Stores.{other, StandsFor, CommitLeaves, PackLeaves, InTwoParts, AreImages, HoldsOneOf, BeginsFrom, InitLeaves}
+use Rattle.wc_store.specs.Stores.{other, StandsFor, CommitLeaves, HoldsBy, PackLeaves, InTwoParts, AreImages, HoldsOneOf, BeginsFrom, InitLeaves}
 use Rattle.wc_store.proofs.Parts.{then_none, then_commit, then_pack, then_worlds, weaker_parts, one_part, OfInit, init_parts}
 use Rattle.wc_store.specs.Laws.{HeldIsReached}
 use Rattle.wc_runner.specs.Laws.{StaysSound, TurnsKeepSound, WorldsContinueThemselves}
 use Rattle.wc_runner.proofs.Continuing.{continues_itself}
-use Rattle.wc_runner.specs.Leaves.{LeavesWorlds, SomeTurns}
+use Rattle.wc_runner.specs.Leaves.{LeavesHeld}
 use Rattle.wc_runner.specs.Outside.{Outside}
+use Rattle.wc_runner.specs.Running.{FitsIn, TakesTurns, TakesWithin}
 use Rattle.wc_engine.specs.Crashes.{Keeps, HoldsKeeping, ComesOfNothing, Kept, WritesOne, LeavesPairs, LeavesKept}
 use Rattle.wc_engine.specs.declared.deed.RunOptions.{RunOptions}
 use Rattle.wc_engine.specs.Running.{widest}
 use Rattle.wc_engine.proofs.Moments.{at_moments}
 use Rattle.wc_engine.proofs.Widening.{some_turns}
 use Rattle.wc_engine.specs.Rows.{IsEmpty, Stays, TakesSome}
+use Rattle.wc_engine.specs.Stored.{HasJournal, Images}
 
 keeps_itself : WorldsContinueThemselves → (w : World) → IsReached w → Keeps w w
 keeps_itself law w reached sound = record { sound = sound; continues = law w reached; reached = reached }
@@ -47,6 +52,25 @@ begins_empty one two a b begins = record {
   some = (empty, refl);
   held = ⊎_elim (λ none. inl none) (λ held. inr (empty, held, refl, empty_stays)) begins.held;
 }
+
+-- ---- what a run makes
+
+-- the images at the place and beside it hold a world, by a journal
+holds_pair : (place : Place) (a b : List ℕ) (v : World) (journal : Journal) → HoldsBy place (its place a b) (other place a b) v journal
+    → IsHeld a b (a_world v) × HasJournal (a, b) journal
+holds_pair One a b v journal h = (h.held, record { place = One; batches = h.batches; chooses = h.chooses; end = h.end })
+holds_pair Two a b v journal h = (h.held, record { place = Two; batches = h.batches; chooses = h.chooses; end = h.end })
+
+made_within : (o : Outside) (p : RunOptions) → o.limits ≡ p.limits → (w v : World) (journal : Journal) (a b : List ℕ) → HasJournal (a, b) journal
+    → TakesWithin o p.turns w v journal → TakesSome p w v (a, b)
+made_within o p given w v journal a b kept t =
+    ⊎_elim (λ same. inl same)
+    (λ within.
+    let fits : FitsIn p.limits v journal = subst (λ (l : Limits). FitsIn l v journal) given within in
+    inr (
+      subst (λ (l : Limits). TakesTurns (widest l) p.turns w v) given (some_turns o p.turns w v t.0),
+      record { nodes = fits.0; journal = journal; kept = kept; bytes = fits.1 },
+    )) t.1
 
 -- ---- what is left
 
@@ -74,7 +98,7 @@ module _ {D : Type 0} (g : disk.Ghosts D) (at_now : (d : D) (image : List ℕ) �
     reached = reached_law (g.seen one) (g.seen two) store.world.world stands.held
 
     -- of two parts, in which one disk is not written
-    with_one : (makes : World → World → Type 0) (P : List ℕ → List ℕ → Type 0) (one_new two_new : D) → InTwoParts g one two one_new two_new P
+    with_one : (makes : World → World → Images → Type 0) (P : List ℕ → List ℕ → Type 0) (one_new two_new : D) → InTwoParts g one two one_new two_new P
         → ((a b : List ℕ) → P a b → HoldsKeeping makes store.world.world a b) → WritesOne g one two one_new two_new
         → LeavesPairs g one two one_new two_new (HoldsKeeping makes store.world.world)
     with_one makes P one_new two_new parts weaker one_writes = record {
@@ -83,21 +107,24 @@ module _ {D : Type 0} (g : disk.Ghosts D) (at_now : (d : D) (image : List ℕ) �
     }
 
     -- no disk is asked
-    pub standing : (makes : World → World → Type 0) → makes store.world.world store.world.world → LeavesPairs g one two one two (HoldsKeeping makes store.world.world)
+    pub standing : (makes : World → World → Images → Type 0) → ((images : Images) → makes store.world.world store.world.world images)
+        → LeavesPairs g one two one two (HoldsKeeping makes store.world.world)
     standing makes itself =
         with_one makes (AreImages (g.seen one) (g.seen two)) one two
         (then_none g at_now one two one two (none_asked one) (none_asked two) (g.seen one) (g.seen two) refl refl stands.durable_one stands.durable_two)
         (λ a b are.
-        (store.world.world, images_hold (g.seen one) (g.seen two) a b (a_world store.world.world) stands.held are, itself, keeps_itself same_law store.world.world reached)) (inl (none_asked one))
+        (store.world.world, images_hold (g.seen one) (g.seen two) a b (a_world store.world.world) stands.held are, itself (a, b), keeps_itself same_law store.world.world reached)) (inl (none_asked one))
 
     -- a commit
-    pub committed : (makes : World → World → Type 0) (v : World) (one_new two_new : D) → makes store.world.world store.world.world → makes store.world.world v
-        → Keeps store.world.world v → CommitLeaves g store.place store.world.world v one two one_new two_new
+    pub committed : (makes : World → World → Images → Type 0) (limits : Limits) (cs : List Change) (one_new two_new : D)
+        → ((images : Images) → makes store.world.world store.world.world images) → ((images : Images) → makes store.world.world (applied store.world.world cs) images)
+        → Keeps store.world.world (applied store.world.world cs) → CommitLeaves g store limits cs one two one_new two_new
         → LeavesPairs g one two one_new two_new (HoldsKeeping makes store.world.world)
-    committed makes v one_new two_new itself after keeps leaves =
-        with_one makes (HoldsOneOf store.world.world v) one_new two_new
-        (then_commit g at_now one two one two (none_asked one) (none_asked two) stands.durable_one stands.durable_two store.place store.world.world v one_new two_new leaves)
-        (λ a b. ⊎_elim (λ held. (store.world.world, held, itself, keeps_itself same_law store.world.world reached)) (λ held. (v, held, after, keeps))) (own_writes store.place one two one_new two_new leaves.untouched)
+    committed makes limits cs one_new two_new itself after keeps leaves =
+        with_one makes (HoldsOneOf store.world.world (applied store.world.world cs)) one_new two_new
+        (then_commit g at_now one two one two (none_asked one) (none_asked two) stands.durable_one stands.durable_two store limits cs one_new two_new leaves)
+        (λ a b. ⊎_elim (λ held. (store.world.world, held, itself (a, b), keeps_itself same_law store.world.world reached))
+        (λ held. (applied store.world.world cs, held, after (a, b), keeps))) (own_writes store.place one two one_new two_new leaves.untouched)
 
     -- a pack
     pub packed : (one_new two_new : D) → PackLeaves g store.place store.world.world one two one_new two_new
@@ -109,18 +136,19 @@ module _ {D : Type 0} (g : disk.Ghosts D) (at_now : (d : D) (image : List ℕ) �
 
     -- turns and rests, within the limits that are given
     pub taken : (o : Outside) (p : RunOptions) → TurnsKeepSound o → o.limits ≡ p.limits → (one_new two_new : D)
-        → LeavesWorlds g store.place (SomeTurns o p.turns store.world.world) one two one_new two_new
+        → LeavesHeld g store.place (TakesWithin o p.turns store.world.world) one two one_new two_new
         → LeavesPairs g one two one_new two_new (HoldsKeeping (TakesSome p) store.world.world)
     taken o p law given one_new two_new leaves =
         let w = store.world.world in
-        let P : World → Type 0 = SomeTurns o p.turns w in
-        with_one (TakesSome p) (λ a b. (v : World) × P v × IsHeld a b (a_world v)) one_new two_new
+        let P : World → Journal → Type 0 = TakesWithin o p.turns w in
+        with_one (TakesSome p) (λ a b. (v : World) × (journal : Journal) × P v journal × HoldsBy store.place (its store.place a b) (other store.place a b) v journal) one_new two_new
         (then_worlds g at_now one two one two (none_asked one) (none_asked two) stands.durable_one stands.durable_two store.place P one_new two_new leaves.untouched leaves.each)
-        (λ a b held. (
+        (λ a b held.
+        let by = holds_pair store.place a b held.0 held.1 held.3 in (
           held.0,
-          held.2,
-          inr (subst (λ (l : Limits). SomeTurns (widest l) p.turns w held.0) given (some_turns o p.turns w held.0 held.1)),
-          λ sound. law held.1.0.count held.1.0.rests w held.0 reached sound held.1.0.turns,
+          by.0,
+          made_within o p given w held.0 held.1 a b by.1 held.2,
+          λ sound. law held.2.0.count held.2.0.rests w held.0 reached sound held.2.0.turns,
         ))
         (own_writes store.place one two one_new two_new leaves.untouched)
 
@@ -128,7 +156,7 @@ module _ {D : Type 0} (g : disk.Ghosts D) (at_now : (d : D) (image : List ℕ) �
 
   module _ (counts : (d : D) (t : ℕ) (image : List ℕ) → t ≤ g.moment d → g.may_leave d image → g.left_since d t image) where
     -- a call that writes nothing
-    pub unwritten : (begins : World → Type 0) (makes : World → World → Type 0) (one two one_new two_new : D) → LeavesOnly g one one_new (g.may_leave one)
+    pub unwritten : (begins : World → Type 0) (makes : World → World → Images → Type 0) (one two one_new two_new : D) → LeavesOnly g one one_new (g.may_leave one)
         → LeavesOnly g two two_new (g.may_leave two) → LeavesKept g begins makes one two one_new two_new
     unwritten begins makes one two one_new two_new first second =
         inl (record {
@@ -138,7 +166,7 @@ module _ {D : Type 0} (g : disk.Ghosts D) (at_now : (d : D) (image : List ℕ) �
         })
 
     -- a call that asks no disk
-    pub unasked : (begins : World → Type 0) (makes : World → World → Type 0) (one two : D) → LeavesKept g begins makes one two one two
+    pub unasked : (begins : World → Type 0) (makes : World → World → Images → Type 0) (one two : D) → LeavesKept g begins makes one two one two
     unasked begins makes one two = unwritten begins makes one two one two (none_asked one) (none_asked two)
 
     -- a disk is read, and then not written
@@ -163,7 +191,7 @@ module _ {D : Type 0} (g : disk.Ghosts D) (at_now : (d : D) (image : List ℕ) �
     }
 
     -- a call that reads a world, and then leaves worlds that keep it
-    pub goes_on : (begins : World → Type 0) (makes : World → World → Type 0) (w : World) (one two one_mid two_mid one_new two_new : D) → IsHeld (g.seen one) (g.seen two) (a_world w)
+    pub goes_on : (begins : World → Type 0) (makes : World → World → Images → Type 0) (w : World) (one two one_mid two_mid one_new two_new : D) → IsHeld (g.seen one) (g.seen two) (a_world w)
         → LeavesOnly g one one_mid (g.may_leave one) → LeavesOnly g two two_mid (g.may_leave two)
         → LeavesPairs g one_mid two_mid one_new two_new (HoldsKeeping makes w) → LeavesKept g begins makes one two one_new two_new
     goes_on begins makes w one two one_mid two_mid one_new two_new held first second leaves =

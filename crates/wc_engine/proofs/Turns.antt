@@ -1,15 +1,10 @@
 -- What turns make of a store.
-use Rattle.std.proofs.Common.{◌≡◌, ◌⊎◌, inl, inr, ℕ, sym, subst, ◌∙◌}
+use Rattle.std.proofs.Common.{◌≡◌, ◌⊎◌, inl, inr, ℕ, subst}
 use Rattle.wc_disk.specs.declared.disk.Disk as disk
-use Rattle.wc_journal.specs.declared.journal.Journal.{Journal}
-use Rattle.wc_journal.specs.Journals.{IsSettled}
-use Rattle.wc_journal.specs.Reading.{Placed, holds, journal_of, batches_of}
 use Rattle.wc_state.specs.declared.record.Limits.{Limits}
 use Rattle.wc_state.specs.declared.record.What.{What}
 use Rattle.wc_world.specs.World.{World}
 use Rattle.wc_store.specs.declared.store.Store.{Store}
-use Rattle.wc_store.specs.Choosing.{on}
-use Rattle.wc_store.specs.Places.{its, number_of}
 use Rattle.wc_store.specs.Stores.{StandsFor}
 use Rattle.wc_runner.specs.declared.error.RunError.TheVariants.{Full}
 use Rattle.wc_runner.specs.declared.running.RunEnd.{RunEnd}
@@ -24,7 +19,7 @@ use Rattle.wc_engine.specs.Running.{status_of, widest, has_run, EndsSo, FillsAt,
 use Rattle.wc_engine.specs.Undone.{IsBeforeTurns}
 use Rattle.wc_engine.proofs.Doing.{journal_held}
 use Rattle.wc_engine.proofs.Widening.{refuses_step, takes_fewer}
-use Rattle.wc_engine.specs.Stored.{HasJournal, GoesOn, Fits, is_full}
+use Rattle.wc_engine.specs.Stored.{GoesOn, Fits, is_full}
 
 pub run_replied : (e : RunEnd) → IsReplied (status_of e)
 run_replied AllEnded = tt
@@ -38,22 +33,6 @@ run_written Spent h = h
 run_written Resting h = h
 
 module _ {D : Type 0} (g : disk.Ghosts D) where
-  -- a journal of a store's version that stands for the store's disk is of its generation
-  journal_at : (store : Store) (journal : Journal) (one two : D) → StandsFor g store one two → IsSettled g journal (its store.place one two)
-      → HasJournal (g.seen one, g.seen two) journal
-  journal_at store journal one two stands settled =
-      let bs : Placed = batches_of (journal_of (g.seen (its store.place one two))) in
-      let same : holds store.journal.version store.journal.generation bs ≡ holds journal.version journal.generation bs
-      = sym stands.settled.stands.held ∙ settled.stands.held in
-      let version : store.journal.version ≡ journal.version = cc in
-      let generation : store.journal.generation ≡ journal.generation = cc in
-      record {
-        place = store.place;
-        batches = bs;
-        chooses = stands.chooses ∙ (λ i. on (number_of store.place) (version i) (generation i) bs);
-        end = settled.stands.end;
-      }
-
   -- a store within the limits
   within : (limits : Limits) (w : World) (new : Store) (one two : D) → StandsFor g new one two → FitsAfter limits w new
       → (new.world.world ≡ w) ⊎ Fits limits (g.seen one, g.seen two) new.world.world
@@ -79,11 +58,10 @@ module _ {D : Type 0} (g : disk.Ghosts D) where
     }
 
     -- or found the store full
-    pub has_filled : (journal : Journal) → StandsFor g new one_new two_new → IsSettled g journal (its new.place one_new two_new)
-        → TakesTurns (widest p.limits) p.turns store.world.world new.world.world → FitsAfter p.limits store.world.world new
-        → GoesOn (g.seen one, g.seen two) (g.seen one_new, g.seen two_new) store.journal new.journal → FillsAt p store.world.world new.world.world journal r
-        → Runs p (g.seen one, g.seen two) store.world.world (g.seen one_new, g.seen two_new) r
-    has_filled journal stands settled takes fits goes full = record {
+    pub has_filled : StandsFor g new one_new two_new → TakesTurns (widest p.limits) p.turns store.world.world new.world.world
+        → FitsAfter p.limits store.world.world new → GoesOn (g.seen one, g.seen two) (g.seen one_new, g.seen two_new) store.journal new.journal
+        → FillsAt p store.world.world new.world.world new.journal r → Runs p (g.seen one, g.seen two) store.world.world (g.seen one_new, g.seen two_new) r
+    has_filled stands takes fits goes full = record {
       later = new.world.world;
       takes = takes;
       held = stands.held;
@@ -91,14 +69,14 @@ module _ {D : Type 0} (g : disk.Ghosts D) where
       journal = store.journal;
       next = new.journal;
       goes = goes;
-      ends = inr (journal, journal_at new journal one_new two_new stands settled, full);
+      ends = inr full;
     }
 
 -- why a run found the store full
-pub fills_at : {D : Type 0} (g : disk.Ghosts D) (told : Type 0) (o : Outside) (p : RunOptions) (w : World) (store : Store) (one two : D) (begun now : ℕ) (what : What) (count limit : ℕ) (r : Reply)
-    → o.limits ≡ p.limits → (full : IsFullAt g told o store one two (Full what count limit)) → TakesFewer o p.turns w store.world.world begun now
-    → r ≡ is_full what count limit → FillsAt p w store.world.world full.journal r
-fills_at g told o p w store one two begun now what count limit r given full left reply =
+pub fills_at : (o : Outside) (p : RunOptions) (w : World) (store : Store) (begun now : ℕ) (what : What) (count limit : ℕ) (r : Reply) → o.limits ≡ p.limits
+    → IsFullAt o store (Full what count limit) → TakesFewer o p.turns w store.world.world begun now → r ≡ is_full what count limit
+    → FillsAt p w store.world.world store.journal r
+fills_at o p w store begun now what count limit r given full left reply =
     let v = store.world.world in
     let e = Full what count limit in
     record {
@@ -107,6 +85,6 @@ fills_at g told o p w store one two begun now what count limit r given full left
       count = count;
       limit = limit;
       pid = full.pid;
-      refused = subst (λ (l : Limits). RefusesStep (widest l) full.journal v full.pid e) given (refuses_step o full.journal v full.pid e full.refused);
+      refused = subst (λ (l : Limits). RefusesStep (widest l) store.journal v full.pid e) given (refuses_step o store.journal v full.pid e full.refused);
       reply = reply;
     }

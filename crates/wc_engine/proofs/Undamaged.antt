@@ -76,7 +76,7 @@ work_tells (work.View v) before w after r sound shows = view_faultless v w r sou
 work_tells (work.Event a) before w after r sound (inl e) = same_tells r _ e.reply tt
 work_tells (work.Event a) before w after r sound (inr u) = ⊎_elim (alone_tells a w r) (λ full. same_tells r _ full.4 tt) u.tells
 work_tells (work.Run o) before w after r sound runs =
-    ⊎_elim (λ has. same_tells r _ has.reply (run_tells has.end w runs.later)) (λ full. same_tells r _ full.2.reply tt) runs.ends
+    ⊎_elim (λ has. same_tells r _ has.reply (run_tells has.end w runs.later)) (λ full. same_tells r _ full.reply tt) runs.ends
 work_tells work.Pack before w after r sound packs = ⊎_elim (λ packed. same_tells r _ packed.reply tt) (λ full. same_tells r _ full.1.reply tt) packs.1.2
 
 -- ---- where no disk is damaged
@@ -108,7 +108,7 @@ module _ (law : HeldIsOne) (before after : Images) (r : Reply) (sound : HoldsSou
   row_tells (deed.Begin begin.Init) (damage disk place found) held at = absurd (no_damage law before sound disk place found held)
   row_tells (deed.Begin begin.Init) (a_world w) held at = same_tells r _ at.1 tt
   row_tells (deed.Begin (begin.Drill seed count)) nothing held at =
-      ⊎_elim (λ ended. same_tells r (has_drilled seed count at.world ended.end) ended.reply (drill_tells seed count at.world ended.end)) (λ full. same_tells r _ full.2.reply tt) at.ends
+      ⊎_elim (λ ended. same_tells r (has_drilled seed count at.world ended.end) ended.reply (drill_tells seed count at.world ended.end)) (λ full. same_tells r _ full.reply tt) at.ends
   row_tells (deed.Begin (begin.Drill seed count)) (damage disk place found) held at = absurd (no_damage law before sound disk place found held)
   row_tells (deed.Begin (begin.Drill seed count)) (a_world w) held at = same_tells r _ at.1 tt
   row_tells (deed.Work k) nothing held at = same_tells r _ at.1 tt

@@ -1,16 +1,14 @@
 -- Turns of a run are turns where any moment may be said, and any reply given.
-use Rattle.std.proofs.Common.{inl, inr, ◌≤◌, ◌+◌, ℕ, refl, arith}
+use Rattle.std.proofs.Common.{◌≤◌, ◌+◌, ℕ, refl, arith}
 use Rattle.wc_world.specs.World.{World}
 use Rattle.wc_journal.specs.declared.journal.Journal.{Journal}
 use Rattle.wc_runner.specs.declared.error.RunError.{RunError}
-use Rattle.wc_runner.specs.declared.error.RunError.TheVariants.{DiskFault, Full, OutOfMemory}
 use Rattle.wc_runner.specs.declared.running.RunEnd.{RunEnd}
 use Rattle.wc_runner.specs.declared.running.RunEnd.TheVariants.{AllEnded, Spent, Resting}
-use Rattle.wc_runner.specs.Leaves.{SomeTurns}
 use Rattle.wc_runner.specs.Outside.{Outside}
 use Rattle.wc_runner.specs.Refusals.{RefusesStep}
 use Rattle.wc_runner.specs.Running.{TakesTurns, TakesAll, TakesUpTo, TakesFewer, EndsAs}
-use Rattle.wc_runner.proofs.Widened.{Widens, turn_widened, turns_widened}
+use Rattle.wc_runner.proofs.Widened.{Widens, step_widened, turns_widened}
 use Rattle.wc_engine.specs.Running.{widest, TakesJust, EndsSo, TakesFewer as FewerTaken}
 
 module _ (o : Outside) where
@@ -18,9 +16,9 @@ module _ (o : Outside) where
   wide = record { said = λ moment h. tt; gave = λ dir t q reply h. tt; brings = λ q result h. tt; failed = λ h. tt; limits = refl }
 
   -- what a run leaves
-  pub some_turns : (most : ℕ) (w v : World) → SomeTurns o most w v → SomeTurns (widest o.limits) most w v
+  pub some_turns : (most : ℕ) (w v : World) → TakesTurns o most w v → TakesTurns (widest o.limits) most w v
   some_turns most w v h =
-      (record { count = h.0.count; rests = h.0.rests; few = h.0.few; turns = turns_widened o (widest o.limits) wide h.0.count h.0.rests w v h.0.turns; batches = h.0.batches }, h.1)
+      record { count = h.count; rests = h.rests; few = h.few; turns = turns_widened o (widest o.limits) wide h.count h.rests w v h.turns; batches = h.batches }
 
   takes_just : (all : ℕ) (w v : World) (begun now : ℕ) → TakesAll o all w v begun now → TakesJust o.limits all w v
   takes_just all w v begun now h = record {
@@ -49,7 +47,4 @@ module _ (o : Outside) where
 
   -- why it breaks off
   pub refuses_step : (journal : Journal) (w : World) (pid : ℕ) (e : RunError) → RefusesStep o journal w pid e → RefusesStep (widest o.limits) journal w pid e
-  refuses_step journal w pid DiskFault h = (h.0, turn_widened o (widest o.limits) wide pid w h.0 h.1, h.2)
-  refuses_step journal w pid (Full what count limit) (inl h) = inl (h.0, turn_widened o (widest o.limits) wide pid w h.0 h.1, h.2)
-  refuses_step journal w pid (Full what count limit) (inr h) = inr (h.0, turn_widened o (widest o.limits) wide pid w h.0 h.1, h.2)
-  refuses_step journal w pid OutOfMemory h = tt
+  refuses_step = step_widened o (widest o.limits) wide

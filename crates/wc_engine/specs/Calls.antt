@@ -1,6 +1,6 @@
 -- What is counted in a call that makes a plan, does a deed, or both.
-use Rattle.std.specs.Prelude.{◌≡◌, ◌⊎◌, ℕ, Result, Ok, Err}
-use Rattle.wc_io.specs.Counts.{Rises}
+use Rattle.std.specs.Prelude.{◌≡◌, ℕ, Result, Ok, Err}
+use Rattle.wc_io.specs.Counts.{RisesByOne, EitherRisesByOne}
 use Rattle.wc_engine.specs.declared.error.PlanError.{PlanError}
 use Rattle.wc_engine.specs.declared.error.PlanError.TheVariants as plan_error
 use Rattle.wc_engine.specs.declared.error.ActError.{ActError}
@@ -11,17 +11,17 @@ use Rattle.wc_engine.specs.declared.reply.Reply.{Reply}
 use Rattle.wc_engine.specs.declared.status.Status.{Status}
 use Rattle.wc_engine.specs.declared.status.Status.TheVariants as status
 
--- `ReadFault` comes only where the shelf's count rose, and each other answer leaves it
+-- `ReadFault` comes only where the shelf's count rose by one, and each other answer leaves it
 abbrev pub CountsShelf : {T : Type 0} → Result T PlanError → ℕ → ℕ → Type 0
 CountsShelf (Ok answer) old new = new ≡ old
 CountsShelf (Err plan_error.OutOfMemory) old new = new ≡ old
-CountsShelf (Err plan_error.ReadFault) old new = Rises old new
+CountsShelf (Err plan_error.ReadFault) old new = RisesByOne old new
 
--- `DiskFault` comes only where the count of one of the disks rose, and each other answer leaves both counts
+-- `DiskFault` comes only where the count of one of the disks rose by one and the other stayed, and each other answer leaves both counts
 abbrev pub CountsDisks : {T : Type 0} → Result T ActError → (one one' two two' : ℕ) → Type 0
 CountsDisks (Ok answer) one one' two two' = (one' ≡ one) × (two' ≡ two)
 CountsDisks (Err act_error.OutOfMemory) one one' two two' = (one' ≡ one) × (two' ≡ two)
-CountsDisks (Err act_error.DiskFault) one one' two two' = Rises one one' ⊎ Rises two two'
+CountsDisks (Err act_error.DiskFault) one one' two two' = EitherRisesByOne one one' two two'
 
 -- ---- both
 
@@ -33,13 +33,13 @@ abbrev pub of_act : ActError → ReplyError
 of_act act_error.OutOfMemory = reply_error.OutOfMemory
 of_act act_error.DiskFault = reply_error.DiskFault
 
--- `ReadFault` comes only where the shelf's count rose, before any disk is asked, and `DiskFault` only where the count of one of the disks
--- rose; each other count stays
+-- `ReadFault` comes only where the shelf's count rose by one, before any disk is asked, and `DiskFault` only where the count of one of the
+-- disks rose by one; each other count stays
 abbrev pub CountsReply : {D : Type 0} → Result Reply ReplyError → (shelf shelf' one one' two two' : ℕ) → (d d' e e' : D) → Type 0
 CountsReply (Ok reply) shelf shelf' one one' two two' d d' e e' = (shelf' ≡ shelf) × (one' ≡ one) × (two' ≡ two)
 CountsReply (Err reply_error.OutOfMemory) shelf shelf' one one' two two' d d' e e' = (shelf' ≡ shelf) × (one' ≡ one) × (two' ≡ two)
-CountsReply (Err reply_error.ReadFault) shelf shelf' one one' two two' d d' e e' = Rises shelf shelf' × (d' ≡ d) × (e' ≡ e)
-CountsReply (Err reply_error.DiskFault) shelf shelf' one one' two two' d d' e e' = (shelf' ≡ shelf) × (Rises one one' ⊎ Rises two two')
+CountsReply (Err reply_error.ReadFault) shelf shelf' one one' two two' d d' e e' = RisesByOne shelf shelf' × (d' ≡ d) × (e' ≡ e)
+CountsReply (Err reply_error.DiskFault) shelf shelf' one one' two two' d d' e e' = (shelf' ≡ shelf) × EitherRisesByOne one one' two two'
 
 -- the status of a reply, or of a call that has none
 abbrev pub status_of : Result Reply ReplyError → Status

@@ -18,6 +18,7 @@ use Rattle.wc_engine.specs.Owed.{OfSome}
 use Rattle.wc_engine.specs.Plans.{Plans}
 use Rattle.wc_engine.specs.Replies.{Writes}
 use Rattle.wc_engine.specs.Rows.{row}
+use Rattle.wc_engine.specs.Stored.{Images}
 
 -- ---- what images hold
 
@@ -44,9 +45,9 @@ pub record AreDurable {D : Type 0} (g : disk.Ghosts D) (one two : D) : Type 0 wh
 abbrev pub Keeps : World → World → Type 0
 Keeps w v = IsSound w → StaysSound w v
 
--- the pair holds a world that the call may make of this one, and that keeps it
-abbrev pub HoldsKeeping : (World → World → Type 0) → World → List ℕ → List ℕ → Type 0
-HoldsKeeping makes w a b = (v : World) × IsHeld a b (a_world v) × makes w v × Keeps w v
+-- the pair holds a world that the call may make of this one, in such images, and that keeps it
+abbrev pub HoldsKeeping : (World → World → Images → Type 0) → World → List ℕ → List ℕ → Type 0
+HoldsKeeping makes w a b = (v : World) × IsHeld a b (a_world v) × makes w v (a, b) × Keeps w v
 
 -- the pair holds a world with which the call may begin a store, which is sound and continues the empty one
 abbrev pub HoldsBegun : (World → Type 0) → List ℕ → List ℕ → Type 0
@@ -61,11 +62,11 @@ pub record ComesOfNothing (begins : World → Type 0) (one two a b : List ℕ) :
 
 -- What comes of two images in a call that begins a store with no other worlds than `begins` says, and makes of a world only what `makes`
 -- says: where they hold nothing, nothing, or a world with which it begins; where they hold a world, one that it makes of that and that keeps it.
-abbrev pub ComesOf : (begins : World → Type 0) → (makes : World → World → Type 0) → (one two a b : List ℕ) → Type 0
+abbrev pub ComesOf : (begins : World → Type 0) → (makes : World → World → Images → Type 0) → (one two a b : List ℕ) → Type 0
 ComesOf begins makes one two a b = ComesOfNothing begins one two a b ⊎ ((w : World) × IsHeld one two (a_world w) × HoldsKeeping makes w a b)
 
 -- the pair is one that a crash at entry might have left, or holds what comes of what the disks read as at entry
-abbrev pub Kept : {D : Type 0} → disk.Ghosts D → (begins : World → Type 0) → (makes : World → World → Type 0) → D → D → List ℕ → List ℕ → Type 0
+abbrev pub Kept : {D : Type 0} → disk.Ghosts D → (begins : World → Type 0) → (makes : World → World → Images → Type 0) → D → D → List ℕ → List ℕ → Type 0
 Kept g begins makes one two a b = (g.may_leave one a × g.may_leave two b) ⊎ ComesOf begins makes (g.seen one) (g.seen two) a b
 
 -- one of the disks is not written: each of its images is one that a crash at entry might have left
@@ -90,17 +91,17 @@ abbrev pub AtAnyMoment : {D : Type 0} → disk.Ghosts D → (one two one_new two
 AtAnyMoment g one two one_new two_new P = OneSide g one one_new two two_new P ⊎ OneSide g two two_new one one_new (λ b a. P a b)
 
 -- what a deed leaves
-abbrev pub LeavesKept : {D : Type 0} → disk.Ghosts D → (begins : World → Type 0) → (makes : World → World → Type 0) → (one two one_new two_new : D) → Type 0
+abbrev pub LeavesKept : {D : Type 0} → disk.Ghosts D → (begins : World → Type 0) → (makes : World → World → Images → Type 0) → (one two one_new two_new : D) → Type 0
 LeavesKept g begins makes one two one_new two_new = AtAnyMoment g one two one_new two_new (Kept g begins makes one two)
 
 -- ---- by words
 
--- with which worlds some deed that the words plan begins a store, and what it makes of a world
+-- with which worlds some deed that the words plan begins a store, and what it makes of a world, in such images
 abbrev pub BegunBy : Option (List ℕ → Option (List ℕ)) → List (List ℕ) → World → Type 0
 BegunBy told words v = OfSome told words (λ k. k.begins v)
 
-abbrev pub MadeBy : Option (List ℕ → Option (List ℕ)) → List (List ℕ) → World → World → Type 0
-MadeBy told words w v = (v ≡ w) ⊎ OfSome told words (λ k. k.makes w v)
+abbrev pub MadeBy : Option (List ℕ → Option (List ℕ)) → List (List ℕ) → World → World → Images → Type 0
+MadeBy told words w v images = (v ≡ w) ⊎ OfSome told words (λ k. k.makes w v images)
 
 -- Each pair is one that a crash at entry might have left, or holds what the words make of what the disks read as at entry.
 abbrev pub LeavesMade : {D : Type 0} → disk.Ghosts D → Option (List ℕ → Option (List ℕ)) → List (List ℕ) → (one two one_new two_new : D) → Type 0

@@ -1,11 +1,10 @@
 -- What `drill` does.
 use Rattle.std.specs.Prelude.{◌≡◌, ◌⊎◌, ℕ, List, [], Option, Some, None}
 use Rattle.wc_journal.specs.declared.journal.Journal.{Journal}
-use Rattle.wc_journal.specs.Journals.{IsJournalOf}
-use Rattle.wc_journal.specs.Reading.{Placed}
 use Rattle.wc_state.specs.declared.record.What.{What}
 use Rattle.wc_world.specs.World.{World}
 use Rattle.wc_store.specs.Held.{Standing, nothing, damage, a_world}
+use Rattle.wc_store.specs.declared.place.Place.TheVariants.{One}
 use Rattle.wc_runner.specs.declared.error.RunError.TheVariants.{Full}
 use Rattle.wc_runner.specs.declared.running.RunEnd.{RunEnd}
 use Rattle.wc_runner.specs.declared.running.RunEnd.TheVariants.{AllEnded, Spent, Resting}
@@ -20,7 +19,7 @@ use Rattle.wc_engine.specs.declared.status.Cause.TheVariants as cause
 use Rattle.wc_engine.specs.declared.status.Status.{Status}
 use Rattle.wc_engine.specs.declared.status.Status.TheVariants as status
 use Rattle.wc_engine.specs.Replies.{refuses, prints}
-use Rattle.wc_engine.specs.Stored.{Images, Hold, is_damaged, is_full}
+use Rattle.wc_engine.specs.Stored.{Images, Hold, HasJournal, is_damaged, is_full}
 
 -- ---- how it ends
 
@@ -46,7 +45,7 @@ pub record HasEnded (seed count : ℕ) (w : World) (r : Reply) : Type 0 where
   pub ends : EndsAt seed count w end
   pub reply : r ≡ has_drilled seed count w end
 
--- The drill has come to this world, and the store would be too full with the next chain, or with the turn of a process, by this journal.
+-- The drill has come to this world, and the store would be too full with the next chain, or with the turn of a process, by this journal of it.
 pub record FillsUp (seed count : ℕ) (w : World) (journal : Journal) (r : Reply) : Type 0 where
   pub drills : Drills seed count w
   pub what : What
@@ -55,16 +54,18 @@ pub record FillsUp (seed count : ℕ) (w : World) (journal : Journal) (r : Reply
   pub refused : IsTooFullFor seed count journal w (Full what many limit)
   pub reply : r ≡ is_full what many limit
 
--- the image is that of a disk with this journal
-abbrev pub HasJournalOn : List ℕ → Journal → Type 0
-HasJournalOn image journal = (batches : Placed) × IsJournalOf journal batches image
-
--- The disks hold the world to which the drill has come, where it ended, or would be too full by the journal of disk one; disk two reads as before.
+-- The disks hold the world to which the drill has come, by a journal of version 2 and generation 1 on disk one: there it ended, or would be too
+-- full by that journal. Disk two reads as before.
 pub record IsDrilled (seed count : ℕ) (before after : Images) (r : Reply) : Type 0 where
   pub world : World
   pub held : Hold after (a_world world)
   pub rest : after.1 ≡ before.1
-  pub ends : HasEnded seed count world r ⊎ ((journal : Journal) × HasJournalOn after.0 journal × FillsUp seed count world journal r)
+  pub journal : Journal
+  pub kept : HasJournal after journal
+  pub place : kept.place ≡ One
+  pub version : journal.version ≡ 2
+  pub generation : journal.generation ≡ 1
+  pub ends : HasEnded seed count world r ⊎ FillsUp seed count world journal r
 
 -- a store is made, and chains run in it, where there is none
 abbrev pub DrillAt : (seed count : ℕ) → Images → Standing → Images → Reply → Type 0

@@ -125,9 +125,9 @@ pub record IsMadeBy (a : Asked) (w v : World) : Type 0 where
   pub after : v ≡ applied w changes
   pub nodes : length v.nodes ≤ (limits_of a).max_nodes
 
--- the same world, or what the event makes of it
-abbrev pub MayHappen : Asked → World → World → Type 0
-MayHappen a w v = (v ≡ w) ⊎ IsMadeBy a w v
+-- the same world, or what the event makes of it, in any images
+abbrev pub MayHappen : Asked → World → World → Images → Type 0
+MayHappen a w v images = (v ≡ w) ⊎ IsMadeBy a w v
 
 -- ---- what it does to a store
 

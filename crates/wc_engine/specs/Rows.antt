@@ -2,7 +2,7 @@
 use Rattle.std.specs.Prelude.{◌≡◌, ◌⊎◌, ◌+◌, ℕ, false, true, List}
 use Rattle.wc_state.specs.declared.record.What.{What}
 use Rattle.wc_world.specs.World.{World, empty}
-use Rattle.wc_runner.specs.Leaves.{SomeTurns}
+use Rattle.wc_runner.specs.Running.{TakesTurns}
 use Rattle.wc_store.specs.Held.{Standing}
 use Rattle.wc_store.specs.Preparing.{HasGeneration}
 use Rattle.wc_store.specs.Refusals.{RefusesPack}
@@ -28,15 +28,15 @@ use Rattle.wc_engine.specs.Events.{MayHappen, MayEnter, Enters}
 use Rattle.wc_engine.specs.Opening.{NoWorld, TellsDamage}
 use Rattle.wc_engine.specs.Replies.{refuses, prints}
 use Rattle.wc_engine.specs.Running.{widest, MayRun, Runs}
-use Rattle.wc_engine.specs.Stored.{Images, is_full, InitAt, AtStore, Packs}
+use Rattle.wc_engine.specs.Stored.{Fits, Images, is_full, InitAt, AtStore, Packs}
 use Rattle.wc_engine.specs.Undone.{IsBeforeStoring, IsBeforeTurns, IsBeforePacking}
 use Rattle.wc_engine.specs.Views.{Shows, ShowsStill}
 
 -- ---- what is done on a store that is there
 
 pub record WorkRow : Type 1 where
-  -- what it may make of the world, at any moment
-  pub makes : World → World → Type 0
+  -- what it may make of the world, in which images, at any moment
+  pub makes : World → World → Images → Type 0
   -- what it has done, from what the disks read as at entry to what they read as at exit, and its reply
   pub does : Images → World → Images → Reply → Type 0
   -- its reply, where a disk doesn't tell its bytes
@@ -48,9 +48,9 @@ pub record WorkRow : Type 1 where
   -- what the world has that is held at exit, once this text is written with status Ok
   pub acknowledges : List ℕ → World → Type 0
 
--- the world is the same
-abbrev pub Stays : World → World → Type 0
-Stays w v = v ≡ w
+-- the world is the same, in any images
+abbrev pub Stays : World → World → Images → Type 0
+Stays w v images = v ≡ w
 
 abbrev pub view_row : View → WorkRow
 view_row v = record {
@@ -80,9 +80,10 @@ event_row a = record {
   acknowledges = HasHappened a;
 }
 
--- the same world, or what at most as many turns and rests as are given make of it, within the run's limits
-abbrev pub TakesSome : RunOptions → World → World → Type 0
-TakesSome o w v = (v ≡ w) ⊎ SomeTurns (widest o.limits) o.turns w v
+-- the same world, or what at most as many turns and rests as are given make of it, where it and its journal in the images are within the run's
+-- limits
+abbrev pub TakesSome : RunOptions → World → World → Images → Type 0
+TakesSome o w v images = (v ≡ w) ⊎ (TakesTurns (widest o.limits) o.turns w v × Fits o.limits images v)
 
 -- any ready process may be the one for which the store is too full, so that its reply isn't certain
 abbrev pub run_row : RunOptions → WorkRow
@@ -122,7 +123,7 @@ work_row work.Pack = pack_row
 pub record Row : Type 1 where
   -- with which worlds it may begin a store, at any moment, where there is none
   pub begins : World → Type 0
-  pub makes : World → World → Type 0
+  pub makes : World → World → Images → Type 0
   -- what it has done, by what the disks hold at entry
   pub does : Images → Standing → Images → Reply → Type 0
   pub may : Reply → Type 0

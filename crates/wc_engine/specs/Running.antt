@@ -18,7 +18,7 @@ use Rattle.wc_engine.specs.declared.deed.RunOptions.{RunOptions}
 use Rattle.wc_engine.specs.declared.reply.Reply.{Reply}
 use Rattle.wc_engine.specs.declared.status.Status.{Status}
 use Rattle.wc_engine.specs.declared.status.Status.TheVariants as status
-use Rattle.wc_engine.specs.Stored.{Images, Hold, HasJournal, GoesOn, Fits, is_full}
+use Rattle.wc_engine.specs.Stored.{Images, Hold, GoesOn, Fits, is_full}
 
 abbrev pub status_of : RunEnd → Status
 status_of AllEnded = status.Ok
@@ -67,7 +67,7 @@ pub record HasRun (o : RunOptions) (w v : World) (r : Reply) : Type 0 where
   pub ends : EndsSo o.limits o.turns w v end
   pub reply : r ≡ has_run end w v
 
--- Before all turns and rests that are given were taken, the store would be too full with the turn of a process, by this journal.
+-- Before all turns and rests that are given were taken, the store would be too full with the turn of a process, by this journal of it.
 pub record FillsAt (o : RunOptions) (w v : World) (journal : Journal) (r : Reply) : Type 0 where
   pub left : TakesFewer o.limits o.turns w v
   pub what : What
@@ -77,12 +77,8 @@ pub record FillsAt (o : RunOptions) (w v : World) (journal : Journal) (r : Reply
   pub refused : RefusesStep (widest o.limits) journal v pid (Full what count limit)
   pub reply : r ≡ is_full what count limit
 
--- by the journal that the disks hold then
-abbrev pub IsRunFull : RunOptions → World → World → Images → Reply → Type 0
-IsRunFull o w v after r = (journal : Journal) × HasJournal after journal × FillsAt o w v journal r
-
 -- Turns and rests lead from the world to the one that the disks hold then, which is within the limits where any turn was taken; the
--- journal goes on.
+-- journal goes on. There the run came to its end, or found the store full by the journal that the disks hold then.
 pub record Runs (o : RunOptions) (before : Images) (w : World) (after : Images) (r : Reply) : Type 0 where
   pub later : World
   pub takes : TakesTurns (widest o.limits) o.turns w later
@@ -91,7 +87,7 @@ pub record Runs (o : RunOptions) (before : Images) (w : World) (after : Images) 
   pub journal : Journal
   pub next : Journal
   pub goes : GoesOn before after journal next
-  pub ends : HasRun o w later r ⊎ IsRunFull o w later after r
+  pub ends : HasRun o w later r ⊎ FillsAt o w later next r
 
 -- what is replied at a world: turns and rests led to another one, where the run came to its end, or the store would be too full by some journal
 abbrev pub MayRun : RunOptions → Reply → Type 0

@@ -10,7 +10,7 @@ use crate::error::PlanError;
 use crate::further::content_from;
 use crate::status::Cause;
 use std::alloc::{AllocError, Global};
-use wc_check::{first_finding, rules_are_kept_where_nothing_is_found};
+use wc_check::{first_finding, rules_are_kept_where_nothing_is_found, share};
 use wc_io::Shelf;
 use wc_parser::{ParseError, parse};
 use wc_syntax::{Checked, Library};
@@ -34,7 +34,7 @@ fn read_library(alloc: Global, library: Library) -> Result<Read, AllocError>
         Some(error) => Ok(Read::Refused(Cause::Check(error))),
         None => {
             rules_are_kept_where_nothing_is_found();
-            Ok(Read::Library(Checked::of(library)))
+            Ok(Read::Library(share(alloc, library)?))
         }
     }
 }

@@ -1,8 +1,8 @@
 //! The top call.
 
-ghost use Rattle.std.specs.Prelude.{◌≡◌, ◌⊎◌, IsTrue, IfOk};
+ghost use Rattle.std.specs.Prelude.{◌≡◌, IsTrue, IfOk};
 ghost use Rattle.wc_cli.specs.Words.{command_of};
-ghost use Rattle.wc_io.specs.Counts.{Rises};
+ghost use Rattle.wc_io.specs.Counts.{RisesByOne, EitherRisesByOne};
 ghost use Rattle.wc_io.specs.Forms.{TakesPart};
 ghost use Rattle.wc_engine.specs.Calls.{CountsReply, status_of};
 ghost use Rattle.wc_engine.specs.Crashes.{AreDurable, EachPair, HoldsSound, HoldsTheSame, LeavesMade, Stands, StaySound};
@@ -116,14 +116,14 @@ pub fn serve<R: Shelf, W: Sink, D: Disk, T: Transport, P: Pacer>(
     // Nor is the transport, nor the clock, by words that are no `run`.
     ensures idle { TakesNoTurns (command_of words.now) → (transport.new ≡ transport.old) × (pacer.new ≡ pacer.old) }
     ensures memory { result ≡ Status.OutOfMemory → W.taken sink.new ≡ W.taken sink.old }
-    // The shelf failed in this call, and no disk was asked.
-    ensures read_fault { result ≡ Status.ReadFault → Rises (R.faults shelf.old) (R.faults shelf.new) × (W.taken sink.new ≡ W.taken sink.old) × (one.new ≡ one.old) × (two.new ≡ two.old) }
-    // A disk failed in this call.
-    ensures disk_fault { result ≡ Status.DiskFault → (Rises (D.faults one.old) (D.faults one.new) ⊎ Rises (D.faults two.old) (D.faults two.new))
+    // One call of the shelf failed, and no disk was asked.
+    ensures read_fault { result ≡ Status.ReadFault → RisesByOne (R.faults shelf.old) (R.faults shelf.new) × (W.taken sink.new ≡ W.taken sink.old) × (one.new ≡ one.old) × (two.new ≡ two.old) }
+    // One call of one of the disks failed, and none of the other.
+    ensures disk_fault { result ≡ Status.DiskFault → EitherRisesByOne (D.faults one.old) (D.faults one.new) (D.faults two.old) (D.faults two.new)
         × (W.taken sink.new ≡ W.taken sink.old) }
-    // The sink failed in this call, and took a part of what is owed. What was done stays, also where the store was found too full; and
+    // One call of the sink failed, and it took a part of what is owed. What was done stays, also where the store was found too full; and
     // where what is owed is a reply that writes no disk, none was written.
-    ensures write_fault { result ≡ Status.WriteFault → Rises (W.faults sink.old) (W.faults sink.new)
+    ensures write_fault { result ≡ Status.WriteFault → RisesByOne (W.faults sink.old) (W.faults sink.new)
         × (r : AReply) × IsOwed (R.contents shelf.old) (visit D.Disk one.old two.old one.new two.new) words.now r × TakesPart r.text (W.taken sink.old) (W.taken sink.new)
         × (NeedDisks (R.contents shelf.old) words.now → IsDoneOrFull r.status → IsTrue (D.tells one.old) → IsTrue (D.tells two.old) → AreDurable D.Disk one.new two.new)
         × (LeaveUndone (R.contents shelf.old) words.now r.status → IsTrue (D.tells one.old) → IsTrue (D.tells two.old) → LeavesUnwritten D.Disk one.old two.old one.new two.new) }

@@ -56,11 +56,20 @@ fn read_rest(alloc: Global, file: &mut impl Read) -> Result<Bytes, ShelfError> {
     Err(ShelfError::Failed)
 }
 
+/// Whether the system says that there is no file of this name: it isn't there, what should be its folder isn't one, or it
+/// is longer than a name may be.
+fn is_missing(kind: io::ErrorKind) -> bool {
+    matches!(
+        kind,
+        io::ErrorKind::NotFound | io::ErrorKind::NotADirectory | io::ErrorKind::InvalidFilename
+    )
+}
+
 /// The content of a file, or none where there is no such file.
 fn content_of<R: Files>(rt: &R, alloc: Global, name: &Text) -> Result<Option<Bytes>, ShelfError> {
     match fs::open(rt, name.as_str()) {
         Ok(mut file) => Ok(Some(read_rest(alloc, &mut file)?)),
-        Err(error) if error.kind() == io::ErrorKind::NotFound => Ok(None),
+        Err(error) if is_missing(error.kind()) => Ok(None),
         Err(_) => Err(ShelfError::Failed),
     }
 }

@@ -1,6 +1,6 @@
 //! Which calls of a form in memory fail.
 ghost use Rattle.std.specs.Prelude.{◌≡◌, ◌-◌, Some, None, is_err, option_map};
-ghost use Rattle.wc_io.specs.Counts.{counted, is_blown, CountsFault, Rises};
+ghost use Rattle.wc_io.specs.Counts.{counted, is_blown, CountsFault, RisesByOne};
 
 use crate::sink::Failed;
 use wc_value::List;
@@ -57,7 +57,7 @@ impl Schedule {
     /// Counts a fault that no number stands for, as want of memory.
     pub fn count_fault(&mut self)
         ensures after { self.new ≡ record self.old { faults = counted self.old.faults } }
-        ensures risen { Rises self.old.faults self.new.faults }
+        ensures risen { RisesByOne self.old.faults self.new.faults }
     {
         self.faults = self.faults.saturating_add(1);
     }

@@ -1,6 +1,6 @@
 -- When a journal refuses, and what is counted.
 use Rattle.std.specs.Prelude.{◌≡◌, ◌+◌, ◌-◌, ◌^◌, ◌<◌, ◌≤◌, ℕ, List, length, min, Result, Ok, Err}
-use Rattle.wc_io.specs.Counts.{Rises}
+use Rattle.wc_io.specs.Counts.{RisesByOne}
 use Rattle.wc_journal.specs.declared.error.JournalError.{JournalError}
 use Rattle.wc_journal.specs.declared.error.JournalError.TheVariants.{DiskFault, Damaged, Full, OutOfMemory}
 use Rattle.wc_journal.specs.Reading.{Held, Outcome, damaged, size_of}
@@ -56,10 +56,10 @@ RefusesReading OutOfMemory = Unit {0}
 abbrev pub OnlyDiskFault : JournalError → Type 0
 OnlyDiskFault error = error ≡ DiskFault
 
--- `DiskFault` is told only where the disk's count rose, and each other answer leaves that count
+-- `DiskFault` is told only where the disk's count rose by one, and each other answer leaves that count
 abbrev pub CountsDiskFault : {T : Type 0} → Result T JournalError → ℕ → ℕ → Type 0
 CountsDiskFault (Ok answer) old new = new ≡ old
-CountsDiskFault (Err DiskFault) old new = Rises old new
+CountsDiskFault (Err DiskFault) old new = RisesByOne old new
 CountsDiskFault (Err (Damaged at found)) old new = new ≡ old
 CountsDiskFault (Err (Full count limit)) old new = new ≡ old
 CountsDiskFault (Err OutOfMemory) old new = new ≡ old

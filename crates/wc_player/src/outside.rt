@@ -2,7 +2,7 @@
 
 ghost use Rattle.std.specs.Prelude.{◌≡◌, ◌==◌, ◌-◌, IfOk};
 ghost use Rattle.std.specs.List.{list_any};
-ghost use Rattle.wc_io.specs.Counts.{counted, Rises, RisesByOne};
+ghost use Rattle.wc_io.specs.Counts.{counted, RisesByOne};
 ghost use Rattle.wc_transport.specs.Outside.{CountsTaskFault};
 
 use crate::letting::put;
@@ -272,7 +272,7 @@ impl Outside {
     /// Counts a fault.
     fn count_fault(&mut self)
         ensures kept { self.new.counters ≡ self.old.counters }
-        ensures risen { Rises self.old.faults self.new.faults }
+        ensures risen { RisesByOne self.old.faults self.new.faults }
     {
         self.faults = self.faults.saturating_add(1);
     }

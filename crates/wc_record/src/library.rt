@@ -1,6 +1,6 @@
 //! Libraries in the bytes of changes.
 
-ghost use Rattle.std.specs.Prelude.{◌≡◌, ◌↔◌, ◌≤◌, length, IsTrue, Ok, IfOk};
+ghost use Rattle.std.specs.Prelude.{◌≡◌, ◌↔◌, ◌≤◌, length, IsTrue, Ok, IfOk, IfSome};
 ghost use Rattle.wc_syntax.specs.Writable.{IsWritable};
 ghost use Rattle.wc_parser.specs.Parsing.{TextSays};
 ghost use Rattle.wc_parser.specs.declared.error.ParseError.TheVariants as refusal;
@@ -8,12 +8,13 @@ ghost use Rattle.wc_check.specs.declared.error.CheckError.TheVariants as finding
 ghost use Rattle.wc_world.specs.Fits.{comes_after};
 ghost use Rattle.wc_record.specs.Readers.{Answers, counted, last_of, name};
 ghost use Rattle.wc_record.specs.Fields.{names};
-ghost use Rattle.wc_record.specs.Reading.{library, Told};
+ghost use Rattle.wc_record.specs.Reading.{IsPrinted, library, Told};
 ghost use Rattle.wc_record.specs.Libraries.{Prints};
 
 use crate::error::RecordError;
 use crate::pieces::{text_at, u32_at};
 use std::alloc::{AllocError, Global};
+use std::marker::Model;
 use wc_check::{CheckError, check};
 use wc_parser::{ParseError, parse};
 use wc_syntax::{Checked, Library, print};
@@ -69,14 +70,82 @@ fn library_of(alloc: Global, text: &Text) -> Result<Option<Checked>, AllocError>
     }
 }
 
+/// The library that was read last, with the text that prints it. Where the same text comes again, it stands for the same
+/// library, which is shared and not read once more: a store has few files, and many processes of each.
+#[derive(Drop)]
+pub struct LastLibrary {
+    read: Option<(Text, Checked)>,
+}
+
+impl Model for LastLibrary {
+    ghost use Rattle.std.specs.Prelude.{ℕ, List, Option, IfSome};
+    ghost use Rattle.wc_syntax.specs.declared.definition.Definition.{Definition};
+    ghost use Rattle.wc_record.specs.Reading.{IsPrinted};
+
+    ghost Value = { Option (List ℕ × List Definition) };
+
+    ghost use Rattle.std.specs.Coded.{coded_list, coded_option, coded×, coded_ℕ};
+    ghost use Rattle.wc_syntax.specs.contracts.definition.Definition as row;
+
+    ghost coded = { coded_option (coded× (coded_list coded_ℕ) (coded_list row.the_row.coded)) };
+
+    ghost view = { λ l. l.read };
+
+    ghost invariant = { λ l. IfSome l.read (λ r. IsPrinted r.0 r.1) };
+}
+
+impl LastLibrary {
+    /// None was read yet.
+    pub fn none() -> LastLibrary {
+        LastLibrary { read: None }
+    }
+
+    /// The library that was read last, where this text prints it.
+    fn shared(&self, text: &Text) -> Result<Option<Checked>, AllocError>
+        ensures { IfOk result (λ found. IfSome found (λ l. IsPrinted text.now l)) }
+    {
+        match &self.read {
+            Some((last, library)) if same_text(last, text) => Ok(Some(library.clone()?)),
+            _ => Ok(None),
+        }
+    }
+
+    /// Keeps what a text prints.
+    fn keep(&mut self, text: Text, library: &Checked) -> Result<(), AllocError>
+        requires { IsPrinted text library.now }
+    {
+        self.read = Some((text, library.clone()?));
+        Ok(())
+    }
+
+    /// The library whose printed text this is, if there is one.
+    fn library_of(&mut self, alloc: Global, text: Text) -> Result<Option<Checked>, AllocError>
+        ensures { IfOk result (λ found. Prints text found) }
+    {
+        if let Some(library) = self.shared(&text)? {
+            return Ok(Some(library));
+        }
+        let found = library_of(alloc, &text)?;
+        if let Some(library) = &found {
+            self.keep(text, library)?;
+        }
+        Ok(found)
+    }
+}
+
 /// The library whose printed text stands at a place, and the place behind it.
-pub fn library_at(alloc: Global, bytes: &[u8], at: usize) -> Result<(Checked, usize), RecordError>
+pub fn library_at(
+    alloc: Global,
+    bytes: &[u8],
+    at: usize,
+    last: &mut LastLibrary,
+) -> Result<(Checked, usize), RecordError>
     requires { at ≤ length bytes.now }
     ensures answer { Told result (library bytes.now at) }
     ensures within { IfOk result (λ x. x.1 ≤ length bytes.now) }
 {
     let (text, next) = text_at(alloc, bytes, at)?;
-    match library_of(alloc, &text)? {
+    match last.library_of(alloc, text)? {
         Some(library) => Ok((library, next)),
         None => Err(RecordError::BadLibrary(at + 4)),
     }

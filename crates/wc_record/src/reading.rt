@@ -8,7 +8,7 @@ ghost use Rattle.wc_record.specs.Reading.{library_change, one_change, counted_ch
 
 use crate::error::RecordError;
 use crate::fields::other_change_at;
-use crate::library::{library_at, names_at};
+use crate::library::{LastLibrary, library_at, names_at};
 use crate::pieces::u32_at;
 use std::alloc::Global;
 use wc_world::{Change, Changes};
@@ -17,29 +17,43 @@ use wc_world::{Change, Changes};
 const LIBRARY: u8 = 1;
 
 /// A library behind its tag.
-fn library_change_at(alloc: Global, bytes: &[u8], at: usize) -> Result<(Change, usize), RecordError>
+fn library_change_at(
+    alloc: Global,
+    bytes: &[u8],
+    at: usize,
+    last: &mut LastLibrary,
+) -> Result<(Change, usize), RecordError>
     requires { at ≤ length bytes.now }
     ensures answer { Told result (library_change bytes.now at) }
     ensures within { IfOk result (λ x. x.1 ≤ length bytes.now) }
 {
-    let (library, place) = library_at(alloc, bytes, at)?;
+    let (library, place) = library_at(alloc, bytes, at, last)?;
     let (names, next) = names_at(alloc, bytes, place)?;
     Ok((Change::Library(library, names), next))
 }
 
-fn change_at(alloc: Global, bytes: &[u8], at: usize) -> Result<(Change, usize), RecordError>
+fn change_at(
+    alloc: Global,
+    bytes: &[u8],
+    at: usize,
+    last: &mut LastLibrary,
+) -> Result<(Change, usize), RecordError>
     requires { at ≤ length bytes.now }
     ensures answer { Told result (one_change bytes.now at) }
     ensures within { IfOk result (λ x. x.1 ≤ length bytes.now) }
 {
     if at < bytes.len() && bytes[at] == LIBRARY {
-        return library_change_at(alloc, bytes, at + 1);
+        return library_change_at(alloc, bytes, at + 1, last);
     }
     other_change_at(alloc, bytes, at)
 }
 
 /// A count, and that many changes. No memory is taken for the count.
-fn changes_at(alloc: Global, bytes: &[u8]) -> Result<(Changes, usize), RecordError>
+fn changes_at(
+    alloc: Global,
+    bytes: &[u8],
+    last: &mut LastLibrary,
+) -> Result<(Changes, usize), RecordError>
     ensures answer { Told result (counted_changes bytes.now 0) }
     ensures within { IfOk result (λ x. x.1 ≤ length bytes.now) }
 {
@@ -47,7 +61,7 @@ fn changes_at(alloc: Global, bytes: &[u8]) -> Result<(Changes, usize), RecordErr
     let mut changes = Changes::new(alloc);
     let mut place = start;
     for _item in 0..count {
-        let (change, next) = change_at(alloc, bytes, place)?;
+        let (change, next) = change_at(alloc, bytes, place, last)?;
         changes.push(change)?;
         place = next;
     }
@@ -55,10 +69,14 @@ fn changes_at(alloc: Global, bytes: &[u8]) -> Result<(Changes, usize), RecordErr
 }
 
 /// The changes that all of the bytes are read as.
-fn changes_of_all(alloc: Global, bytes: &[u8]) -> Result<Changes, RecordError>
+fn changes_of_all(
+    alloc: Global,
+    bytes: &[u8],
+    last: &mut LastLibrary,
+) -> Result<Changes, RecordError>
     ensures { Told result (whole bytes.now) }
 {
-    let (changes, next) = changes_at(alloc, bytes)?;
+    let (changes, next) = changes_at(alloc, bytes, last)?;
     if next < bytes.len() {
         return Err(RecordError::Trailing(next));
     }
@@ -66,8 +84,12 @@ fn changes_of_all(alloc: Global, bytes: &[u8]) -> Result<Changes, RecordError>
 }
 
 /// The changes that these bytes spell, or the first refusal that reading from the left meets. No memory is taken for
-/// lengths and counts that the bytes don't hold.
-pub fn read_changes(alloc: Global, bytes: &[u8]) -> Result<Changes, RecordError>
+/// lengths and counts that the bytes don't hold. A library whose text is that of the last one is shared with it.
+pub fn read_changes(
+    alloc: Global,
+    bytes: &[u8],
+    last: &mut LastLibrary,
+) -> Result<Changes, RecordError>
     // What is answered is what reading gives.
     ensures told { Told result (whole bytes.now) }
     // What is read is spelled so.
@@ -75,5 +97,5 @@ pub fn read_changes(alloc: Global, bytes: &[u8]) -> Result<Changes, RecordError>
     // What is spelled so is read, unless memory runs out.
     ensures only { (changes : List Changed) → bytes.now ≡ spelled changes → IsWritten changes → Meets result (Ok changes) }
 {
-    changes_of_all(alloc, bytes)
+    changes_of_all(alloc, bytes, last)
 }

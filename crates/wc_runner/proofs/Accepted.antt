@@ -18,6 +18,7 @@ use Rattle.wc_core.specs.Ready.{is_ready_at}
 use Rattle.wc_core.specs.Refusals.{RefusesTurn}
 use Rattle.wc_store.specs.Held.{is_plain}
 use Rattle.wc_store.specs.Refusals.{RefusesCommit}
+use Rattle.wc_store.specs.Stores.{IsLonger}
 use Rattle.wc_store.specs.declared.error.StoreError.{StoreError}
 use Rattle.wc_store.specs.declared.error.StoreError.TheVariants as store_error
 use Rattle.wc_runner.specs.declared.error.RunError.{RunError}
@@ -67,9 +68,9 @@ module _ (o : Outside) (pid : ℕ) (w : World) (cs : List Change) (p : IsPrepare
   pub turn_counted : (applied w cs).batches ≡ w.batches + 1
   turn_counted = one_batch o pid w cs p.turn
 
-  -- the turn, by one batch and within the limit of nodes
-  pub turn_within : IsTurnWithin o pid w (applied w cs)
-  turn_within = record { turn = turn_made; nodes = p.room.0; batch = turn_counted }
+  -- the turn, by one batch and within the limits
+  pub turn_within : (journal next : Journal) → IsLonger o.limits journal cs next → IsTurnWithin o pid w (applied w cs) next
+  turn_within journal next longer = record { turn = turn_made; fits = (p.room.0, longer.fits); batch = turn_counted }
 
   pub commit_refused : (journal : Journal) (e : RunError) → RefusesStored journal o.limits w cs e → RefusesStep o journal w pid e
   commit_refused journal DiskFault h = (cs, p.turn, h)

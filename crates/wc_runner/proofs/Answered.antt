@@ -1,7 +1,7 @@
 -- What is known of the answers of a transport.
 use Rattle.std.proofs.Common.{◌≡◌, ◌⊎◌, inl, inr, ℕ, true, Option, Some, None, Result, Ok, Err, refl, sym, subst}
 use Rattle.std.specs.Prelude.{IfErr, IfOk}
-use Rattle.wc_io.specs.Counts.{Rises}
+use Rattle.wc_io.specs.Counts.{RisesByOne}
 use Rattle.wc_value.specs.declared.process.JobResult.{JobResult}
 use Rattle.wc_value.specs.declared.process.Request.{Request}
 use Rattle.wc_state.specs.declared.record.Task.{Task}
@@ -35,7 +35,7 @@ ok_map (Err e) P Q more h = tt
 
 -- ---- the answer of a call
 
-module _ (o : Outside) (q : Request) (a : TaskAnswer) (old new : ℕ) (rises : Rises old new → o.failed) where
+module _ (o : Outside) (q : Request) (a : TaskAnswer) (old new : ℕ) (rises : RisesByOne old new → o.failed) where
   pub done_known : {T : Type 0} (r : Result T TaskError) → CountsTaskFault r old new → answer_of (task_reply r) ≡ Some a → IsKnown o q a
   done_known (Ok u) cause e = let same : answer.Done ≡ a = cc in subst (IsKnown o q) same tt
   done_known (Err error.Failed) cause e = let same : answer.Failed ≡ a = cc in subst (IsKnown o q) same (rises cause)
@@ -72,7 +72,7 @@ brought_fits (Err error.OutOfMemory) a e = absurd (cc)
 
 -- ---- counts and directories
 
-pub rises_or_stays : {T : Type 0} (r : Result T TaskError) (old new : ℕ) → CountsTaskFault r old new → (new ≡ old) ⊎ Rises old new
+pub rises_or_stays : {T : Type 0} (r : Result T TaskError) (old new : ℕ) → CountsTaskFault r old new → (new ≡ old) ⊎ RisesByOne old new
 rises_or_stays (Ok u) old new cause = inl cause
 rises_or_stays (Err error.Failed) old new cause = inr cause
 rises_or_stays (Err error.OutOfMemory) old new cause = inl cause

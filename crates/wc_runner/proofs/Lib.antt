@@ -1,11 +1,14 @@
 pub mod Continuing
 pub mod Widened
+pub mod Journals
 pub mod ManyTurns
 mod Answered
+mod Sets
 pub mod Marked
 mod Taken
 mod Needed
 mod Accepted
-mod Leaving
+pub mod Leaving
 mod Placed
+mod Codes
 mod UnderWay

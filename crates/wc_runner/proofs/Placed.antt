@@ -3,6 +3,7 @@ use Rattle.std.proofs.Common.{◌≡◌, ◌≢◌, ◌⊎◌, ◌+◌, inl, inr
 use Rattle.std.specs.Prelude.{◌==◌, IsSome}
 use Rattle.std.proofs.lemmas.Bool.{cases_Bool, eqb-true}
 use Rattle.wc_value.specs.declared.process.Request.{Request}
+use Rattle.wc_journal.specs.declared.journal.Journal.{Journal}
 use Rattle.wc_state.specs.declared.record.ProcessRecord.{ProcessRecord}
 use Rattle.wc_transport.specs.Outside.{BothTold}
 use Rattle.wc_world.specs.declared.change.Change.{Change}
@@ -56,6 +57,7 @@ own_placed pid (performs t request) (Some p) (Some q) w there places h = λ dir 
 ]
 
 -- and so are they in what a turn of the process makes
-pub turn_placed : (o : Outside) (pid : ℕ) (w v : World) (placed : Option (ℕ → Option Request)) → AreOfProcesses placed w → IsOrTurnOf o pid w v → AreOfProcesses placed v
-turn_placed o pid w v placed h (inl same) = subst (AreOfProcesses placed) (sym same) h
-turn_placed o pid w v placed h (inr t) = subst (AreOfProcesses placed) (sym t.turn.after) (are_still placed w t.turn.changes h)
+pub turn_placed : (o : Outside) (pid : ℕ) (w v : World) (before journal : Journal) (placed : Option (ℕ → Option Request)) → AreOfProcesses placed w
+    → IsOrTurnOf o pid w before v journal → AreOfProcesses placed v
+turn_placed o pid w v before journal placed h (inl same) = subst (AreOfProcesses placed) (sym same.0) h
+turn_placed o pid w v before journal placed h (inr t) = subst (AreOfProcesses placed) (sym t.turn.after) (are_still placed w t.turn.changes h)

@@ -84,7 +84,7 @@ module _ {T : Type 0} (g : transport.Ghosts T) where
         faults = not_fallen next.faults;
       }
     where
-      not_fallen : (g.faults new ≡ g.faults mid) ⊎ Rises (g.faults mid) (g.faults new) → g.faults old ≤ g.faults new
+      not_fallen : (g.faults new ≡ g.faults mid) ⊎ RisesByOne (g.faults mid) (g.faults new) → g.faults old ≤ g.faults new
       not_fallen (inl same) = omega (arith, first.faults, same)
       not_fallen (inr rises) = omega (arith, first.faults, rises.later)
 
@@ -102,13 +102,13 @@ module _ {T : Type 0} (g : transport.Ghosts T) where
 pub risen_on : (old mid new : ℕ) → Rises old mid → mid ≤ new → Rises old new
 risen_on old mid new r le = record { later = omega (arith, r.later); risen = λ less. let up : old < mid = r.risen less in omega arith }
 
--- and one that rose since a later moment rose since an earlier one
-pub risen_since : (old mid new : ℕ) → old ≤ mid → Rises mid new → Rises old new
+-- and one that rose by one since a later moment rose since an earlier one
+pub risen_since : (old mid new : ℕ) → old ≤ mid → RisesByOne mid new → Rises old new
 risen_since old mid new le r = record {
   later = omega (arith, r.later);
   risen = λ less.
       elim (cases_lt mid (2 ^ 64 - 1)) [
-        | inl low ↦ let up : mid < new = r.risen low in omega arith
+        | inl low ↦ let up : new ≡ mid + 1 = r.by_one low in omega arith
         | inr high ↦ let up : mid ≤ new = r.later in omega arith
       ];
 }

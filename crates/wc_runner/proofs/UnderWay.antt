@@ -1,35 +1,38 @@
 -- A run that has taken some turns and rests.
-use Rattle.std.proofs.Common.{◌≡◌, ◌⊎◌, inl, inr, ⊎_elim, ℕ, suc, ◌+◌, ◌<◌, ◌≤◌, Bool, true, List, [], length, Some, Result, Err, refl, sym, subst, ◌∙◌, arith}
+use Rattle.std.proofs.Common.{◌≡◌, ◌⊎◌, inl, inr, ⊎_elim, ℕ, suc, ◌+◌, ◌<◌, ◌≤◌, Bool, true, List, [], length, Some, Result, refl, sym, subst, ◌∙◌, arith}
 use Rattle.std.specs.Prelude.{IsTrue}
 use Rattle.wc_io.specs.Counts.{Rises, RisesByOne}
 use Rattle.wc_io.specs.declared.pacer.Pacer as pacer
 use Rattle.wc_disk.specs.declared.disk.Disk as disk
-use Rattle.wc_journal.specs.Journals.{IsSettled}
 use Rattle.wc_state.specs.declared.record.Limits.{Limits}
 use Rattle.wc_transport.specs.Outside.{IsRow, WhereTold}
 use Rattle.wc_transport.specs.declared.transport.Transport as transport
 use Rattle.wc_world.specs.World.{World}
 use Rattle.wc_machine.specs.Asking.{Need}
+use Rattle.wc_world.specs.Accepted.{IsReached}
 use Rattle.wc_machine.specs.Readiness.{ready_at}
+use Rattle.wc_machine.specs.Sound.{IsSound}
 use Rattle.wc_next.specs.Next.{IsLeastDue}
 use Rattle.wc_store.specs.declared.place.Place.{Place}
 use Rattle.wc_store.specs.declared.store.Store.{Store}
-use Rattle.wc_store.specs.Places.{its}
 use Rattle.wc_store.specs.Refusals.{byte_limit}
 use Rattle.wc_store.specs.Stores.{StandsFor}
 use Rattle.wc_runner.specs.declared.error.RunError.{RunError}
 use Rattle.wc_runner.specs.declared.error.RunError.TheVariants.{DiskFault, Full, OutOfMemory}
 use Rattle.wc_runner.specs.Asked.{AreOfProcesses, AsksOnce, IsAsked, IsAskedFor}
-use Rattle.wc_runner.specs.Leaves.{LeavesNow, LeavesWorlds, IsOrTurnOf, SomeTurns}
+use Rattle.wc_runner.specs.Leaves.{LeavesHeld, LeavesNow, LeavesWorlds, IsOrTurnOf}
+use Rattle.wc_runner.specs.Codes.{AreBrought}
 use Rattle.wc_runner.specs.Marks.{AreNoWorse}
 use Rattle.wc_runner.specs.Outside.{Outside, in_run, in_turn}
-use Rattle.wc_runner.specs.Refusals.{RefusesStep, RefusesRun, IsUnchanged}
-use Rattle.wc_runner.specs.Running.{FitsAfter, TakesAll, TakesUpTo}
+use Rattle.wc_runner.specs.Refusals.{RefusesStep, RefusesRun}
+use Rattle.wc_runner.specs.Running.{FitsAfter, FitsIn, TakesAll, TakesUpTo, TakesWithin}
 use Rattle.wc_runner.specs.Trips.{RestsAt, TurnOf, none, one_more, one_rest}
-use Rattle.wc_runner.proofs.Leaving.{leaves_now, leaves_on, more_turns, some_widened, stands_leaves, stands_now, weaker_leaves}
+use Rattle.wc_runner.proofs.Journals.{step_by}
+use Rattle.wc_runner.proofs.Leaving.{leaves_now, leaves_on, more_turns, stands_leaves, stands_now, weaker_leaves, within_widened}
+use Rattle.wc_runner.proofs.Codes.{turns_bring}
 use Rattle.wc_runner.proofs.Marked.{turns_no_worse}
 use Rattle.wc_runner.proofs.Taken.{asked_none, asked_on, asked_up_to, risen_on, risen_since, rises_by_more, rises_by_none}
-use Rattle.wc_runner.proofs.Widened.{Widens, turn_of_widened, turn_widened, turns_widened}
+use Rattle.wc_runner.proofs.Widened.{Widens, step_widened, turn_of_widened, turns_widened}
 
 -- So many turns and rests were taken of at most so many, and the transport was called at most so often, from one store, its disks, a transport
 -- and a pacer to others.
@@ -42,7 +45,7 @@ pub record Way {D T P : Type 0} (g : disk.Ghosts D) (h : transport.Ghosts T) (k 
   pub version : store.journal.version ≡ old.journal.version
   pub fits : FitsAfter limits old.world.world store
   pub any_moment : IsTrue (g.tells one) → IsTrue (g.tells two)
-      → LeavesWorlds g old.place (SomeTurns (in_run h k limits tr tr_now pa_now) most old.world.world) one two one_now two_now
+      → LeavesHeld g old.place (TakesWithin (in_run h k limits tr tr_now pa_now) most old.world.world) one two one_now two_now
   pub processes : AreOfProcesses (h.placed tr) old.world.world → AreOfProcesses (h.placed tr_now) store.world.world
   pub asked : IsAskedFor h calls tr tr_now
 
@@ -118,7 +121,7 @@ module _ {D T P : Type 0} (g : disk.Ghosts D) (h : transport.Ghosts T) (k : pace
       version = refl;
       fits = inl refl;
       any_moment = λ first second.
-          stands_leaves g old (SomeTurns (known tr pa) most old.world.world) one two only_now (stands first second)
+          stands_leaves g old (TakesWithin (known tr pa) most old.world.world) one two only_now (stands first second)
           (record { count = 0; rests = 0; few = omega arith; turns = none old.world.world; batches = omega arith }, inl refl);
       processes = λ are. are;
       asked = asked_none h tr;
@@ -153,7 +156,7 @@ module _ {D T P : Type 0} (g : disk.Ghosts D) (h : transport.Ghosts T) (k : pace
             version = u.way.version;
             fits = u.way.fits;
             any_moment = λ first second.
-                weaker_leaves g old.place _ _ one two one_s two_s (λ v. some_widened (known tr_s pa_s) (known tr_s pa_v) most old.world.world v wide) (u.way.any_moment first second);
+                weaker_leaves g old.place _ _ one two one_s two_s (λ v journal. within_widened (known tr_s pa_s) (known tr_s pa_v) most old.world.world v journal wide) (u.way.any_moment first second);
             processes = u.way.processes;
             asked = u.way.asked;
           };
@@ -191,7 +194,7 @@ module _ {D T P : Type 0} (g : disk.Ghosts D) (h : transport.Ghosts T) (k : pace
             version = u.way.version;
             fits = u.way.fits;
             any_moment = λ first second.
-                weaker_leaves g old.place _ _ one two one_s two_s (λ v. some_widened (known tr_s pa_s) (known tr_s pa_v) most old.world.world v wide) (u.way.any_moment first second);
+                weaker_leaves g old.place _ _ one two one_s two_s (λ v journal. within_widened (known tr_s pa_s) (known tr_s pa_v) most old.world.world v journal wide) (u.way.any_moment first second);
             processes = u.way.processes;
             asked = asked_up_to h taken (taken + 1) tr tr_s (omega arith) u.way.asked;
           };
@@ -207,7 +210,7 @@ module _ {D T P : Type 0} (g : disk.Ghosts D) (h : transport.Ghosts T) (k : pace
 
     module _ (pid now : ℕ) (said : k.said pa_s now) (v : Store) (one_v two_v : D) (tr_v : T) (n : Need) (stays : IsAsked h pid n tr_s tr_v) where
       not_fallen : h.faults tr_s ≤ h.faults tr_v
-      not_fallen = ⊎_elim (λ same. omega (arith, same)) (λ (rises : Rises (h.faults tr_s) (h.faults tr_v)). rises.later) stays.faults
+      not_fallen = ⊎_elim (λ same. omega (arith, same)) (λ (rises : RisesByOne (h.faults tr_s) (h.faults tr_v)). rises.later) stays.faults
 
       wide : Widens (known tr_s pa_s) (known tr_v pa_s)
       wide = later_calls h k limits tr tr_s tr_v pa_s not_fallen
@@ -220,20 +223,21 @@ module _ {D T P : Type 0} (g : disk.Ghosts D) (h : transport.Ghosts T) (k : pace
 
       -- what the turn leaves on the disks, as a part of the run
       leaves_more : taken < most
-          → (IsTrue (g.tells one_s) → IsTrue (g.tells two_s) → LeavesWorlds g s.place (IsOrTurnOf (in_turn h limits now tr_s tr_v) pid s.world.world) one_s two_s one_v two_v)
-          → IsTrue (g.tells one) → IsTrue (g.tells two) → LeavesWorlds g old.place (SomeTurns (known tr_v pa_s) most old.world.world) one two one_v two_v
+          → (IsTrue (g.tells one_s) → IsTrue (g.tells two_s)
+          → LeavesHeld g s.place (IsOrTurnOf (in_turn h limits now tr_s tr_v) pid s.world.world s.journal) one_s two_s one_v two_v)
+          → IsTrue (g.tells one) → IsTrue (g.tells two) → LeavesHeld g old.place (TakesWithin (known tr_v pa_s) most old.world.world) one two one_v two_v
       leaves_more less turn first second =
           let t = takes_on in
-          let fits : (s.world.world ≡ old.world.world) ⊎ (length s.world.world.nodes ≤ limits.max_nodes) = ⊎_elim (λ same. inl same) (λ f. inr f.0) u.way.fits in
-          leaves_on g old.place (SomeTurns (known tr_s pa_s) most old.world.world) (IsOrTurnOf (in_turn h limits now tr_s tr_v) pid s.world.world)
-          (SomeTurns (known tr_v pa_s) most old.world.world) one two one_s two_s one_v two_v
-          (λ x. some_widened (known tr_s pa_s) (known tr_v pa_s) most old.world.world x wide)
-          (λ x either.
-          more_turns (known tr_v pa_s) pid most t.count t.rests old.world.world s.world.world x (omega (arith, t.all_of_them, less)) t.turns t.batches fits
+          leaves_on g old.place (TakesWithin (known tr_s pa_s) most old.world.world) (IsOrTurnOf (in_turn h limits now tr_s tr_v) pid s.world.world s.journal)
+          (TakesWithin (known tr_v pa_s) most old.world.world) one two one_s two_s one_v two_v
+          (λ x journal. within_widened (known tr_s pa_s) (known tr_v pa_s) most old.world.world x journal wide)
+          (λ x journal either.
+          more_turns (known tr_v pa_s) pid most t.count t.rests old.world.world s.world.world x s.journal journal (omega (arith, t.all_of_them, less)) t.turns t.batches u.way.fits
           (⊎_elim (λ same. inl same)
-          (λ w. inr (record { turn = turn_of_widened (in_turn h limits now tr_s tr_v) (known tr_v pa_s) turned pid s.world.world x w.turn; nodes = w.nodes; batch = w.batch })) either))
+          (λ w. inr (record { turn = turn_of_widened (in_turn h limits now tr_s tr_v) (known tr_v pa_s) turned pid s.world.world x w.turn; fits = w.fits; batch = w.batch })) either))
           (u.way.any_moment first second)
-          (subst (λ (p : Place). LeavesWorlds g p (IsOrTurnOf (in_turn h limits now tr_s tr_v) pid s.world.world) one_s two_s one_v two_v) u.way.place (turn (told_one first) (told_two second)))
+          (subst (λ (p : Place). LeavesHeld g p (IsOrTurnOf (in_turn h limits now tr_s tr_v) pid s.world.world s.journal) one_s two_s one_v two_v) u.way.place
+          (turn (told_one first) (told_two second)))
 
       pub stands_still : (IsTrue (g.tells one_s) → IsTrue (g.tells two_s) → StandsFor g v one_v two_v) → IsTrue (g.tells one) → IsTrue (g.tells two)
           → StandsFor g v one_v two_v
@@ -241,10 +245,10 @@ module _ {D T P : Type 0} (g : disk.Ghosts D) (h : transport.Ghosts T) (k : pace
 
       pub goes_on : {A : Type 0} (result : Result A RunError) → taken < most → v.live ≡ true → TurnOf (in_turn h limits now tr_s tr_v) pid s.world.world v.world.world
           → v.world.world.batches ≡ s.world.world.batches + 1
-          → (length v.world.world.nodes ≤ limits.max_nodes) × (v.journal.end + 1 ≤ byte_limit v.journal.version limits.max_bytes)
+          → FitsIn limits v.world.world v.journal
           → (IsTrue (g.tells one_s) → IsTrue (g.tells two_s) → StandsFor g v one_v two_v)
           → (v.place ≡ s.place) × (v.journal.generation ≡ s.journal.generation) × (v.journal.version ≡ s.journal.version)
-          → (IsTrue (g.tells one_s) → IsTrue (g.tells two_s) → LeavesWorlds g s.place (IsOrTurnOf (in_turn h limits now tr_s tr_v) pid s.world.world) one_s two_s one_v two_v)
+          → (IsTrue (g.tells one_s) → IsTrue (g.tells two_s) → LeavesHeld g s.place (IsOrTurnOf (in_turn h limits now tr_s tr_v) pid s.world.world s.journal) one_s two_s one_v two_v)
           → (AreOfProcesses (h.placed tr_s) s.world.world → AreOfProcesses (h.placed tr_v) v.world.world)
           → AsksOnce result h.asked tr_s tr_v n
           → (g.tells one_v ≡ g.tells one_s) × (g.tells two_v ≡ g.tells two_s) → (g.faults one_v ≡ g.faults one_s) × (g.faults two_v ≡ g.faults two_s)
@@ -293,7 +297,7 @@ module _ {D T P : Type 0} (g : disk.Ghosts D) (h : transport.Ghosts T) (k : pace
       -- the way up to a turn that is refused
       pub breaks : {A : Type 0} (result : Result A RunError) → taken < most → v.world.world ≡ s.world.world → v.journal.end ≡ s.journal.end
           → (v.place ≡ s.place) × (v.journal.generation ≡ s.journal.generation) × (v.journal.version ≡ s.journal.version)
-          → (IsTrue (g.tells one_s) → IsTrue (g.tells two_s) → LeavesWorlds g s.place (IsOrTurnOf (in_turn h limits now tr_s tr_v) pid s.world.world) one_s two_s one_v two_v)
+          → (IsTrue (g.tells one_s) → IsTrue (g.tells two_s) → LeavesHeld g s.place (IsOrTurnOf (in_turn h limits now tr_s tr_v) pid s.world.world s.journal) one_s two_s one_v two_v)
           → (AreOfProcesses (h.placed tr_s) s.world.world → AreOfProcesses (h.placed tr_v) v.world.world)
           → AsksOnce result h.asked tr_s tr_v n
           → Way g h k limits most old one two tr pa taken (suc taken) v one_v two_v tr_v pa_s
@@ -320,24 +324,16 @@ module _ {D T P : Type 0} (g : disk.Ghosts D) (h : transport.Ghosts T) (k : pace
           (leaves_now g s.place (AreOfProcesses (h.placed tr_v)) one_s two_s one_v two_v counts (turn (u.way.processes are) (told_one first) (told_two second)))
 
       -- why the run breaks off, where the turn does
-      pub refuses : (A : Type 0) (e : RunError) → v.world.world ≡ s.world.world
-          → RefusesStep (in_turn h limits now tr_s tr_v) s.journal s.world.world pid e → IsUnchanged {T = A} (Err e) one_s one_v → IsUnchanged {T = A} (Err e) two_s two_v
-          → (v.place ≡ s.place) × (v.journal.generation ≡ s.journal.generation) × (v.journal.version ≡ s.journal.version)
-          → RefusesRun g (IsTrue (g.tells one) × IsTrue (g.tells two)) (known tr_v pa_s) v one_v two_v e
-      refuses A DiskFault world refused same_one same_two place = tt
-      refuses A (Full what count limit) world refused same_one same_two place = record {
+      pub refuses : (e : RunError) → v.world.world ≡ s.world.world → v.journal.end ≡ s.journal.end → v.journal.version ≡ s.journal.version
+          → RefusesStep (in_turn h limits now tr_s tr_v) s.journal s.world.world pid e → RefusesRun (known tr_v pa_s) v e
+      refuses DiskFault world end version refused = tt
+      refuses (Full what count limit) world end version refused = record {
         pid = pid;
-        journal = s.journal;
-        version = sym place.2;
-        settled = λ told.
-            let there : IsSettled g s.journal (its s.place one_s two_s) = (u.stands told.0 told.1).settled in
-            let same : its s.place one_s two_s ≡ its v.place one_v two_v = λ i. its (sym place.0 i) (sym same_one i) (sym same_two i) in
-            subst (λ (d : D). IsSettled g s.journal d) same there;
-        refused = subst (λ (w : World). RefusesStep (known tr_v pa_s) s.journal w pid (Full what count limit)) (sym world)
-            (⊎_elim (λ full. inl (full.0, turn_widened (in_turn h limits now tr_s tr_v) (known tr_v pa_s) turned pid s.world.world full.0 full.1, full.2))
-            (λ commit. inr (commit.0, turn_widened (in_turn h limits now tr_s tr_v) (known tr_v pa_s) turned pid s.world.world commit.0 commit.1, commit.2)) refused);
+        refused = step_by (known tr_v pa_s) s.journal v.journal v.world.world pid (Full what count limit) end version
+            (subst (λ (w : World). RefusesStep (known tr_v pa_s) s.journal w pid (Full what count limit)) (sym world)
+            (step_widened (in_turn h limits now tr_s tr_v) (known tr_v pa_s) turned s.journal s.world.world pid (Full what count limit) refused));
       }
-      refuses A OutOfMemory world refused same_one same_two place = tt
+      refuses OutOfMemory world end version refused = tt
 
     -- ---- where the run ends
 
@@ -354,6 +350,9 @@ module _ {D T P : Type 0} (g : disk.Ghosts D) (h : transport.Ghosts T) (k : pace
 
     pub no_worse : ((Rises (h.faults tr) (h.faults tr_s)) → ⊥) → AreNoWorse old.world.world s.world.world
     no_worse ok = turns_no_worse (known tr_s pa_s) ok way.takes.count way.takes.rests old.world.world s.world.world way.takes.turns
+
+    pub brings_codes : IsReached old.world.world → IsSound old.world.world → AreBrought (known tr_s pa_s) old.world.world s.world.world
+    brings_codes reached sound = turns_bring (known tr_s pa_s) way.takes.count way.takes.rests old.world.world s.world.world reached sound way.takes.turns
 
     pub asks : calls ≤ most → IsAskedFor h most tr tr_s
     asks le = asked_up_to h calls most tr tr_s le way.asked

@@ -1,8 +1,9 @@
 -- What is known of the outside grows, and a turn by what was known is one by what is known later.
-use Rattle.std.proofs.Common.{◌≡◌, ℕ, List, Option, Some, None, subst}
+use Rattle.std.proofs.Common.{◌≡◌, inl, inr, ℕ, List, Option, Some, None, subst}
 use Rattle.std.specs.Prelude.{IfSome}
 use Rattle.wc_value.specs.declared.process.JobResult.{JobResult}
 use Rattle.wc_value.specs.declared.process.Request.{Request}
+use Rattle.wc_journal.specs.declared.journal.Journal.{Journal}
 use Rattle.wc_state.specs.declared.record.Limits.{Limits}
 use Rattle.wc_state.specs.declared.record.ProcessRecord.{ProcessRecord}
 use Rattle.wc_state.specs.declared.record.Task.{Task}
@@ -10,11 +11,18 @@ use Rattle.wc_transport.specs.Outside.{Reply}
 use Rattle.wc_world.specs.declared.change.Change.{Change}
 use Rattle.wc_world.specs.World.{World}
 use Rattle.wc_world.specs.Records.{find_record}
+use Rattle.wc_world.specs.Applied.{applied}
 use Rattle.wc_machine.specs.declared.answer.TaskAnswer.{TaskAnswer}
 use Rattle.wc_machine.specs.declared.answer.TaskAnswer.TheVariants as answer
 use Rattle.wc_machine.specs.Asking.{Need, nothing, performs, need}
 use Rattle.wc_machine.specs.Machine.{Leads, turn}
+use Rattle.wc_refusal.specs.Refusals.{IsFull}
+use Rattle.wc_store.specs.Refusals.{RefusesCommit}
+use Rattle.wc_store.specs.declared.error.StoreError.TheVariants as store_error
+use Rattle.wc_runner.specs.declared.error.RunError.{RunError}
+use Rattle.wc_runner.specs.declared.error.RunError.TheVariants.{DiskFault, Full, OutOfMemory}
 use Rattle.wc_runner.specs.Outside.{Outside, Answers, AnswersNeed, IsKnown}
+use Rattle.wc_runner.specs.Refusals.{RefusesStep}
 use Rattle.wc_runner.specs.Trips.{IsTurn, TurnOf, RestsAt, Turns, none, one_more, one_rest}
 
 -- All that is known of the one is known of the other.
@@ -55,6 +63,16 @@ module _ (o p : Outside) (wide : Widens o p) where
 
   pub turn_of_widened : (pid : ℕ) (w v : World) → TurnOf o pid w v → TurnOf p pid w v
   turn_of_widened pid w v t = record { changes = t.changes; turn = turn_widened pid w t.changes t.turn; accepted = t.accepted; after = t.after }
+
+  -- and one that is refused by what was known is refused by what is known later
+  pub step_widened : (journal : Journal) (w : World) (pid : ℕ) (e : RunError) → RefusesStep o journal w pid e → RefusesStep p journal w pid e
+  step_widened journal w pid DiskFault h =
+      (h.0, turn_widened pid w h.0 h.1, subst (λ (l : Limits). RefusesCommit journal l w h.0 store_error.DiskFault) wide.limits h.2)
+  step_widened journal w pid (Full what count limit) (inl h) =
+      inl (h.0, turn_widened pid w h.0 h.1, subst (λ (l : Limits). IsFull l.max_nodes (applied w h.0) what count limit) wide.limits h.2)
+  step_widened journal w pid (Full what count limit) (inr h) =
+      inr (h.0, turn_widened pid w h.0 h.1, subst (λ (l : Limits). RefusesCommit journal l w h.0 (store_error.Full what count limit)) wide.limits h.2)
+  step_widened journal w pid OutOfMemory h = tt
 
   pub rest_widened : (w : World) → RestsAt o w → RestsAt p w
   rest_widened w r = record { moment = r.moment; said = wide.said r.moment r.said; none = r.none; until = r.until; later = r.later; least = r.least }

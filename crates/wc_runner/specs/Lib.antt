@@ -7,3 +7,4 @@ pub mod Turning
 pub mod Asked
 pub mod Running
 pub mod Marks
+pub mod Codes

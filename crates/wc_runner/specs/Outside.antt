@@ -1,6 +1,6 @@
 -- What a run sees of the outside.
 use Rattle.std.specs.Prelude.{◌≡◌, ℕ, Option, Some, None, Result, Ok, Err, IfSome}
-use Rattle.wc_io.specs.Counts.{Rises}
+use Rattle.wc_io.specs.Counts.{Rises, RisesByOne}
 use Rattle.wc_io.specs.declared.pacer.Pacer as pacer
 use Rattle.wc_value.specs.declared.process.JobResult.{JobResult}
 use Rattle.wc_value.specs.declared.process.Request.{Request}
@@ -76,7 +76,7 @@ module _ {T : Type 0} (g : transport.Ghosts T) where
     said = λ moment. moment ≡ now;
     gave = g.gave new;
     brings = is_told old;
-    failed = Rises (g.faults old) (g.faults new);
+    failed = RisesByOne (g.faults old) (g.faults new);
     limits = limits;
   }
 

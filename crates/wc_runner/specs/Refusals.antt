@@ -1,15 +1,12 @@
 -- Why a turn on a store, or a run, breaks off, and what is counted.
 use Rattle.std.specs.Prelude.{◌≡◌, ◌⊎◌, ℕ, Bool, true, false, List, Result, Ok, Err}
-use Rattle.wc_io.specs.Counts.{Rises}
-use Rattle.wc_disk.specs.declared.disk.Disk as disk
+use Rattle.wc_io.specs.Counts.{EitherRisesByOne}
 use Rattle.wc_journal.specs.declared.journal.Journal.{Journal}
-use Rattle.wc_journal.specs.Journals.{IsSettled}
 use Rattle.wc_state.specs.declared.record.Limits.{Limits}
 use Rattle.wc_world.specs.declared.change.Change.{Change}
 use Rattle.wc_world.specs.World.{World}
 use Rattle.wc_refusal.specs.Refusals.{FullOf}
 use Rattle.wc_refusal.specs.declared.error.TurnError.TheVariants as turn_error
-use Rattle.wc_store.specs.Places.{its}
 use Rattle.wc_store.specs.Refusals.{RefusesCommit}
 use Rattle.wc_store.specs.declared.error.StoreError.{StoreError}
 use Rattle.wc_store.specs.declared.error.StoreError.TheVariants as store_error
@@ -46,26 +43,23 @@ RefusesStored journal limits w cs OutOfMemory = Unit {0}
 
 -- ---- a run
 
--- The world is full at the turn of a ready process, by a journal that stands for the store's disk, where the disks tell their bytes.
-pub record IsFullAt {D : Type 0} (g : disk.Ghosts D) (told : Type 0) (o : Outside) (store : Store) (one two : D) (e : RunError) : Type 0 where
+-- The store is full at the turn of a ready process, by its own journal.
+pub record IsFullAt (o : Outside) (store : Store) (e : RunError) : Type 0 where
   pub pid : ℕ
-  pub journal : Journal
-  pub version : journal.version ≡ store.journal.version
-  pub settled : told → IsSettled g journal (its store.place one two)
-  pub refused : RefusesStep o journal store.world.world pid e
+  pub refused : RefusesStep o store.journal store.world.world pid e
 
--- a run is full at the world that it has come to, and otherwise breaks off for a fault or want of memory alone
-abbrev pub RefusesRun : {D : Type 0} → disk.Ghosts D → Type 0 → Outside → Store → D → D → RunError → Type 0
-RefusesRun g told o store one two DiskFault = Unit {0}
-RefusesRun g told o store one two (Full what count limit) = IsFullAt g told o store one two (Full what count limit)
-RefusesRun g told o store one two OutOfMemory = Unit {0}
+-- a run is full at the store that it has come to, and otherwise breaks off for a fault or want of memory alone
+abbrev pub RefusesRun : Outside → Store → RunError → Type 0
+RefusesRun o store DiskFault = Unit {0}
+RefusesRun o store (Full what count limit) = IsFullAt o store (Full what count limit)
+RefusesRun o store OutOfMemory = Unit {0}
 
 -- ---- what is counted
 
--- `DiskFault` comes only where the count of one of the disks rose, and each other answer leaves both counts
+-- `DiskFault` comes only where the count of one of the disks rose by one and the other stayed, and each other answer leaves both counts
 abbrev pub Counts : {T : Type 0} → Result T RunError → (one one' two two' : ℕ) → Type 0
 Counts (Ok answer) one one' two two' = (one' ≡ one) × (two' ≡ two)
-Counts (Err DiskFault) one one' two two' = Rises one one' ⊎ Rises two two'
+Counts (Err DiskFault) one one' two two' = EitherRisesByOne one one' two two'
 Counts (Err (Full what count limit)) one one' two two' = (one' ≡ one) × (two' ≡ two)
 Counts (Err OutOfMemory) one one' two two' = (one' ≡ one) × (two' ≡ two)
 

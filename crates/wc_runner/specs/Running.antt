@@ -1,5 +1,6 @@
 -- What a run has done, and how it ends.
 use Rattle.std.specs.Prelude.{◌≡◌, ◌⊎◌, ◌<◌, ◌≤◌, ◌+◌, ◌^◌, ℕ, true, false, length}
+use Rattle.wc_journal.specs.declared.journal.Journal.{Journal}
 use Rattle.wc_state.specs.declared.record.Limits.{Limits}
 use Rattle.wc_world.specs.World.{World}
 use Rattle.wc_store.specs.Refusals.{byte_limit}
@@ -46,8 +47,14 @@ EndsAs o most w v begun now AllEnded = is_any_live v ≡ false
 EndsAs o most w v begun now Spent = (is_any_live v ≡ true) × (is_resting v ≡ false) × TakesAll o most w v begun now
 EndsAs o most w v begun now Resting = (is_any_live v ≡ true) × (is_resting v ≡ true)
 
--- where any turn was taken, the store is within the limits of nodes and of bytes
+-- the world is within the limit of nodes, and its journal within that of bytes
+abbrev pub FitsIn : Limits → World → Journal → Type 0
+FitsIn limits w journal = (length w.nodes ≤ limits.max_nodes) × (journal.end + 1 ≤ byte_limit journal.version limits.max_bytes)
+
+-- so is the store, where any turn was taken
 abbrev pub FitsAfter : Limits → World → Store → Type 0
-FitsAfter limits w store =
-    (store.world.world ≡ w)
-    ⊎ ((length store.world.world.nodes ≤ limits.max_nodes) × (store.journal.end + 1 ≤ byte_limit store.journal.version limits.max_bytes))
+FitsAfter limits w store = (store.world.world ≡ w) ⊎ FitsIn limits store.world.world store.journal
+
+-- what at most so many turns and rests make of the world, within the limits where any turn was taken
+abbrev pub TakesWithin : Outside → (most : ℕ) → World → World → Journal → Type 0
+TakesWithin o most w v journal = TakesTurns o most w v × ((v ≡ w) ⊎ FitsIn o.limits v journal)

@@ -2,6 +2,7 @@
 
 ghost use Rattle.std.specs.Prelude.{ℕ};
 ghost use Rattle.wc_state.specs.declared.record.Limits.{Limits};
+ghost use Rattle.wc_runner.specs.Codes.{TurnsBringCodes};
 ghost use Rattle.wc_runner.specs.Laws.{ContinuingGoesOn, TurnsAreBatches, TurnsKeepSound, WorldsContinueThemselves};
 ghost use Rattle.wc_runner.specs.Outside.{in_run, in_turn};
 
@@ -18,6 +19,12 @@ pub fn turns_keep_sound<T: Transport, P: Pacer>()
 pub fn turns_are_batches<T: Transport, P: Pacer>()
     ensures in_turn { (limits : Limits) (now : ℕ) (old new : T) → TurnsAreBatches (in_turn T.Transport limits now old new) }
     ensures in_run { (limits : Limits) (old new : T) (clock : P) → TurnsAreBatches (in_run T.Transport P.Pacer limits old new clock) }
+{}
+
+/// Turns in a sound world bring no other exit codes than those of results that the outside brings.
+pub fn turns_bring_codes<T: Transport, P: Pacer>()
+    ensures in_turn { (limits : Limits) (now : ℕ) (old new : T) → TurnsBringCodes (in_turn T.Transport limits now old new) }
+    ensures in_run { (limits : Limits) (old new : T) (clock : P) → TurnsBringCodes (in_run T.Transport P.Pacer limits old new clock) }
 {}
 
 /// Each world that accepted changes make continues itself.

@@ -5,11 +5,14 @@ ghost use Rattle.wc_io.specs.Counts.{Rises};
 ghost use Rattle.wc_state.specs.Ranges.{AreLimits};
 ghost use Rattle.wc_store.specs.Stores.{StandsFor};
 ghost use Rattle.wc_runner.specs.Asked.{AreOfProcesses, IsAskedFor};
-ghost use Rattle.wc_runner.specs.Leaves.{LeavesNow, LeavesWorlds, SomeTurns};
+ghost use Rattle.wc_runner.specs.Leaves.{LeavesHeld, LeavesNow};
+ghost use Rattle.wc_world.specs.Accepted.{IsReached};
+ghost use Rattle.wc_machine.specs.Sound.{IsSound};
+ghost use Rattle.wc_runner.specs.Codes.{AreBrought};
 ghost use Rattle.wc_runner.specs.Marks.{AreNoWorse};
 ghost use Rattle.wc_runner.specs.Outside.{in_run};
 ghost use Rattle.wc_runner.specs.Refusals.{Counts, RefusesRun, is_live_after};
-ghost use Rattle.wc_runner.specs.Running.{EndsAs, FitsAfter, TakesFewer, TakesUpTo};
+ghost use Rattle.wc_runner.specs.Running.{EndsAs, FitsAfter, TakesFewer, TakesUpTo, TakesWithin};
 
 use crate::error::RunError;
 use crate::turning::turn_one;
@@ -54,18 +57,22 @@ pub fn run<D: Disk, T: Transport, P: Pacer>(
     ensures early { OnErr result (TakesFewer (in_run T.Transport P.Pacer limits.now transport.old transport.new pacer.new) turns store.old.world.world store.new.world.world (P.rests pacer.old) (P.rests pacer.new)) }
     ensures fits { FitsAfter limits.now store.old.world.world store.new }
     ensures live { store.new.live ≡ is_live_after result }
-    ensures refused { IfErr result (RefusesRun D.Disk (IsTrue (D.tells one.old) × IsTrue (D.tells two.old)) (in_run T.Transport P.Pacer limits.now transport.old transport.new pacer.new) store.new one.new two.new) }
+    // Full is told of the store that is left, by its own journal.
+    ensures refused { IfErr result (RefusesRun (in_run T.Transport P.Pacer limits.now transport.old transport.new pacer.new) store.new) }
     ensures still { store.new.live ≡ true → IsTrue (D.tells one.old) → IsTrue (D.tells two.old) → StandsFor D.Disk store.new one.new two.new }
     ensures place { (store.new.place ≡ store.old.place) × (store.new.journal.generation ≡ store.old.journal.generation) × (store.new.journal.version ≡ store.old.journal.version) }
-    // At each moment the disks hold what at most as many turns and rests as are given make, within the limit of nodes.
+    // At each moment the disks hold what at most as many turns and rests as are given make, within the limits of nodes and of bytes.
     ensures any_moment { IsTrue (D.tells one.old) → IsTrue (D.tells two.old)
-        → LeavesWorlds D.Disk store.old.place (SomeTurns (in_run T.Transport P.Pacer limits.now transport.old transport.new pacer.new) turns store.old.world.world) one.old two.old one.new two.new }
+        → LeavesHeld D.Disk store.old.place (TakesWithin (in_run T.Transport P.Pacer limits.now transport.old transport.new pacer.new) turns store.old.world.world) one.old two.old one.new two.new }
     // What a crash leaves in the end holds each process whose directory is placed then, where it was so in the beginning.
     ensures directories { AreOfProcesses (T.placed transport.old) store.old.world.world → IsTrue (D.tells one.old) → IsTrue (D.tells two.old)
         → LeavesNow D.Disk store.old.place (AreOfProcesses (T.placed transport.new)) one.new two.new }
     ensures processes { AreOfProcesses (T.placed transport.old) store.old.world.world → AreOfProcesses (T.placed transport.new) store.new.world.world }
     // Where no call of the transport failed, no process was paused, and none has failed more often.
     ensures marks { ¬ Rises (T.faults transport.old) (T.faults transport.new) → AreNoWorse store.old.world.world store.new.world.world }
+    // In a sound world each exit code that was not kept before is that of a result that the transport gave for the job's request.
+    ensures codes { IsReached store.old.world.world → IsSound store.old.world.world
+        → AreBrought (in_run T.Transport P.Pacer limits.now transport.old transport.new pacer.new) store.old.world.world store.new.world.world }
     ensures asked { IsAskedFor T.Transport turns transport.old transport.new }
     ensures tells { (D.tells one.new ≡ D.tells one.old) × (D.tells two.new ≡ D.tells two.old) }
     ensures cause { Counts result (D.faults one.old) (D.faults one.new) (D.faults two.old) (D.faults two.new) }

@@ -11,7 +11,7 @@ ghost use Rattle.wc_store.specs.Stores.{CommitLeaves, StandsFor};
 ghost use Rattle.wc_world.specs.Accepted.{IsAccepted};
 ghost use Rattle.wc_world.specs.Applied.{applied};
 ghost use Rattle.wc_runner.specs.Asked.{AreOfProcesses, AsksOnce, IsAsked, WhatItNeeds};
-ghost use Rattle.wc_runner.specs.Leaves.{IsOrTurnOf, LeavesWorlds};
+ghost use Rattle.wc_runner.specs.Leaves.{IsOrTurnOf, LeavesHeld, LeavesWorlds};
 ghost use Rattle.wc_runner.specs.declared.error.RunError.TheVariants.{OutOfMemory};
 ghost use Rattle.wc_runner.specs.Outside.{Answers, in_turn};
 ghost use Rattle.wc_runner.specs.Refusals.{Counts, IsUnchanged, RefusesPrepared, RefusesStep, RefusesStored, is_live_after};
@@ -153,7 +153,7 @@ fn committed<D: Disk>(
     ensures still { store.new.live ≡ true → IsTrue (D.tells one.old) → IsTrue (D.tells two.old) → StandsFor D.Disk store.new one.new two.new }
     ensures place { (store.new.place ≡ store.old.place) × (store.new.journal.generation ≡ store.old.journal.generation) × (store.new.journal.version ≡ store.old.journal.version) }
     ensures any_moment { IsTrue (D.tells one.old) → IsTrue (D.tells two.old)
-        → CommitLeaves D.Disk store.old.place store.old.world.world (applied store.old.world.world changes) one.old two.old one.new two.new }
+        → CommitLeaves D.Disk store.old limits.now changes one.old two.old one.new two.new }
     ensures tells { (D.tells one.new ≡ D.tells one.old) × (D.tells two.new ≡ D.tells two.old) }
     ensures cause { Counts result (D.faults one.old) (D.faults one.new) (D.faults two.old) (D.faults two.new) }
 {
@@ -190,9 +190,9 @@ pub fn turn_one<D: Disk, T: Transport>(
     ensures untouched_two { IsUnchanged result two.old two.new }
     ensures still { store.new.live ≡ true → IsTrue (D.tells one.old) → IsTrue (D.tells two.old) → StandsFor D.Disk store.new one.new two.new }
     ensures place { (store.new.place ≡ store.old.place) × (store.new.journal.generation ≡ store.old.journal.generation) × (store.new.journal.version ≡ store.old.journal.version) }
-    // At each moment the disks hold the world before or the one after.
+    // At each moment the disks hold the world before or the one after, each by its journal.
     ensures any_moment { IsTrue (D.tells one.old) → IsTrue (D.tells two.old)
-        → LeavesWorlds D.Disk store.old.place (IsOrTurnOf (in_turn T.Transport limits.now now transport.old transport.new) pid store.old.world.world) one.old two.old one.new two.new }
+        → LeavesHeld D.Disk store.old.place (IsOrTurnOf (in_turn T.Transport limits.now now transport.old transport.new) pid store.old.world.world store.old.journal) one.old two.old one.new two.new }
     // At each moment they hold each process whose directory is placed in the end, where they did so in the beginning.
     ensures directories { AreOfProcesses (T.placed transport.old) store.old.world.world → IsTrue (D.tells one.old) → IsTrue (D.tells two.old)
         → LeavesWorlds D.Disk store.old.place (AreOfProcesses (T.placed transport.new)) one.old two.old one.new two.new }

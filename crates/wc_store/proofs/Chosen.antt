@@ -10,7 +10,7 @@ use Rattle.wc_world.specs.World.{World, empty}
 use Rattle.wc_store.specs.declared.place.Place.{Place}
 use Rattle.wc_store.specs.declared.place.Place.TheVariants.{One, Two}
 use Rattle.wc_store.specs.Places.{number_of, its}
-use Rattle.wc_store.specs.Stores.{other, HoldsAs}
+use Rattle.wc_store.specs.Stores.{other, ChoosesAs, HoldsAs}
 use Rattle.wc_store.specs.Choosing.{Choice, no_store, broken, on, is_nil, found_at, begins, settled_on, without_journal, later_of, chosen_of, chosen, journal_in}
 use Rattle.wc_store.specs.Held.{a_world, Plays, PlaysChoice, IsHeld}
 use Rattle.wc_store.proofs.Looking.{other_first, short_none}
@@ -166,6 +166,11 @@ keeps_held Two v g bs w one two keeps =
 pub keeps_as : (place : Place) (v g : ℕ) (bs : Placed) (w : World) (own rest : List ℕ) → Keeps place v g bs w own rest → HoldsAs place own rest (a_world w)
 keeps_as One v g bs w own rest keeps = keeps_held One v g bs w own rest keeps
 keeps_as Two v g bs w own rest keeps = keeps_held Two v g bs w rest own keeps
+
+pub chooses_as : (place : Place) (v g : ℕ) (bs : Placed) (w : World) (own rest : List ℕ) → Keeps place v g bs w own rest
+    → ChoosesAs place own rest (on (number_of place) v g bs)
+chooses_as One v g bs w own rest keeps = keeps_chosen One v g bs w own rest keeps
+chooses_as Two v g bs w own rest keeps = keeps_chosen Two v g bs w rest own keeps
 
 -- the batches are those of the image
 pub keeps_named : (place : Place) (v g : ℕ) (bs : Placed) (w : World) (own rest : List ℕ) → Keeps place v g bs w own rest

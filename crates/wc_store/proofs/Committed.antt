@@ -9,6 +9,7 @@ use Rattle.wc_record.specs.Spelled.{spelled}
 use Rattle.wc_record.specs.Reading.{whole}
 use Rattle.wc_record.specs.Written.{IsWritten}
 use Rattle.wc_record.proofs.Whole.{written_is_read}
+use Rattle.wc_state.specs.declared.record.Limits.{Limits}
 use Rattle.wc_world.specs.declared.change.Change.{Change}
 use Rattle.wc_world.specs.World.{World}
 use Rattle.wc_world.specs.Room.{Holding}
@@ -21,7 +22,7 @@ use Rattle.wc_store.specs.Places.{its, opposite}
 use Rattle.wc_store.specs.Stores.{other, StandsFor, CommitLeaves, PackLeaves}
 use Rattle.wc_store.specs.Held.{is_plain}
 use Rattle.wc_store.specs.Placing.{Appends, Replaces}
-use Rattle.wc_store.specs.Refusals.{is_live_after}
+use Rattle.wc_store.specs.Refusals.{byte_limit, is_live_after}
 use Rattle.wc_store.proofs.Chosen.{Keeps}
 use Rattle.wc_store.proofs.Commits.{no_snapshot, kept_by, own_durable, other_durable, stands_again, stands_committed, keeps_after, commit_leaves}
 use Rattle.wc_store.proofs.Packs.{keeps_there, pack_leaves, stands_packed}
@@ -53,10 +54,13 @@ module _ {D : Type 0} (g : disk.Ghosts D) (store : Store) (one two : D) (stands 
       read : whole p (Ok cs)
       read = subst (λ (q : List ℕ). whole q (Ok cs)) (sym payload) (written_is_read cs written)
 
-      pub appended_leaves : CommitLeaves g store.place store.world.world (applied store.world.world cs) one two one_new two_new
-      appended_leaves =
-          commit_leaves g store.place store.journal store.world.world cs p one two keeps read plain accepted one_new two_new same
-          (appends.any_moment (own_told g one two store.place first second))
+      pub appended_leaves : (limits : Limits) → limit ≡ byte_limit store.journal.version limits.max_bytes
+          → ((d : D) (image : List ℕ) → g.left_since d (g.moment d) image → g.may_leave d image) → CommitLeaves g store limits cs one two one_new two_new
+      appended_leaves limits is only_now =
+          let a : Appends g p (byte_limit store.journal.version limits.max_bytes) store.journal journal (its store.place one two) (its store.place one_new two_new) result
+          = subst (λ (n : ℕ). Appends g p n store.journal journal (its store.place one two) (its store.place one_new two_new) result) is appends in
+          commit_leaves g store one two (stands first second) cs p read plain accepted limits payload only_now one_new two_new
+          (a.any_moment (own_told g one two store.place first second)) result same a.fits a.refused a.untouched
 
       pub appended_stands : (world : Holding) (live : Bool) → world.world ≡ applied store.world.world cs
           → (IsTrue (g.tells (its store.place one two)) → IsSettled g journal (its store.place one_new two_new))
@@ -65,7 +69,7 @@ module _ {D : Type 0} (g : disk.Ghosts D) (store : Store) (one two : D) (stands 
       appended_stands world live is settled held =
           let told = own_told g one two store.place first second in
           stands_committed g store.place world store.journal journal live store.world.world cs one two one_new two_new
-          (keeps_after g store.place store.journal store.world.world cs p one two keeps read plain accepted (g.seen (its store.place one_new two_new)) (held told))
+          (keeps_after g store one two (stands first second) cs p read plain accepted (g.seen (its store.place one_new two_new)) (held told))
           same (other_durable g store.place one two (stands first second).durable_one (stands first second).durable_two) (settled told) appends.version appends.generation is
 
     pub refused_stands : (T : Type 0) (e : StoreError) (p : List ℕ) (limit : ℕ) (journal : Journal) (one_new two_new : D) (world : Holding) (live : Bool)

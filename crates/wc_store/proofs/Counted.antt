@@ -1,5 +1,5 @@
 -- What one step leaves of the whole call.
-use Rattle.std.proofs.Common.{◌≡◌, Bool, true, Result, Ok, Err, sym, subst}
+use Rattle.std.proofs.Common.{◌≡◌, ℕ, inl, inr, Bool, true, Result, Ok, Err, sym, ap, subst}
 use Rattle.std.specs.Prelude.{IsTrue}
 use Rattle.wc_disk.specs.declared.disk.Disk as disk
 use Rattle.wc_store.specs.declared.error.StoreError.{StoreError}
@@ -8,7 +8,7 @@ use Rattle.wc_store.specs.declared.place.Place.{Place}
 use Rattle.wc_store.specs.declared.place.Place.TheVariants.{One, Two}
 use Rattle.wc_store.specs.Places.{its}
 use Rattle.wc_store.specs.Stores.{other}
-use Rattle.wc_store.specs.Refusals.{IsUnchanged, is_live_after}
+use Rattle.wc_store.specs.Refusals.{Counts, CountsOne, IsUnchanged, is_live_after}
 
 pub unchanged : {T S : Type 0} (result : Result T StoreError) (old new : S) → new ≡ old → IsUnchanged result old new
 unchanged (Ok answer) old new same = tt
@@ -24,6 +24,37 @@ module _ {T : Type 0} (result : Result T StoreError) {D : Type 0} (one two one_n
       → IsUnchanged result one one_new × IsUnchanged result two two_new
   unchanged_own One own same = (own, unchanged result two two_new same)
   unchanged_own Two own same = (unchanged result one one_new same, own)
+
+-- ---- what is counted of both disks, where the call is of one
+module _ {T : Type 0} (one one_new two two_new : ℕ) where
+  counts_first : (result : Result T StoreError) → CountsOne result one one_new → two_new ≡ two → Counts result one one_new two two_new
+  counts_first (Ok answer) own same = (own, same)
+  counts_first (Err DiskFault) own same = inl (own, same)
+  counts_first (Err (Damaged disk at found)) own same = (own, same)
+  counts_first (Err (Full what count limit)) own same = (own, same)
+  counts_first (Err AlreadyThere) own same = (own, same)
+  counts_first (Err OutOfMemory) own same = (own, same)
+
+  counts_second : (result : Result T StoreError) → CountsOne result two two_new → one_new ≡ one → Counts result one one_new two two_new
+  counts_second (Ok answer) own same = (same, own)
+  counts_second (Err DiskFault) own same = inr (same, own)
+  counts_second (Err (Damaged disk at found)) own same = (same, own)
+  counts_second (Err (Full what count limit)) own same = (same, own)
+  counts_second (Err AlreadyThere) own same = (same, own)
+  counts_second (Err OutOfMemory) own same = (same, own)
+
+module _ {T D : Type 0} (g : disk.Ghosts D) (result : Result T StoreError) (one two one_new two_new : D) where
+  -- the call is of the disk at a place
+  pub counts_own : (place : Place) → CountsOne result (g.faults (its place one two)) (g.faults (its place one_new two_new)) → other place one_new two_new ≡ other place one two
+      → Counts result (g.faults one) (g.faults one_new) (g.faults two) (g.faults two_new)
+  counts_own One own same = counts_first (g.faults one) (g.faults one_new) (g.faults two) (g.faults two_new) result own (ap g.faults same)
+  counts_own Two own same = counts_second (g.faults one) (g.faults one_new) (g.faults two) (g.faults two_new) result own (ap g.faults same)
+
+  -- the call is of the other disk
+  pub counts_other : (place : Place) → CountsOne result (g.faults (other place one two)) (g.faults (other place one_new two_new)) → its place one_new two_new ≡ its place one two
+      → Counts result (g.faults one) (g.faults one_new) (g.faults two) (g.faults two_new)
+  counts_other One own same = counts_second (g.faults one) (g.faults one_new) (g.faults two) (g.faults two_new) result own (ap g.faults same)
+  counts_other Two own same = counts_first (g.faults one) (g.faults one_new) (g.faults two) (g.faults two_new) result own (ap g.faults same)
 
 -- what a live store left unchanged is the same
 pub same_after : (T : Type 0) {S : Type 0} (e : StoreError) (old new : S) → is_live_after {T = T} (Err e) true ≡ true → IsUnchanged {T = T} (Err e) old new → new ≡ old

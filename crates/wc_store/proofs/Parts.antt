@@ -3,7 +3,11 @@ use Rattle.std.proofs.Common.{◌≡◌, ◌⊎◌, ◌≤◌, inl, inr, ⊎_eli
 use Rattle.wc_disk.specs.declared.disk.Disk as disk
 use Rattle.wc_disk.specs.Steps.{Only}
 use Rattle.wc_disk.specs.Images.{LeavesOnly}
+use Rattle.wc_journal.specs.declared.journal.Journal.{Journal}
+use Rattle.wc_state.specs.declared.record.Limits.{Limits}
 use Rattle.wc_world.specs.World.{World}
+use Rattle.wc_world.specs.Applied.{applied}
+use Rattle.wc_world.specs.declared.change.Change.{Change}
 use Rattle.wc_store.specs.declared.error.StoreError.{StoreError}
 use Rattle.wc_store.specs.declared.error.StoreError.TheVariants.{DiskFault, Damaged, Full, AlreadyThere, OutOfMemory}
 use Rattle.wc_store.specs.declared.place.Place.{Place}
@@ -11,7 +15,7 @@ use Rattle.wc_store.specs.declared.place.Place.TheVariants.{One, Two}
 use Rattle.wc_store.specs.Places.{its}
 use Rattle.wc_store.specs.declared.store.Store.{Store}
 use Rattle.wc_store.specs.Held.{a_world, IsHeld}
-use Rattle.wc_store.specs.Stores.{other, HoldsAs, HoldsEither, CommitLeaves, PackLeaves, StandsFor, InOnePart, InTwoParts, AreImages, BeginsFrom, InitLeaves, HoldsOneOf}
+use Rattle.wc_store.specs.Stores.{other, HoldsAs, HoldsBy, HoldsEither, CommitLeaves, PackLeaves, StandsFor, InOnePart, InTwoParts, AreImages, BeginsFrom, InitLeaves, HoldsOneOf}
 
 -- the images of the disk at the place and of the other disk, as those of disk one and disk two
 abbrev pub As : Place → (List ℕ → List ℕ → Type 0) → List ℕ → List ℕ → Type 0
@@ -107,26 +111,30 @@ module _ {D : Type 0} (g : disk.Ghosts D) (at_now : (d : D) (image : List ℕ) �
         then_other One Q same run has = then_two one_new two_new P Q durable_one same run has
         then_other Two Q same run has = then_one one_new two_new P Q durable_two same run has
 
-      -- a run of writes at the place, after each of which the images hold a world that has Q
-      pub then_worlds : (place : Place) (Q : World → Type 0) (one_new two_new : D) → other place one_new two_new ≡ other place one_mid two_mid
+      -- a run of writes at the place, after each of which the images hold a world, by a journal, of which Q holds
+      pub then_worlds : (place : Place) (Q : World → Journal → Type 0) (one_new two_new : D) → other place one_new two_new ≡ other place one_mid two_mid
           → LeavesOnly g (its place one_mid two_mid) (its place one_new two_new)
-          (λ image. (w : World) × Q w × HoldsAs place image (g.seen (other place one_mid two_mid)) (a_world w))
-          → InTwoParts g one two one_new two_new (λ a b. (w : World) × Q w × IsHeld a b (a_world w))
+          (λ image. (w : World) × (journal : Journal) × Q w journal × HoldsBy place image (g.seen (other place one_mid two_mid)) w journal)
+          → InTwoParts g one two one_new two_new (λ a b. (w : World) × (journal : Journal) × Q w journal × HoldsBy place (its place a b) (other place a b) w journal)
       then_worlds place Q one_new two_new same run =
-          then_own one_new two_new (λ a b. (w : World) × Q w × IsHeld a b (a_world w)) place _ same run (λ image. some_of place image (g.seen (other place one_mid two_mid)))
+          then_own one_new two_new (λ a b. (w : World) × (journal : Journal) × Q w journal × HoldsBy place (its place a b) (other place a b) w journal) place _ same run
+          (λ image. some_of place image (g.seen (other place one_mid two_mid)))
         where
-          some_of : (place : Place) (own rest : List ℕ) → ((w : World) × Q w × HoldsAs place own rest (a_world w)) → As place (λ a b. (w : World) × Q w × IsHeld a b (a_world w)) own rest
+          some_of : (place : Place) (own rest : List ℕ) → ((w : World) × (journal : Journal) × Q w journal × HoldsBy place own rest w journal)
+              → As place (λ a b. (w : World) × (journal : Journal) × Q w journal × HoldsBy place (its place a b) (other place a b) w journal) own rest
           some_of One own rest holds = holds
           some_of Two own rest holds = holds
 
       -- a commit
-      pub then_commit : (place : Place) (before after : World) (one_new two_new : D) → CommitLeaves g place before after one_mid two_mid one_new two_new
-          → InTwoParts g one two one_new two_new (HoldsOneOf before after)
-      then_commit place before after one_new two_new leaves =
-          then_own one_new two_new (HoldsOneOf before after) place (HoldsEither place before after (g.seen (other place one_mid two_mid))) leaves.untouched leaves.each
-          (λ image. one_of place image (g.seen (other place one_mid two_mid)))
+      pub then_commit : (store : Store) (limits : Limits) (cs : List Change) (one_new two_new : D) → CommitLeaves g store limits cs one_mid two_mid one_new two_new
+          → InTwoParts g one two one_new two_new (HoldsOneOf store.world.world (applied store.world.world cs))
+      then_commit store limits cs one_new two_new leaves =
+          then_own one_new two_new (HoldsOneOf store.world.world (applied store.world.world cs)) store.place (HoldsEither store limits cs (g.seen (other store.place one_mid two_mid)))
+          leaves.untouched leaves.each
+          (λ image either. one_of store.place image (g.seen (other store.place one_mid two_mid)) (⊎_elim (λ same. inl same.held) (λ more. inr more.2.held) either))
         where
-          one_of : (place : Place) (own rest : List ℕ) → HoldsEither place before after rest own → As place (HoldsOneOf before after) own rest
+          one_of : (place : Place) (own rest : List ℕ) → HoldsAs place own rest (a_world store.world.world) ⊎ HoldsAs place own rest (a_world (applied store.world.world cs))
+              → As place (HoldsOneOf store.world.world (applied store.world.world cs)) own rest
           one_of One own rest holds = holds
           one_of Two own rest holds = holds
 

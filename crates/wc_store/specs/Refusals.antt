@@ -1,6 +1,6 @@
 -- When a store refuses, and what is counted.
-use Rattle.std.specs.Prelude.{◌≡◌, ◌⊎◌, ℕ, List, Result, Ok, Err, Bool, false, ◌-◌, ◌^◌, ◌<◌, ◌≤◌, ◌==◌, min, length, if◌then◌else◌}
-use Rattle.wc_io.specs.Counts.{Rises}
+use Rattle.std.specs.Prelude.{◌≡◌, ℕ, List, Result, Ok, Err, Bool, false, ◌-◌, ◌^◌, ◌<◌, ◌≤◌, ◌==◌, min, length, if◌then◌else◌}
+use Rattle.wc_io.specs.Counts.{RisesByOne, EitherRisesByOne}
 use Rattle.wc_store.specs.declared.error.StoreError.{StoreError}
 use Rattle.wc_store.specs.declared.error.StoreError.TheVariants.{DiskFault, Damaged, Full, AlreadyThere, OutOfMemory}
 use Rattle.wc_store.specs.Choosing.{Choice, broken, found_at}
@@ -39,9 +39,9 @@ IsDamageAt told number at image (Full what count limit) = ⊥
 IsDamageAt told number at image AlreadyThere = ⊥
 IsDamageAt told number at image OutOfMemory = ⊥
 
--- `DiskFault` comes only where the disk's count rose, and each other refusal leaves that count
+-- `DiskFault` comes only where the disk's count rose by one, and each other refusal leaves that count
 abbrev pub CountsRefusal : StoreError → ℕ → ℕ → Type 0
-CountsRefusal DiskFault old new = Rises old new
+CountsRefusal DiskFault old new = RisesByOne old new
 CountsRefusal (Damaged disk at found) old new = new ≡ old
 CountsRefusal (Full what count limit) old new = new ≡ old
 CountsRefusal AlreadyThere old new = new ≡ old
@@ -52,10 +52,10 @@ abbrev pub CountsOne : {T : Type 0} → Result T StoreError → ℕ → ℕ → 
 CountsOne (Ok answer) old new = new ≡ old
 CountsOne (Err error) old new = CountsRefusal error old new
 
--- `DiskFault` comes only where the count of one of the disks rose, and each other answer leaves both counts
+-- `DiskFault` comes only where the count of one of the disks rose by one and the other stayed, and each other answer leaves both counts
 abbrev pub Counts : {T : Type 0} → Result T StoreError → (one one' two two' : ℕ) → Type 0
 Counts (Ok answer) one one' two two' = (one' ≡ one) × (two' ≡ two)
-Counts (Err DiskFault) one one' two two' = Rises one one' ⊎ Rises two two'
+Counts (Err DiskFault) one one' two two' = EitherRisesByOne one one' two two'
 Counts (Err (Damaged disk at found)) one one' two two' = (one' ≡ one) × (two' ≡ two)
 Counts (Err (Full what count limit)) one one' two two' = (one' ≡ one) × (two' ≡ two)
 Counts (Err AlreadyThere) one one' two two' = (one' ≡ one) × (two' ≡ two)

@@ -1,19 +1,24 @@
 -- When a store stands for two disks, and what its calls leave on them.
-use Rattle.std.specs.Prelude.{◌≡◌, ◌≤◌, ◌⊎◌, ℕ, List, [], Option, Some, None, Result, Ok, Err}
+use Rattle.std.specs.Prelude.{◌≡◌, ◌≤◌, ◌+◌, ◌⊎◌, ℕ, List, [], Option, Some, None, Result, Ok, Err}
 use Rattle.wc_disk.specs.declared.disk.Disk as disk
 use Rattle.wc_disk.specs.Steps.{Only}
 use Rattle.wc_disk.specs.Images.{LeavesOnly}
-use Rattle.wc_journal.specs.Reading.{no_journal, holds, journal_of, batches_of}
+use Rattle.wc_journal.specs.declared.journal.Journal.{Journal}
+use Rattle.wc_journal.specs.Reading.{Placed, no_journal, holds, journal_of, batches_of, end_of}
 use Rattle.wc_journal.specs.Journals.{IsSettled}
 use Rattle.wc_store.specs.declared.error.StoreError.{StoreError}
 use Rattle.wc_store.specs.declared.error.StoreError.TheVariants.{DiskFault, Damaged, Full, AlreadyThere, OutOfMemory}
 use Rattle.wc_store.specs.declared.store.Store.{Store}
 use Rattle.wc_store.specs.declared.place.Place.{Place}
 use Rattle.wc_store.specs.declared.place.Place.TheVariants as place
+use Rattle.wc_state.specs.declared.record.Limits.{Limits}
 use Rattle.wc_world.specs.World.{World, empty}
+use Rattle.wc_world.specs.Applied.{applied}
+use Rattle.wc_world.specs.declared.change.Change.{Change}
 use Rattle.wc_store.specs.Places.{number_of, its}
-use Rattle.wc_store.specs.Choosing.{on, chosen}
+use Rattle.wc_store.specs.Choosing.{Choice, on, chosen}
 use Rattle.wc_store.specs.Held.{IsHeld, Standing, nothing, a_world}
+use Rattle.wc_store.specs.Refusals.{byte_limit, committed_bytes}
 
 -- the other disk than the one at the place, of disk one and disk two
 abbrev pub other : {T : Type 0} → Place → T → T → T
@@ -34,14 +39,35 @@ pub record StandsFor {D : Type 0} (g : disk.Ghosts D) (store : Store) (one two :
   pub held : IsHeld (g.seen one) (g.seen two) (a_world store.world.world)
   pub settled : IsSettled g store.journal (its store.place one two)
 
--- The image, beside that of the other disk, holds the one world or the other.
-abbrev pub HoldsEither : Place → World → World → List ℕ → List ℕ → Type 0
-HoldsEither place before after rest own = HoldsAs place own rest (a_world before) ⊎ HoldsAs place own rest (a_world after)
+-- the choice between the same images
+abbrev pub ChoosesAs : Place → List ℕ → List ℕ → Choice → Type 0
+ChoosesAs place.One own rest c = chosen own rest ≡ c
+ChoosesAs place.Two own rest c = chosen rest own ≡ c
 
--- A commit writes the disk that the store is on alone, and each of its images holds the world before or the world after.
-pub record CommitLeaves {D : Type 0} (g : disk.Ghosts D) (place : Place) (before after : World) (one two one_new two_new : D) : Type 0 where
-  pub untouched : other place one_new two_new ≡ other place one two
-  pub each : LeavesOnly g (its place one two) (its place one_new two_new) (HoldsEither place before after (g.seen (other place one two)))
+-- The image, beside that of the other disk, holds this world, by this journal on its own disk.
+pub record HoldsBy (place : Place) (own rest : List ℕ) (w : World) (journal : Journal) : Type 0 where
+  pub held : HoldsAs place own rest (a_world w)
+  pub batches : Placed
+  pub chooses : ChoosesAs place own rest (on (number_of place) journal.version journal.generation batches)
+  pub end : journal.end ≡ end_of batches
+
+-- One journal is another with these changes as one batch more, and is within the limit of bytes.
+pub record IsLonger (limits : Limits) (journal : Journal) (cs : List Change) (next : Journal) : Type 0 where
+  pub version : next.version ≡ journal.version
+  pub generation : next.generation ≡ journal.generation
+  pub longer : next.end + 1 ≡ committed_bytes journal cs
+  pub fits : next.end + 1 ≤ byte_limit next.version limits.max_bytes
+
+-- The image, beside that of the other disk, holds the store's world by its journal, or the world after the changes by the longer journal.
+abbrev pub HoldsEither : Store → Limits → List Change → List ℕ → List ℕ → Type 0
+HoldsEither store limits cs rest own =
+    HoldsBy store.place own rest store.world.world store.journal
+    ⊎ ((next : Journal) × IsLonger limits store.journal cs next × HoldsBy store.place own rest (applied store.world.world cs) next)
+
+-- A commit writes the disk that the store is on alone, and each of its images holds the world before or the world after, each by its journal.
+pub record CommitLeaves {D : Type 0} (g : disk.Ghosts D) (store : Store) (limits : Limits) (cs : List Change) (one two one_new two_new : D) : Type 0 where
+  pub untouched : other store.place one_new two_new ≡ other store.place one two
+  pub each : LeavesOnly g (its store.place one two) (its store.place one_new two_new) (HoldsEither store limits cs (g.seen (other store.place one two)))
 
 -- A pack writes the other disk alone, and each of its images holds the same world.
 pub record PackLeaves {D : Type 0} (g : disk.Ghosts D) (place : Place) (world : World) (one two one_new two_new : D) : Type 0 where

@@ -57,12 +57,13 @@ impl Store {
         ensures still { self.new.live ≡ true → IsTrue (D.tells one.old) → IsTrue (D.tells two.old) → StandsFor D.Disk self.new one.new two.new }
         ensures place { (self.new.place ≡ self.old.place) × (self.new.journal.generation ≡ self.old.journal.generation) × (self.new.journal.version ≡ self.old.journal.version) }
         ensures any_moment { IsTrue (D.tells one.old) → IsTrue (D.tells two.old)
-            → CommitLeaves D.Disk self.old.place self.old.world.world (applied self.old.world.world changes) one.old two.old one.new two.new }
+            → CommitLeaves D.Disk self.old limits.now changes one.old two.old one.new two.new }
         ensures tells { (D.tells one.new ≡ D.tells one.old) × (D.tells two.new ≡ D.tells two.old) }
         ensures cause { Counts result (D.faults one.old) (D.faults one.new) (D.faults two.old) (D.faults two.new) }
     {
         let batch = prepare(alloc, &mut self.world, &self.journal, &changes, limits)?;
-        let limit = byte_limit(self.journal.version(), limits.max_bytes);
+        let version = self.journal.version();
+        let limit = byte_limit(version, limits.max_bytes);
         match append_at(&mut self.journal, self.place, one, two, &batch, limit) {
             Ok(()) => {
                 self.world.apply(changes);

@@ -14,7 +14,7 @@ use crate::error::StoreError;
 use std::alloc::Global;
 use wc_disk::Disk;
 use wc_journal::Batches;
-use wc_record::{RecordError, read_changes};
+use wc_record::{LastLibrary, RecordError, read_changes};
 use wc_world::{Change, Changes, World, WorldError};
 
 /// Why a payload isn't played.
@@ -94,11 +94,11 @@ fn place_of(error: RecordError) -> usize
 }
 
 /// Reads a payload.
-fn changes_of(alloc: Global, payload: &[u8]) -> Result<Changes, Unplayed>
+fn changes_of(alloc: Global, payload: &[u8], last: &mut LastLibrary) -> Result<Changes, Unplayed>
     ensures ok { IfOk result (λ changes. whole payload.now (Ok changes)) }
     ensures refused { IfErr result (RefusesReading payload.now) }
 {
-    match read_changes(alloc, payload) {
+    match read_changes(alloc, payload, last) {
         Ok(changes) => Ok(changes),
         Err(RecordError::OutOfMemory) => Err(Unplayed::OutOfMemory),
         Err(error) => Err(Unplayed::Unread(place_of(error))),
@@ -119,11 +119,17 @@ fn take(alloc: Global, world: World, changes: Changes) -> Result<World, Unplayed
 }
 
 /// The world after one payload.
-fn play_one(alloc: Global, world: World, snapshot: bool, payload: &[u8]) -> Result<World, Unplayed>
+fn play_one(
+    alloc: Global,
+    world: World,
+    snapshot: bool,
+    payload: &[u8],
+    last: &mut LastLibrary,
+) -> Result<World, Unplayed>
     ensures ok { IfOk result (λ after. IsPlayed snapshot payload.now world.world after.world) }
     ensures refused { IfErr result (RefusesPayload snapshot payload.now world.world) }
 {
-    let changes = changes_of(alloc, payload)?;
+    let changes = changes_of(alloc, payload, last)?;
     if !suits(snapshot, changes.as_slice()) {
         return Err(Unplayed::Unfit);
     }
@@ -154,10 +160,11 @@ fn play_all(alloc: Global, generation: u64, batches: &Batches) -> Result<World, 
     ensures refused { IfErr result (RefusesBatches generation batches.now) }
 {
     let mut world = World::new(alloc);
+    let mut last = LastLibrary::none();
     for number in 0..batches.len() {
         let (at, payload) = batches.payload(number);
         let snapshot = is_snapshot(generation, number);
-        match play_one(alloc, world, snapshot, payload) {
+        match play_one(alloc, world, snapshot, payload, &mut last) {
             Ok(after) => world = after,
             Err(unplayed) => return Err(stop_of(at, unplayed)),
         }

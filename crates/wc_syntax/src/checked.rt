@@ -3,12 +3,14 @@ ghost use Rattle.wc_syntax.specs.Bare.{bare_library};
 ghost use Rattle.wc_syntax.specs.Checked.{IsChecked};
 
 use crate::definition::Library;
+use std::alloc::AllocError;
 use std::marker::Model;
+use std::rc::Rc;
 
-/// A library that meets the rules of a checked library. Contracts see it as its bare form.
+/// A library that meets the rules of a checked library. Contracts see it as its bare form. Its clones share one library.
 #[derive(Drop)]
 pub struct Checked {
-    library: Library,
+    library: Rc<Library>,
 }
 
 impl Model for Checked {
@@ -24,16 +26,16 @@ impl Model for Checked {
 
     ghost coded = { coded_list row.the_row.coded };
 
-    ghost view = { λ c. bare_library c.library };
+    ghost view = { λ c. bare_library c.library.value };
 
-    ghost invariant = { λ c. IsChecked c.library };
+    ghost invariant = { λ c. IsChecked c.library.value };
 }
 
 impl Checked {
     /// A library that is known to be checked.
-    pub fn of(library: Library) -> Checked
-        requires { IsChecked library }
-        ensures { result ≡ bare_library library }
+    pub fn of(library: Rc<Library>) -> Checked
+        requires { IsChecked library.value }
+        ensures { result ≡ bare_library library.value }
     {
         Checked { library }
     }
@@ -44,5 +46,17 @@ impl Checked {
         ensures checked { IsChecked result.now }
     {
         &self.library
+    }
+}
+
+impl Clone for Checked {
+    ghost use Rattle.std.specs.Prelude.{◌≡◌};
+
+    ghost is_clone = { λ checked copy. copy ≡ checked };
+
+    fn clone(&self) -> Result<Checked, AllocError> {
+        Ok(Checked {
+            library: self.library.clone()?,
+        })
     }
 }

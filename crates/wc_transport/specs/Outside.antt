@@ -4,7 +4,7 @@ use Rattle.std.specs.List.{Contains}
 use Rattle.wc_value.specs.declared.process.Request.{Request}
 use Rattle.wc_value.specs.declared.process.JobResult.{JobResult}
 use Rattle.wc_value.specs.Requests.{requests, IsDistinct}
-use Rattle.wc_io.specs.Counts.{Rises}
+use Rattle.wc_io.specs.Counts.{RisesByOne}
 use Rattle.wc_transport.specs.declared.error.TaskError.{TaskError}
 use Rattle.wc_transport.specs.declared.error.TaskError.TheVariants as error
 use Rattle.wc_transport.specs.declared.transport.Progress.{Progress}
@@ -38,11 +38,11 @@ abbrev pub retrieve_reply : Result JobResult TaskError → Reply
 retrieve_reply (Ok brought) = Brought brought
 retrieve_reply (Err e) = error_reply e
 
--- a call that fails raises the count of faults, and any other call leaves it, one that found no memory too
+-- a call that fails raises the count of faults by one, and any other call leaves it, one that found no memory too
 abbrev pub CountsTaskFault : {T : Type 0} → Result T TaskError → ℕ → ℕ → Type 0
 CountsTaskFault (Ok answer) old new = new ≡ old
 CountsTaskFault (Err error.OutOfMemory) old new = new ≡ old
-CountsTaskFault (Err error.Failed) old new = Rises old new
+CountsTaskFault (Err error.Failed) old new = RisesByOne old new
 
 -- P of a meaning, where it is told
 abbrev pub WhereTold : {A : Type 0} → (A → Type 0) → Option A → Type 0

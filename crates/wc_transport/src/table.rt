@@ -2,7 +2,7 @@
 ghost use Rattle.std.specs.Prelude.{true, ◌≡◌, ◌≢◌, ◌↔◌, ◌⊎◌, ℕ, Some, None, IsTrue, is_err, IsErrOf, IfOk, OnOk, OnErr, MatchOption, if◌then◌else◌};
 ghost use Rattle.std.specs.List.{Contains};
 ghost use Rattle.std.specs.Map.{lookup};
-ghost use Rattle.wc_io.specs.Counts.{counted, RisesByOne, Rises};
+ghost use Rattle.wc_io.specs.Counts.{counted, RisesByOne};
 ghost use Rattle.wc_io.specs.Schedule.{fails_next, Advances};
 ghost use Rattle.wc_value.specs.Requests.{requests};
 ghost use Rattle.wc_transport.specs.Outside.{CountsTaskFault, Places, Stays, IsRow, OnDone};
@@ -140,7 +140,7 @@ impl TableTransport {
         ensures failed { result ≡ error.Failed }
         ensures kept { self.new ≡ record self.old { schedule = self.new.schedule } }
         ensures schedule { self.new.schedule ≡ record self.old.schedule { faults = self.new.schedule.faults } }
-        ensures risen { Rises self.old.schedule.faults self.new.schedule.faults }
+        ensures risen { RisesByOne self.old.schedule.faults self.new.schedule.faults }
     {
         self.schedule.count_fault();
         TaskError::Failed

@@ -5,18 +5,14 @@ ghost use Rattle.std.specs.Prelude.{◌≡◌, IfOk};
 use crate::change::{Change, Changes};
 use crate::world::{Libraries, World};
 use std::alloc::{AllocError, Global};
-use wc_copies::copy_checked;
 use wc_value::Duplicate;
 
 /// A copy of a change.
-fn copy_change(alloc: Global, change: &Change) -> Result<Change, AllocError>
+fn copy_change(change: &Change) -> Result<Change, AllocError>
     ensures { IfOk result (λ copy. copy ≡ change.now) }
 {
     match change {
-        Change::Library(library, names) => {
-            let library = copy_checked(alloc, library)?;
-            Ok(Change::Library(library, names.copy()?))
-        }
+        Change::Library(library, names) => Ok(Change::Library(library.clone()?, names.copy()?)),
         Change::Data(value) => Ok(Change::Data(value.copy()?)),
         Change::Process(process) => Ok(Change::Process(process.copy()?)),
         Change::Link(link) => Ok(Change::Link(link.copy()?)),
@@ -32,7 +28,7 @@ pub(crate) fn copy_changes(alloc: Global, changes: &Changes) -> Result<Changes, 
 {
     let mut copies = Changes::new(alloc);
     for change in changes.as_slice() {
-        copies.push(copy_change(alloc, change)?)?;
+        copies.push(copy_change(change)?)?;
     }
     Ok(copies)
 }
@@ -42,8 +38,7 @@ fn copy_libraries(alloc: Global, libraries: &Libraries) -> Result<Libraries, All
 {
     let mut copies = Libraries::new(alloc);
     for known in libraries.as_slice() {
-        let library = copy_checked(alloc, &known.0)?;
-        copies.push((library, known.1.copy()?))?;
+        copies.push((known.0.clone()?, known.1.copy()?))?;
     }
     Ok(copies)
 }

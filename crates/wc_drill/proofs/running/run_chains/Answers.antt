@@ -1,6 +1,7 @@
-use Rattle.std.specs.Prelude.{IsTrue}
+use Rattle.wc_runner.specs.Leaves.{SomeTurns, of_world}
+use Rattle.wc_runner.proofs.Leaving.{weaker_leaves}
+use Rattle.wc_drill.specs.Drilled.{outside}
 use Rattle.wc_drill.proofs.Turned.{ends_so, refuses_run, some_turns, takes_some}
-use Rattle.wc_drill.proofs.Leaving.{weaker_leaves}
 use Rattle.wc_drill.proofs.Results.{if_err, if_ok}
 use Rattle.wc_drill.proofs.running.run_chains.Goals as goal
 
@@ -14,11 +15,11 @@ returns-clause-ends g c =
 
 pub returns-clause-refused : goal.returns-clause-refused
 returns-clause-refused g c =
-    if_err c.run.result _ _ (λ e. refuses_run g.T.Transport g.P.Pacer c.usual_limits-limits.result c.usual_limits-limits.ensures.value c.args.transport.now c.run.new.transport c.run.new.pacer c.requires.table g.D.Disk (IsTrue (g.D.Disk.tells c.args.one.now) × IsTrue (g.D.Disk.tells c.args.two.now)) c.run.new.store c.run.new.one c.run.new.two e) c.run.ensures.refused
+    if_err c.run.result _ _ (λ e. refuses_run g.T.Transport g.P.Pacer c.usual_limits-limits.result c.usual_limits-limits.ensures.value c.args.transport.now c.run.new.transport c.run.new.pacer c.requires.table c.run.new.store e) c.run.ensures.refused
 
 pub returns-clause-any_moment : goal.returns-clause-any_moment
 returns-clause-any_moment g c =
-    λ told told_too. weaker_leaves g.D.Disk c.args.store.now.place _ _ c.args.one.now c.args.two.now c.run.new.one c.run.new.two (λ x. some_turns g.T.Transport g.P.Pacer c.usual_limits-limits.result c.usual_limits-limits.ensures.value c.args.transport.now c.run.new.transport c.run.new.pacer c.requires.table c.args.turns c.args.store.now.world.world x) (c.run.ensures.any_moment told told_too)
+    λ told told_too. weaker_leaves g.D.Disk c.args.store.now.place _ (of_world (SomeTurns outside c.args.turns c.args.store.now.world.world)) c.args.one.now c.args.two.now c.run.new.one c.run.new.two (λ x journal. some_turns g.T.Transport g.P.Pacer c.usual_limits-limits.result c.usual_limits-limits.ensures.value c.args.transport.now c.run.new.transport c.run.new.pacer c.requires.table c.args.turns c.args.store.now.world.world x journal) (c.run.ensures.any_moment told told_too)
 
 pub returns-clause-live : goal.returns-clause-live
 returns-clause-live g c =

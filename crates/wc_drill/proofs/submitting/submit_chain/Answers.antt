@@ -1,17 +1,21 @@
-use Rattle.std.proofs.Common.{inl, refl, sym, subst, ◌∙◌}
-use Rattle.wc_world.specs.Applied.{applied}
+use Rattle.std.proofs.Common.{inl, inr, refl, sym, subst, ◌∙◌}
 use Rattle.wc_world.specs.Room.{Holding}
+use Rattle.wc_runner.specs.Leaves.{of_world}
 use Rattle.wc_runner.specs.Refusals.{RefusesStored}
+use Rattle.wc_runner.proofs.Leaving.{commit_leaves, stands_leaves}
 use Rattle.wc_drill.specs.Drilled.{IsSubmitted, usual_limits}
 use Rattle.wc_drill.specs.Storing.{IsCrowded, IsOrSubmitted, IsStorable, RefusesChain}
 use Rattle.wc_drill.proofs.Chains.{chain_refused, crowd_counts, crowd_live, crowd_refused, submitted}
-use Rattle.wc_drill.proofs.Leaving.{commit_leaves, stands_leaves}
 use Rattle.wc_drill.proofs.Results.{if_err, on_ok, unchanged}
 use Rattle.wc_drill.proofs.submitting.submit_chain.Goals as goal
 
 pub returns-in-Ok-clause-same : goal.returns-in-Ok-clause-same
 returns-in-Ok-clause-same g c =
     c.committed.ensures.same
+
+pub returns-in-Ok-clause-kept : goal.returns-in-Ok-clause-kept
+returns-in-Ok-clause-kept g c =
+    c.committed.ensures.kept
 
 pub returns-in-Ok-clause-live : goal.returns-in-Ok-clause-live
 returns-in-Ok-clause-live g c =
@@ -60,7 +64,7 @@ returns-in-Ok-clause-any_moment g c =
     let s = c.args.store.now in
     let w = s.world.world in
     let p : IsStorable c.args.first c.args.second w c.in-Ok.changes = subst (λ (h : Holding). IsStorable c.args.first c.args.second h.world c.in-Ok.changes) c.world.ensures c.in-Ok.ensures.ok in
-    λ told told_too. commit_leaves g.D.Disk c.args.first c.args.second s.place w (applied w c.in-Ok.changes) c.args.one.now c.args.two.now c.committed.new.one c.committed.new.two (submitted c.args.first c.args.second w c.in-Ok.changes p) (c.committed.ensures.any_moment told told_too)
+    λ told told_too. commit_leaves g.D.Disk s usual_limits c.in-Ok.changes (of_world (IsOrSubmitted c.args.first c.args.second w)) c.args.one.now c.args.two.now c.committed.new.one c.committed.new.two (inl refl) (λ next longer. inr (submitted c.args.first c.args.second w c.in-Ok.changes p)) (c.committed.ensures.any_moment told told_too)
 
 pub returns-in-Err-clause-live : goal.returns-in-Err-clause-live
 returns-in-Err-clause-live g c =
@@ -91,7 +95,7 @@ returns-in-Err-clause-still g c =
 pub returns-in-Err-clause-any_moment : goal.returns-in-Err-clause-any_moment
 returns-in-Err-clause-any_moment g c =
     let s = c.args.store.now in
-    λ told told_too. stands_leaves g.D.Disk s (IsOrSubmitted c.args.first c.args.second s.world.world) c.args.one.now c.args.two.now g.met.D.Disk.only_now (c.requires.stands told told_too) (inl refl)
+    λ told told_too. stands_leaves g.D.Disk s (of_world (IsOrSubmitted c.args.first c.args.second s.world.world)) c.args.one.now c.args.two.now g.met.D.Disk.only_now (c.requires.stands told told_too) (inl refl)
 
 pub returns-in-Err-clause-cause : goal.returns-in-Err-clause-cause
 returns-in-Err-clause-cause g c =

@@ -10,7 +10,7 @@ pub returns-in-Err-clause-refused : goal.returns-in-Err-clause-refused
 returns-in-Err-clause-refused g c =
     let less : c.chain.submitted < c.args.count = let few = c.chain.invariant.few in let not_all = c.if-submitted-count.false in omega arith in
     let e = c.in-Err.ensures in
-    breaks g.D.Disk c.args.seed c.args.count c.args.store.now c.args.one.now c.args.two.now c.chain.submitted c.chain.draws.x c.chain.store c.chain.one c.chain.two c.chain.invariant c.next_numbers-first.result.0 c.next_numbers-first.result.1 (c.next_numbers-first.ensures.numbers c.chain.submitted c.args.seed c.chain.invariant.draws) c.submit_chain.new.store c.submit_chain.new.one c.submit_chain.new.two (Unit {0}) c.in-Err.error less e.same e.place.0 e.refused e.untouched_one e.untouched_two
+    breaks g.D.Disk c.args.seed c.args.count c.args.store.now c.args.one.now c.args.two.now c.chain.submitted c.chain.draws.x c.chain.store c.chain.one c.chain.two c.chain.invariant c.next_numbers-first.result.0 c.next_numbers-first.result.1 (c.next_numbers-first.ensures.numbers c.chain.submitted c.args.seed c.chain.invariant.draws) c.submit_chain.new.store c.submit_chain.new.one c.submit_chain.new.two c.in-Err.error less e.same e.kept e.place.2 e.refused
 
 pub returns-in-Err-clause-any_moment : goal.returns-in-Err-clause-any_moment
 returns-in-Err-clause-any_moment g c =

@@ -17,7 +17,7 @@ returns-in_err-view_reply-in-View-clause-kept g c =
     let w = c.args.store.world.world in
     let P : Work → Type 0 = λ k. LeavesPairs g.D.Disk one two one two (HoldsKeeping (work_row k).makes w) in
     subst P (sym c.in-View.is)
-    (standing g.D.Disk g.met.D.Disk.only_now c.worlds_are_kept.ensures.reached c.worlds_are_kept.ensures.same c.args.store one two (c.requires.stands told told_too) Stays refl)
+    (standing g.D.Disk g.met.D.Disk.only_now c.worlds_are_kept.ensures.reached c.worlds_are_kept.ensures.same c.args.store one two (c.requires.stands told told_too) Stays (λ images. refl))
 
 pub returns-in_ok-view_reply-in-View-clause-kept : goal.returns-in_ok-view_reply-in-View-clause-kept
 returns-in_ok-view_reply-in-View-clause-kept g c =
@@ -27,7 +27,7 @@ returns-in_ok-view_reply-in-View-clause-kept g c =
     let w = c.args.store.world.world in
     let P : Work → Type 0 = λ k. LeavesPairs g.D.Disk one two one two (HoldsKeeping (work_row k).makes w) in
     subst P (sym c.in-View.is)
-    (standing g.D.Disk g.met.D.Disk.only_now c.worlds_are_kept.ensures.reached c.worlds_are_kept.ensures.same c.args.store one two (c.requires.stands told told_too) Stays refl)
+    (standing g.D.Disk g.met.D.Disk.only_now c.worlds_are_kept.ensures.reached c.worlds_are_kept.ensures.same c.args.store one two (c.requires.stands told told_too) Stays (λ images. refl))
 
 pub returns-in_ok-view_reply-in-View-clause-does : goal.returns-in_ok-view_reply-in-View-clause-does
 returns-in_ok-view_reply-in-View-clause-does g c =

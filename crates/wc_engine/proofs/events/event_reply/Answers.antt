@@ -21,7 +21,7 @@ pub returns-in_err-reply-clause-kept : goal.returns-in_err-reply-clause-kept
 returns-in_err-reply-clause-kept g c =
     λ told told_too.
     standing g.D.Disk g.met.D.Disk.only_now c.worlds_are_kept.ensures.reached c.worlds_are_kept.ensures.same c.args.store c.args.one.now c.args.two.now (c.requires.stands told told_too)
-    (MayHappen c.args.asked) (inl refl)
+    (MayHappen c.args.asked) (λ images. inl refl)
 
 -- ---- nothing is stored
 
@@ -40,7 +40,7 @@ pub returns-in-Told-clause-kept : goal.returns-in-Told-clause-kept
 returns-in-Told-clause-kept g c =
     λ told told_too.
     standing g.D.Disk g.met.D.Disk.only_now c.worlds_are_kept.ensures.reached c.worlds_are_kept.ensures.same c.args.store c.args.one.now c.args.two.now (c.requires.stands told told_too)
-    (MayHappen c.args.asked) (inl refl)
+    (MayHappen c.args.asked) (λ images. inl refl)
 
 pub returns-in-Told-clause-durable : goal.returns-in-Told-clause-durable
 returns-in-Told-clause-durable g c = λ told told_too. let s = c.requires.stands told told_too in record { durable_one = s.durable_one; durable_two = s.durable_two }
@@ -75,7 +75,7 @@ returns-in-Ok-clause-kept g c =
     let w : c.world.result.now.world ≡ s.world.world = λ i. (c.world.ensures i).world in
     let e = subst (λ (v : World). IsEntryOf a v (entry.Stored cs c.in-Stored.line)) w (subst (IsEntryOf a c.world.result.now.world) c.in-Stored.is c.in_ok-reply.ensures) in
     committed g.D.Disk g.met.D.Disk.only_now c.worlds_are_kept.ensures.reached c.worlds_are_kept.ensures.same s c.args.one.now c.args.two.now (c.requires.stands told told_too)
-    (MayHappen a) (applied s.world.world cs) c.commit.new.one c.commit.new.two (inl refl) (inr (made_by a s.world.world cs e.0)) e.0.keeps (c.commit.ensures.any_moment told told_too)
+    (MayHappen a) c.limits_of-limits.result cs c.commit.new.one c.commit.new.two (λ images. inl refl) (λ images. inr (made_by a s.world.world cs e.0)) e.0.keeps (c.commit.ensures.any_moment told told_too)
 
 pub returns-in-Ok-clause-untouched : goal.returns-in-Ok-clause-untouched
 returns-in-Ok-clause-untouched g c = λ ends. absurd (subst (λ (r : Reply). IsBeforeStoring r.status) c.print.ensures ends)
@@ -112,7 +112,7 @@ returns-clause-kept g c =
     let w : c.world.result.now.world ≡ s.world.world = λ i. (c.world.ensures i).world in
     let e = subst (λ (v : World). IsEntryOf a v (entry.Stored cs c.in-Stored.line)) w (subst (IsEntryOf a c.world.result.now.world) c.in-Stored.is c.in_ok-reply.ensures) in
     committed g.D.Disk g.met.D.Disk.only_now c.worlds_are_kept.ensures.reached c.worlds_are_kept.ensures.same s c.args.one.now c.args.two.now (c.requires.stands told told_too)
-    (MayHappen a) (applied s.world.world cs) c.commit.new.one c.commit.new.two (inl refl) (inr (made_by a s.world.world cs e.0)) e.0.keeps (c.commit.ensures.any_moment told told_too)
+    (MayHappen a) c.limits_of-limits.result cs c.commit.new.one c.commit.new.two (λ images. inl refl) (λ images. inr (made_by a s.world.world cs e.0)) e.0.keeps (c.commit.ensures.any_moment told told_too)
 
 pub returns-clause-durable : goal.returns-clause-durable
 returns-clause-durable g c =

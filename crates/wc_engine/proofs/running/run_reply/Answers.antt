@@ -78,14 +78,13 @@ returns-in-Err-Full-clause-may g c =
     let v = c.run.new.store.world.world in
     let f = c.in-Err-Full in
     let o = in_run g.T.Transport g.P.Pacer c.args.options.limits c.args.transport.now c.run.new.transport c.run.new.pacer in
-    let T : Type 0 = IsTrue (g.D.Disk.tells c.args.one.now) × IsTrue (g.D.Disk.tells c.args.two.now) in
-    let full = subst (λ (e : RunError). RefusesRun g.D.Disk T o c.run.new.store c.run.new.one c.run.new.two e) f.field-0-is f.ensures.refused in (
+    let full = subst (λ (e : RunError). RefusesRun o c.run.new.store e) f.field-0-is f.ensures.refused in (
       w,
       v,
       takes_up_to o p.turns w v (g.P.Pacer.rests c.args.pacer.now) (g.P.Pacer.rests c.run.new.pacer) c.run.ensures.takes,
       inr (
-        full.journal,
-        fills_at g.D.Disk T o p w c.run.new.store c.run.new.one c.run.new.two (g.P.Pacer.rests c.args.pacer.now) (g.P.Pacer.rests c.run.new.pacer) f.what f.count f.limit c.in_ok-full-in-Err-Full.field-0
+        c.run.new.store.journal,
+        fills_at o p w c.run.new.store (g.P.Pacer.rests c.args.pacer.now) (g.P.Pacer.rests c.run.new.pacer) f.what f.count f.limit c.in_ok-full-in-Err-Full.field-0
             refl full f.ensures.early c.in_ok-full-in-Err-Full.ensures,
       ),
     )
@@ -115,16 +114,15 @@ returns-in-Err-Full-clause-does g c =
     let v = c.run.new.store.world.world in
     let f = c.in-Err-Full in
     let o = in_run g.T.Transport g.P.Pacer c.args.options.limits c.args.transport.now c.run.new.transport c.run.new.pacer in
-    let T : Type 0 = IsTrue (g.D.Disk.tells c.args.one.now) × IsTrue (g.D.Disk.tells c.args.two.now) in
-    let full = subst (λ (e : RunError). RefusesRun g.D.Disk T o c.run.new.store c.run.new.one c.run.new.two e) f.field-0-is f.ensures.refused in
+    let full = subst (λ (e : RunError). RefusesRun o c.run.new.store e) f.field-0-is f.ensures.refused in
     let live = subst (λ (e : RunError). c.run.new.store.live ≡ is_live_after {T = RunEnd} (Err e)) f.field-0-is f.ensures.live in
     let stands = c.run.ensures.still live told told_too in
-    has_filled g.D.Disk p c.args.store c.run.new.store c.args.one.now c.args.two.now c.run.new.one c.run.new.two c.in_ok-full-in-Err-Full.field-0 full.journal stands (full.settled (told, told_too))
+    has_filled g.D.Disk p c.args.store c.run.new.store c.args.one.now c.args.two.now c.run.new.one c.run.new.two c.in_ok-full-in-Err-Full.field-0 stands
     (takes_up_to o p.turns w v (g.P.Pacer.rests c.args.pacer.now) (g.P.Pacer.rests c.run.new.pacer) c.run.ensures.takes)
     c.run.ensures.fits
     (goes_on_journal g.D.Disk c.args.store c.run.new.store c.args.one.now c.args.two.now c.run.new.one c.run.new.two (c.requires.stands told told_too) stands c.run.ensures.place
     (c.run.ensures.any_moment told told_too).untouched)
-    (fills_at g.D.Disk T o p w c.run.new.store c.run.new.one c.run.new.two (g.P.Pacer.rests c.args.pacer.now) (g.P.Pacer.rests c.run.new.pacer) f.what f.count f.limit c.in_ok-full-in-Err-Full.field-0
+    (fills_at o p w c.run.new.store (g.P.Pacer.rests c.args.pacer.now) (g.P.Pacer.rests c.run.new.pacer) f.what f.count f.limit c.in_ok-full-in-Err-Full.field-0
     refl full f.ensures.early c.in_ok-full-in-Err-Full.ensures)
 
 pub returns-in-Ok-clause-untouched : goal.returns-in-Ok-clause-untouched

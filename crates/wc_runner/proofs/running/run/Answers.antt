@@ -9,7 +9,7 @@ use Rattle.wc_runner.specs.declared.error.RunError.{RunError}
 use Rattle.wc_runner.specs.Outside.{in_run}
 use Rattle.wc_runner.specs.Running.{TakesFewer}
 use Rattle.wc_runner.proofs.Accepted.{err_any}
-use Rattle.wc_runner.proofs.UnderWay.{asks, begins, breaks, directories_kept, directories_left, goes_on, moment_told, no_worse, refuses, rests_on, up_to}
+use Rattle.wc_runner.proofs.UnderWay.{asks, begins, breaks, brings_codes, directories_kept, directories_left, goes_on, moment_told, no_worse, refuses, rests_on, up_to}
 use Rattle.wc_runner.proofs.Taken.{ready_there, what_it_needs}
 use Rattle.wc_runner.proofs.running.run.Goals as goal
 
@@ -36,6 +36,10 @@ pub returns-in-AllEnded-clause-marks : goal.returns-in-AllEnded-clause-marks
 returns-in-AllEnded-clause-marks g c =
     no_worse g.D.Disk g.T.Transport g.P.Pacer c.args.limits.now c.args.turns c.args.store.now c.args.one.now c.args.two.now c.args.transport.now c.args.pacer.now c.trip.taken c.trip.taken c.trip.store c.trip.one c.trip.two c.trip.transport c.trip.pacer (c.trip.invariant).way
 
+pub returns-in-AllEnded-clause-codes : goal.returns-in-AllEnded-clause-codes
+returns-in-AllEnded-clause-codes g c =
+    brings_codes g.D.Disk g.T.Transport g.P.Pacer c.args.limits.now c.args.turns c.args.store.now c.args.one.now c.args.two.now c.args.transport.now c.args.pacer.now c.trip.taken c.trip.taken c.trip.store c.trip.one c.trip.two c.trip.transport c.trip.pacer (c.trip.invariant).way
+
 pub returns-in-AllEnded-clause-asked : goal.returns-in-AllEnded-clause-asked
 returns-in-AllEnded-clause-asked g c =
     asks g.D.Disk g.T.Transport g.P.Pacer c.args.limits.now c.args.turns c.args.store.now c.args.one.now c.args.two.now c.args.transport.now c.args.pacer.now c.trip.taken c.trip.taken c.trip.store c.trip.one c.trip.two c.trip.transport c.trip.pacer (c.trip.invariant).way (c.trip.invariant).way.few
@@ -59,6 +63,10 @@ returns-in-Resting-clause-processes g c =
 pub returns-in-Resting-clause-marks : goal.returns-in-Resting-clause-marks
 returns-in-Resting-clause-marks g c =
     no_worse g.D.Disk g.T.Transport g.P.Pacer c.args.limits.now c.args.turns c.args.store.now c.args.one.now c.args.two.now c.args.transport.now c.args.pacer.now c.trip.taken c.trip.taken c.trip.store c.trip.one c.trip.two c.trip.transport c.trip.pacer (c.trip.invariant).way
+
+pub returns-in-Resting-clause-codes : goal.returns-in-Resting-clause-codes
+returns-in-Resting-clause-codes g c =
+    brings_codes g.D.Disk g.T.Transport g.P.Pacer c.args.limits.now c.args.turns c.args.store.now c.args.one.now c.args.two.now c.args.transport.now c.args.pacer.now c.trip.taken c.trip.taken c.trip.store c.trip.one c.trip.two c.trip.transport c.trip.pacer (c.trip.invariant).way
 
 pub returns-in-Resting-clause-asked : goal.returns-in-Resting-clause-asked
 returns-in-Resting-clause-asked g c =
@@ -84,6 +92,10 @@ pub returns-then-taken-turns-clause-marks : goal.returns-then-taken-turns-clause
 returns-then-taken-turns-clause-marks g c =
     no_worse g.D.Disk g.T.Transport g.P.Pacer c.args.limits.now c.args.turns c.args.store.now c.args.one.now c.args.two.now c.args.transport.now c.args.pacer.now c.trip.taken c.trip.taken c.trip.store c.trip.one c.trip.two c.trip.transport c.trip.pacer (c.trip.invariant).way
 
+pub returns-then-taken-turns-clause-codes : goal.returns-then-taken-turns-clause-codes
+returns-then-taken-turns-clause-codes g c =
+    brings_codes g.D.Disk g.T.Transport g.P.Pacer c.args.limits.now c.args.turns c.args.store.now c.args.one.now c.args.two.now c.args.transport.now c.args.pacer.now c.trip.taken c.trip.taken c.trip.store c.trip.one c.trip.two c.trip.transport c.trip.pacer (c.trip.invariant).way
+
 pub returns-then-taken-turns-clause-asked : goal.returns-then-taken-turns-clause-asked
 returns-then-taken-turns-clause-asked g c =
     asks g.D.Disk g.T.Transport g.P.Pacer c.args.limits.now c.args.turns c.args.store.now c.args.one.now c.args.two.now c.args.transport.now c.args.pacer.now c.trip.taken c.trip.taken c.trip.store c.trip.one c.trip.two c.trip.transport c.trip.pacer (c.trip.invariant).way (c.trip.invariant).way.few
@@ -107,6 +119,10 @@ returns-in_err-next-clause-processes g c =
 pub returns-in_err-next-clause-marks : goal.returns-in_err-next-clause-marks
 returns-in_err-next-clause-marks g c =
     no_worse g.D.Disk g.T.Transport g.P.Pacer c.args.limits.now c.args.turns c.args.store.now c.args.one.now c.args.two.now c.args.transport.now c.args.pacer.now c.trip.taken c.trip.taken c.trip.store c.trip.one c.trip.two c.trip.transport c.now-now.new.self (moment_told g.D.Disk g.T.Transport g.P.Pacer c.args.limits.now c.args.turns c.args.store.now c.args.one.now c.args.two.now c.args.transport.now c.args.pacer.now c.trip.taken c.trip.store c.trip.one c.trip.two c.trip.transport c.trip.pacer c.trip.invariant c.now-now.new.self c.now-now.ensures.keeps c.now-now.ensures.rests).way
+
+pub returns-in_err-next-clause-codes : goal.returns-in_err-next-clause-codes
+returns-in_err-next-clause-codes g c =
+    brings_codes g.D.Disk g.T.Transport g.P.Pacer c.args.limits.now c.args.turns c.args.store.now c.args.one.now c.args.two.now c.args.transport.now c.args.pacer.now c.trip.taken c.trip.taken c.trip.store c.trip.one c.trip.two c.trip.transport c.now-now.new.self (moment_told g.D.Disk g.T.Transport g.P.Pacer c.args.limits.now c.args.turns c.args.store.now c.args.one.now c.args.two.now c.args.transport.now c.args.pacer.now c.trip.taken c.trip.store c.trip.one c.trip.two c.trip.transport c.trip.pacer c.trip.invariant c.now-now.new.self c.now-now.ensures.keeps c.now-now.ensures.rests).way
 
 pub returns-in_err-next-clause-asked : goal.returns-in_err-next-clause-asked
 returns-in_err-next-clause-asked g c =
@@ -215,6 +231,22 @@ returns-in-Err-clause-marks g c =
     let way = breaks g.D.Disk g.T.Transport g.P.Pacer c.args.limits.now c.args.turns c.args.store.now c.args.one.now c.args.two.now c.args.transport.now c.args.pacer.now c.trip.taken c.trip.store c.trip.one c.trip.two c.trip.transport c.now-now.new.self u c.in-Turn.pid c.now-now.result c.now-now.ensures.said c.turn_one.new.store c.turn_one.new.one c.turn_one.new.two c.turn_one.new.transport (need s.world.world there.0) stays failed less e.same e.kept e.place e.any_moment e.processes (what_it_needs s.world.world c.in-Turn.pid (AsksOnce failed g.T.Transport.asked c.trip.transport c.turn_one.new.transport) there.0 there.1 e.asks) in
     no_worse g.D.Disk g.T.Transport g.P.Pacer c.args.limits.now c.args.turns c.args.store.now c.args.one.now c.args.two.now c.args.transport.now c.args.pacer.now c.trip.taken (suc c.trip.taken) c.turn_one.new.store c.turn_one.new.one c.turn_one.new.two c.turn_one.new.transport c.now-now.new.self way
 
+pub returns-in-Err-clause-codes : goal.returns-in-Err-clause-codes
+returns-in-Err-clause-codes g c =
+    let less : c.trip.taken < c.args.turns = let few = c.trip.invariant.way.few in let not_all = c.if-taken-turns.false in omega arith in
+    let u = moment_told g.D.Disk g.T.Transport g.P.Pacer c.args.limits.now c.args.turns c.args.store.now c.args.one.now c.args.two.now c.args.transport.now c.args.pacer.now c.trip.taken c.trip.store c.trip.one c.trip.two c.trip.transport c.trip.pacer c.trip.invariant c.now-now.new.self c.now-now.ensures.keeps c.now-now.ensures.rests in
+    let s = c.trip.store in
+    let comes : ComesNext c.world-in-trip.result.now.world c.now-now.result (Turn c.in-Turn.pid)
+    = subst (ComesNext c.world-in-trip.result.now.world c.now-now.result) c.in-Turn.is c.in_ok-next.ensures.comes in
+    let ready : is_ready_at s.world.world c.in-Turn.pid c.now-now.result ≡ true
+    = subst (λ (h : Holding). is_ready_at h.world c.in-Turn.pid c.now-now.result ≡ true) c.world-in-trip.ensures comes in
+    let there = ready_there s.world.world c.in-Turn.pid c.now-now.result ready in
+    let e = c.in-Err.ensures in
+    let failed : Result (Unit {0}) RunError = Err c.in-Err.error in
+    let stays = what_it_needs s.world.world c.in-Turn.pid (λ n. IsAsked g.T.Transport c.in-Turn.pid n c.trip.transport c.turn_one.new.transport) there.0 there.1 e.stays in
+    let way = breaks g.D.Disk g.T.Transport g.P.Pacer c.args.limits.now c.args.turns c.args.store.now c.args.one.now c.args.two.now c.args.transport.now c.args.pacer.now c.trip.taken c.trip.store c.trip.one c.trip.two c.trip.transport c.now-now.new.self u c.in-Turn.pid c.now-now.result c.now-now.ensures.said c.turn_one.new.store c.turn_one.new.one c.turn_one.new.two c.turn_one.new.transport (need s.world.world there.0) stays failed less e.same e.kept e.place e.any_moment e.processes (what_it_needs s.world.world c.in-Turn.pid (AsksOnce failed g.T.Transport.asked c.trip.transport c.turn_one.new.transport) there.0 there.1 e.asks) in
+    brings_codes g.D.Disk g.T.Transport g.P.Pacer c.args.limits.now c.args.turns c.args.store.now c.args.one.now c.args.two.now c.args.transport.now c.args.pacer.now c.trip.taken (suc c.trip.taken) c.turn_one.new.store c.turn_one.new.one c.turn_one.new.two c.turn_one.new.transport c.now-now.new.self way
+
 pub returns-in-Err-clause-asked : goal.returns-in-Err-clause-asked
 returns-in-Err-clause-asked g c =
     let less : c.trip.taken < c.args.turns = let few = c.trip.invariant.way.few in let not_all = c.if-taken-turns.false in omega arith in
@@ -259,7 +291,7 @@ returns-in-Err-clause-refused g c =
     let e = c.in-Err.ensures in
     let failed : Result (Unit {0}) RunError = Err c.in-Err.error in
     let stays = what_it_needs s.world.world c.in-Turn.pid (λ n. IsAsked g.T.Transport c.in-Turn.pid n c.trip.transport c.turn_one.new.transport) there.0 there.1 e.stays in
-    refuses g.D.Disk g.T.Transport g.P.Pacer c.args.limits.now c.args.turns c.args.store.now c.args.one.now c.args.two.now c.args.transport.now c.args.pacer.now c.trip.taken c.trip.store c.trip.one c.trip.two c.trip.transport c.now-now.new.self u c.in-Turn.pid c.now-now.result c.now-now.ensures.said c.turn_one.new.store c.turn_one.new.one c.turn_one.new.two c.turn_one.new.transport (need s.world.world there.0) stays (Unit {0}) c.in-Err.error e.same e.refused e.untouched_one e.untouched_two e.place
+    refuses g.D.Disk g.T.Transport g.P.Pacer c.args.limits.now c.args.turns c.args.store.now c.args.one.now c.args.two.now c.args.transport.now c.args.pacer.now c.trip.taken c.trip.store c.trip.one c.trip.two c.trip.transport c.now-now.new.self u c.in-Turn.pid c.now-now.result c.now-now.ensures.said c.turn_one.new.store c.turn_one.new.one c.turn_one.new.two c.turn_one.new.transport (need s.world.world there.0) stays c.in-Err.error e.same e.kept e.place.2 e.refused
 
 pub trip-preserved : goal.trip-preserved
 trip-preserved g c =

@@ -1,11 +1,11 @@
-use Rattle.std.proofs.Common.{◌≡◌, ◌+◌, inl, Ok, Err, refl, sym, ap, subst, ◌∙◌, ⊎_elim}
+use Rattle.std.proofs.Common.{◌≡◌, ◌+◌, inl, inr, Ok, Err, refl, sym, ap, subst, ◌∙◌, ⊎_elim}
 use Rattle.std.specs.Prelude.{IsSome}
 use Rattle.wc_world.specs.Applied.{applied}
 use Rattle.wc_world.specs.Room.{Holding}
 use Rattle.wc_world.specs.World.{World}
 use Rattle.wc_machine.specs.Asking.{need}
 use Rattle.wc_runner.specs.Asked.{AreOfProcesses, AsksOnce, IsAsked, WhatItNeeds}
-use Rattle.wc_runner.specs.Leaves.{IsOrTurnOf}
+use Rattle.wc_runner.specs.Leaves.{IsOrTurnOf, of_world}
 use Rattle.wc_runner.specs.Outside.{in_turn}
 use Rattle.wc_runner.specs.Refusals.{RefusesPrepared, RefusesStep, RefusesStored}
 use Rattle.wc_runner.specs.Trips.{TurnOf}
@@ -87,7 +87,7 @@ returns-in-Ok-clause-any_moment g c =
     let w = s.world.world in
     let o = in_turn g.T.Transport c.args.limits.now c.args.now c.args.transport.now c.prepared.new.transport in
     let p : IsPrepared o c.args.pid w c.in-Ok.changes = subst (λ (h : Holding). IsPrepared o c.args.pid h.world c.in-Ok.changes) c.world.ensures c.in-Ok.ensures.ok in
-    λ told told_too. commit_leaves g.D.Disk o c.args.pid s.place w (applied w c.in-Ok.changes) c.args.one.now c.args.two.now c.committed.new.one c.committed.new.two (turn_within o c.args.pid w c.in-Ok.changes p) (c.committed.ensures.any_moment told told_too)
+    λ told told_too. commit_leaves g.D.Disk s c.args.limits.now c.in-Ok.changes (IsOrTurnOf o c.args.pid w s.journal) c.args.one.now c.args.two.now c.committed.new.one c.committed.new.two (inl (refl, refl)) (λ next longer. inr (turn_within o c.args.pid w c.in-Ok.changes p s.journal next longer)) (c.committed.ensures.any_moment told told_too)
 
 pub returns-in-Ok-clause-directories : goal.returns-in-Ok-clause-directories
 returns-in-Ok-clause-directories g c =
@@ -103,9 +103,9 @@ returns-in-Ok-clause-directories g c =
     let own : AreOfProcesses (g.T.Transport.placed c.args.transport.now) w → AreOfProcesses (g.T.Transport.placed c.prepared.new.transport) w
     = own_placed c.args.pid (need w there.0) (g.T.Transport.placed c.args.transport.now) (g.T.Transport.placed c.prepared.new.transport) w (subst IsSome (sym there.1) refl) asked.placed in
     λ are told told_too.
-    weaker_leaves g.D.Disk s.place (IsOrTurnOf o c.args.pid w) (AreOfProcesses (g.T.Transport.placed c.prepared.new.transport)) c.args.one.now c.args.two.now c.committed.new.one c.committed.new.two
-    (λ v either. turn_placed o c.args.pid w v (g.T.Transport.placed c.prepared.new.transport) (own are) either)
-    (commit_leaves g.D.Disk o c.args.pid s.place w (applied w c.in-Ok.changes) c.args.one.now c.args.two.now c.committed.new.one c.committed.new.two (turn_within o c.args.pid w c.in-Ok.changes p) (c.committed.ensures.any_moment told told_too))
+    weaker_leaves g.D.Disk s.place (IsOrTurnOf o c.args.pid w s.journal) (of_world (AreOfProcesses (g.T.Transport.placed c.prepared.new.transport))) c.args.one.now c.args.two.now c.committed.new.one c.committed.new.two
+    (λ v journal either. turn_placed o c.args.pid w v s.journal journal (g.T.Transport.placed c.prepared.new.transport) (own are) either)
+    (commit_leaves g.D.Disk s c.args.limits.now c.in-Ok.changes (IsOrTurnOf o c.args.pid w s.journal) c.args.one.now c.args.two.now c.committed.new.one c.committed.new.two (inl (refl, refl)) (λ next longer. inr (turn_within o c.args.pid w c.in-Ok.changes p s.journal next longer)) (c.committed.ensures.any_moment told told_too))
 
 pub returns-in-Ok-clause-processes : goal.returns-in-Ok-clause-processes
 returns-in-Ok-clause-processes g c =
@@ -181,7 +181,7 @@ returns-in-Err-clause-any_moment g c =
     let w = s.world.world in
     let o = in_turn g.T.Transport c.args.limits.now c.args.now c.args.transport.now c.prepared.new.transport in
     let refused : RefusesPrepared o c.args.pid w c.in-Err.error = subst (λ (h : Holding). RefusesPrepared o c.args.pid h.world c.in-Err.error) c.world.ensures c.in-Err.ensures.refused in
-    λ told told_too. stands_leaves g.D.Disk s (IsOrTurnOf o c.args.pid w) c.args.one.now c.args.two.now g.met.D.Disk.only_now (c.requires.stands told told_too) (inl refl)
+    λ told told_too. stands_leaves g.D.Disk s (IsOrTurnOf o c.args.pid w s.journal) c.args.one.now c.args.two.now g.met.D.Disk.only_now (c.requires.stands told told_too) (inl (refl, refl))
 
 pub returns-in-Err-clause-directories : goal.returns-in-Err-clause-directories
 returns-in-Err-clause-directories g c =
@@ -196,7 +196,7 @@ returns-in-Err-clause-directories g c =
     = what_it_needs w c.args.pid (λ n. IsAsked g.T.Transport c.args.pid n c.args.transport.now c.prepared.new.transport) there.0 there.1 stays in
     let own : AreOfProcesses (g.T.Transport.placed c.args.transport.now) w → AreOfProcesses (g.T.Transport.placed c.prepared.new.transport) w
     = own_placed c.args.pid (need w there.0) (g.T.Transport.placed c.args.transport.now) (g.T.Transport.placed c.prepared.new.transport) w (subst IsSome (sym there.1) refl) asked.placed in
-    λ are told told_too. stands_leaves g.D.Disk s (AreOfProcesses (g.T.Transport.placed c.prepared.new.transport)) c.args.one.now c.args.two.now g.met.D.Disk.only_now (c.requires.stands told told_too) (own are)
+    λ are told told_too. stands_leaves g.D.Disk s (of_world (AreOfProcesses (g.T.Transport.placed c.prepared.new.transport))) c.args.one.now c.args.two.now g.met.D.Disk.only_now (c.requires.stands told told_too) (own are)
 
 pub returns-in-Err-clause-processes : goal.returns-in-Err-clause-processes
 returns-in-Err-clause-processes g c =

@@ -1,7 +1,9 @@
-use Rattle.std.proofs.Common.{◌∙◌, ap, sym, Ok, Err}
+use Rattle.std.proofs.Common.{◌∙◌, ℕ, ap, sym, Ok, Err}
 use Rattle.wc_journal.specs.Batches.{payload_of}
 use Rattle.wc_world.specs.World.{World}
 use Rattle.wc_world.specs.Applied.{applied}
+use Rattle.wc_store.specs.Refusals.{byte_limit}
+use Rattle.wc_store.proofs.Commits.{nothing_committed}
 use Rattle.wc_store.proofs.Committed.{settled_there, plain_there, appended_leaves, appended_stands, refused_stands}
 use Rattle.wc_store.proofs.store.Store.commit.Goals as goal
 
@@ -31,7 +33,8 @@ returns-in-Ok-clause-any_moment g c =
     λ told told_too.
     appended_leaves g.D.Disk c.args.self.now c.args.one.now c.args.two.now c.requires.stands told told_too c.args.changes (payload_of c.in_ok-batch.batch) c.byte_limit-limit.result
     c.append_at.new.journal c.append_at.new.one c.append_at.new.two {T = Unit {0}} (Ok tt) c.in_ok-batch.ensures.batch.payload c.in_ok-batch.ensures.batch.written c.requires.plain
-    c.requires.accepted c.in-Ok.ensures.appends c.in-Ok.ensures.untouched
+    c.requires.accepted c.in-Ok.ensures.appends c.in-Ok.ensures.untouched c.args.limits.now
+    (c.byte_limit-limit.ensures ∙ ap (λ (v : ℕ). byte_limit v c.args.limits.now.max_bytes) c.version-version.ensures.value) g.met.D.Disk.only_now
 
 pub returns-in-Err-clause-still : goal.returns-in-Err-clause-still
 returns-in-Err-clause-still g c =
@@ -45,4 +48,10 @@ returns-in-Err-clause-any_moment g c =
     λ told told_too.
     appended_leaves g.D.Disk c.args.self.now c.args.one.now c.args.two.now c.requires.stands told told_too c.args.changes (payload_of c.in_ok-batch.batch) c.byte_limit-limit.result
     c.append_at.new.journal c.append_at.new.one c.append_at.new.two {T = Unit {0}} (Err c.in-Err.error) c.in_ok-batch.ensures.batch.payload c.in_ok-batch.ensures.batch.written
-    c.requires.plain c.requires.accepted c.in-Err.ensures.appends c.in-Err.ensures.untouched
+    c.requires.plain c.requires.accepted c.in-Err.ensures.appends c.in-Err.ensures.untouched c.args.limits.now
+    (c.byte_limit-limit.ensures ∙ ap (λ (v : ℕ). byte_limit v c.args.limits.now.max_bytes) c.version-version.ensures.value) g.met.D.Disk.only_now
+
+pub returns-in_err-batch-clause-any_moment : goal.returns-in_err-batch-clause-any_moment
+returns-in_err-batch-clause-any_moment g c =
+    λ told told_too.
+    nothing_committed g.D.Disk c.args.self.now c.args.one.now c.args.two.now (c.requires.stands told told_too) c.args.limits.now c.args.changes g.met.D.Disk.only_now

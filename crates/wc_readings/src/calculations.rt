@@ -1,209 +1,130 @@
-//! Functions and jobs with their outcomes.
+//! Calculations of files that no command takes, or on inputs that none gives.
 
-use crate::made::{files, numbers, text};
-use crate::rows::{holds, let_go, same};
+use crate::lists::fields_of;
+use crate::rows::let_go;
+use crate::shown::Shown;
+use crate::values::put_json;
 use std::alloc::{AllocError, Global};
-use std::test::Fail;
-use wc_calculation::{
-    Parsed, calculate, calculate_job, environment, parse_result, port_kind, request_of,
-};
+use wc_calculation::{Parsed, calculate, calculate_job, parse_result, request_of};
 use wc_expression::Outcome;
-use wc_json::to_json;
 use wc_parser::parse;
-use wc_state::Env;
-use wc_syntax::{Definition, Function, Job, Library};
-use wc_value::{Fields, JobResult, Kind, ProcessState, Text, Value, decode, encode_request};
+use wc_syntax::{Definition, Job};
+use wc_value::{Bytes, Fields, Files, JobResult, ProcessState, Text, Value, Values};
 
-/// A text x, rules behind the first two, and the state with the outputs.
-const FUNCTIONS: [(&str, &str, &str); 12] = [
-    (" 57\n", "", r#"11 {"n":5}"#),
-    ("x", "", "BadText {}"),
-    ("57", "out t = \"a\";", r#"0 {"n":5,"t":"a"}"#),
-    ("57", "out n = 1;", r#"11 {"n":1}"#),
-    ("57", "out o = 1;", r#"11 {"n":5,"o":1}"#),
-    ("57", "out t = 1;", "WrongKind {}"),
-    ("57", "out p = 1;", "WrongKind {}"),
-    ("57", "exit 310;", r#"310 {"n":5}"#),
-    ("57", "exit 0;", r#"11 {"n":5}"#),
-    ("57", "exit 320 if 1;", "WrongKind {}"),
-    ("57", "exit 320 if u == \"57\"; exit 330;", r#"320 {"n":5}"#),
-    ("57", "exit 320 if u == \"6\"; exit 330;", r#"330 {"n":5}"#),
-];
-
-/// A file of one function, with the output `n` of a tenth of `x`, a text `t` and an optional `o`.
-fn function_file(alloc: Global, rules: &str) -> Result<Library, Fail> {
-    let file = format!(in alloc;
-        "calcfunction f(x: text) -> (n: int, t: text, o?: int) {{
-  let u = trim(x);
-  out n = int(u) / 10;
-  {rules}
-}}"
-    )?;
-    Ok(parse(alloc, &Text::of_string(file)?)?)
+/// A list in which a value stands.
+fn list_of(alloc: Global, value: Value) -> Result<Value, AllocError> {
+    let mut items = Values::new(alloc);
+    items.push(value)?;
+    Ok(Value::List(items))
 }
 
-fn function(library: &Library) -> Option<&Function> {
-    match library.as_slice() {
-        [Definition::Function(function)] => Some(function),
-        _ => None,
+/// A list of 33 levels.
+fn deeper(alloc: Global) -> Result<Value, AllocError> {
+    let mut value = Value::List(Values::new(alloc));
+    for _level in 0..32u8 {
+        value = list_of(alloc, value)?;
     }
+    Ok(value)
 }
 
-/// The input `x`, a text.
-fn inputs(alloc: Global, x: &str) -> Result<Fields, AllocError> {
+/// An input `deeper`.
+fn input_of(alloc: Global, value: Value) -> Result<Fields, AllocError> {
     let mut inputs = Fields::new(alloc);
-    inputs.set(Text::of_str(alloc, "x")?, text(alloc, x)?)?;
+    inputs.set(Text::of_str(alloc, "deeper")?, value)?;
     Ok(inputs)
 }
 
-/// A calculation's state, and its outputs as JSON.
-fn shown(alloc: Global, parsed: Parsed) -> Result<String, AllocError> {
-    let outputs = to_json(alloc, &Value::Dict(parsed.outputs))?;
-    match parsed.state {
-        ProcessState::Finished(status) => format!(in alloc; "{status} {}", outputs.as_str()),
-        ProcessState::Excepted(reason) => format!(in alloc; "{reason:?} {}", outputs.as_str()),
-        _ => String::from_str(alloc, "live"),
+/// Whole numbers by their ports, from words like `x=1`, or a list of 33 levels.
+fn inputs_of(alloc: Global, text: &str) -> Result<Fields, AllocError> {
+    if text == "deeper" {
+        return input_of(alloc, deeper(alloc)?);
+    }
+    fields_of(alloc, text)
+}
+
+/// A result with the code 0 and the file `y`.
+fn result(alloc: Global) -> Result<JobResult, AllocError> {
+    let mut content = Bytes::new(alloc);
+    content.push(b'9')?;
+    let mut files = Files::new(alloc);
+    files.set(Text::of_str(alloc, "y")?, content)?;
+    Ok(JobResult { code: 0, files })
+}
+
+/// Puts the state of a calculation and its outputs.
+fn put_parsed(alloc: Global, shown: &mut Shown, parsed: Parsed) {
+    let Parsed { state, outputs } = parsed;
+    match state {
+        ProcessState::Finished(status) => shown.put_item(&status),
+        ProcessState::Excepted(reason) => shown.put_word(&reason),
+        _ => shown.put("goes on"),
+    }
+    shown.put(" ");
+    put_json(alloc, shown, Value::Dict(outputs));
+}
+
+/// Puts the end of a calculation.
+fn put_end(alloc: Global, shown: &mut Shown, end: Result<Parsed, AllocError>) {
+    match end {
+        Ok(parsed) => put_parsed(alloc, shown, parsed),
+        Err(_) => shown.lose(),
     }
 }
 
-fn calculates(alloc: Global, x: &str, rules: &str, wanted: &str) -> Result<(), Fail> {
-    let library = function_file(alloc, rules)?;
-    let function = function(&library).ok_or("a function")?;
-    let parsed = calculate(alloc, function, &inputs(alloc, x)?)?;
-    same(rules, shown(alloc, parsed)?.as_str(), wanted)
-}
-
-/// An environment has the input `x`, of no node, and no key.
-fn has_one_input(env: &Env) -> Result<(), Fail> {
-    let input = env.inputs.find(b"x").ok_or("an input")?;
-    holds("of no node", input.node == 0)?;
-    holds("no context", env.ctx.len() == 0)
-}
-
-/// Inputs stand in the environment, and outputs have their kinds.
-fn has_ports(alloc: Global) -> Result<(), Fail> {
-    let env = environment(alloc, &inputs(alloc, "cat")?)?;
-    let found = has_one_input(&env);
-    let_go(env);
-    found?;
-    let library = function_file(alloc, "")?;
-    let ports = function(&library)
-        .ok_or("a function")?
-        .head
-        .outputs
-        .as_slice();
-    holds("a text", port_kind(ports, b"t") == Some(Kind::Text))?;
-    holds("no output", port_kind(ports, b"x").is_none())
-}
-
-fn all_calculate(alloc: Global, rows: &[(&str, &str, &str)]) -> Result<(), Fail> {
-    for (x, rules, wanted) in rows {
-        calculates(alloc, x, rules, wanted)?;
-    }
-    Ok(())
-}
-
-#[test]
-fn functions_have_outcomes(rt: HostRuntime) -> Result<(), Fail> {
-    all_calculate(rt.alloc(), &FUNCTIONS)?;
-    has_ports(rt.alloc())
-}
-
-/// A file of one job, whose rules read the file `y`.
-const JOB: &str = "calcjob j(x: text) -> (y: int) {
-  program x; arg \"-n\"; arg x; file \"in\" = x + \"!\"; fetch \"y\";
-  parse {
-    exit 310 if code != 0;
-    out y = int(file(retrieved, \"y\"));
-  }
-}";
-
-fn job_file(alloc: Global) -> Result<Library, Fail> {
-    Ok(parse(alloc, &Text::of_str(alloc, JOB)?)?)
-}
-
-fn job(library: &Library) -> Option<&Job> {
-    match library.as_slice() {
-        [Definition::Job(job)] => Some(job),
-        _ => None,
-    }
-}
-
-/// The request of the job for its inputs as JSON, or the reason that there is none.
-fn asked(alloc: Global, inputs: &Fields) -> Result<String, Fail> {
-    let library = job_file(alloc)?;
-    match request_of(alloc, job(&library).ok_or("a job")?, inputs)? {
-        Outcome::Gives(request) => {
-            let value = decode(alloc, encode_request(alloc, &request)?.bytes())?;
-            let json = to_json(alloc, &value)?;
-            Ok(String::from_str(alloc, json.as_str())?)
+/// Puts which program a job asks for, or why it asks for none.
+fn put_asked(alloc: Global, shown: &mut Shown, job: &Job, inputs: &Fields) {
+    match request_of(alloc, job, inputs) {
+        Ok(Outcome::Gives(request)) => {
+            shown.put("asks ");
+            shown.put(request.program.as_str());
         }
-        Outcome::Faults(reason) => Ok(format!(in alloc; "{reason:?}")?),
+        Ok(Outcome::Faults(reason)) => shown.put_word(&reason),
+        Err(_) => shown.lose(),
+    }
+    shown.put(", ");
+}
+
+/// Puts what a job asks for, and what it makes of a result by its rules alone and as a whole.
+fn put_job(alloc: Global, shown: &mut Shown, job: &Job, inputs: &Fields) {
+    put_asked(alloc, shown, job, inputs);
+    let Ok(given) = result(alloc) else {
+        shown.lose();
+        return;
+    };
+    put_end(alloc, shown, parse_result(alloc, job, inputs, &given));
+    shown.put(", ");
+    put_end(alloc, shown, calculate_job(alloc, job, inputs, &given));
+}
+
+/// Puts what the only definition of a file makes of inputs.
+fn put_made(alloc: Global, shown: &mut Shown, library: &[Definition], inputs: &Fields) {
+    match library {
+        [Definition::Function(function)] => {
+            put_end(alloc, shown, calculate(alloc, function, inputs));
+        }
+        [Definition::Job(job)] => put_job(alloc, shown, job, inputs),
+        _ => shown.put("no calculation"),
     }
 }
 
-/// A code, a content of the file `y`, and the state with the outputs.
-const RESULTS: [(i64, &str, &str); 3] = [
-    (0, "9", r#"0 {"retrieved":{"y":"9"},"y":9}"#),
-    (3, "9", r#"310 {"retrieved":{"y":"9"}}"#),
-    (0, "nine", r#"BadText {"retrieved":{"y":"nine"}}"#),
-];
-
-/// A result with a code and the file `y`.
-fn result(alloc: Global, code: i64, y: &str) -> Result<JobResult, AllocError> {
-    Ok(JobResult {
-        code,
-        files: files(alloc, &[("y", y.as_bytes())])?,
-    })
-}
-
-/// What the job makes of a result by its rules alone.
-fn parsed(alloc: Global, inputs: &Fields, given: &JobResult) -> Result<String, Fail> {
-    let library = job_file(alloc)?;
-    let parsed = parse_result(alloc, job(&library).ok_or("a job")?, inputs, given)?;
-    Ok(shown(alloc, parsed)?)
-}
-
-/// What the job makes of a result, where it has a request.
-fn concluded(alloc: Global, inputs: &Fields, given: &JobResult) -> Result<String, Fail> {
-    let library = job_file(alloc)?;
-    let outcome = calculate_job(alloc, job(&library).ok_or("a job")?, inputs, given)?;
-    Ok(shown(alloc, outcome)?)
-}
-
-fn reads(alloc: Global, code: i64, y: &str, wanted: &str) -> Result<(), Fail> {
-    let (inputs, given) = (inputs(alloc, "cat")?, result(alloc, code, y)?);
-    same(y, parsed(alloc, &inputs, &given)?.as_str(), wanted)?;
-    same(y, concluded(alloc, &inputs, &given)?.as_str(), wanted)
-}
-
-fn all_read(alloc: Global, rows: &[(i64, &str, &str)]) -> Result<(), Fail> {
-    for (code, y, wanted) in rows {
-        reads(alloc, *code, y, wanted)?;
+/// Puts what a file makes of inputs.
+fn put_outcome(alloc: Global, shown: &mut Shown, file: &Text, inputs: &Fields) {
+    match parse(alloc, file) {
+        Ok(library) => put_made(alloc, shown, library.as_slice(), inputs),
+        Err(error) => shown.put_item(&error),
     }
-    Ok(())
 }
 
-/// A job without its input has no request.
-fn needs_its_input(alloc: Global) -> Result<(), Fail> {
-    let (none, given) = (Fields::new(alloc), result(alloc, 0, "9")?);
-    same("no x", asked(alloc, &none)?.as_str(), "MissingKey")?;
-    same("no x", parsed(alloc, &none, &given)?.as_str(), RESULTS[0].2)?;
-    same(
-        "no x",
-        concluded(alloc, &none, &given)?.as_str(),
-        "MissingKey {}",
-    )
-}
-
-#[test]
-fn jobs_have_requests_and_outcomes(rt: HostRuntime) -> Result<(), Fail> {
-    let alloc = rt.alloc();
-    let found = asked(alloc, &inputs(alloc, "cat")?)?;
-    let wanted = r#"{"args":["-n","cat"],"fetch":["y"],"files":{"in":"cat!"},"program":"cat"}"#;
-    same("cat", found.as_str(), wanted)?;
-    let number = numbers(alloc, &[("x", 1)])?;
-    same("a number", asked(alloc, &number)?.as_str(), "WrongKind")?;
-    all_read(alloc, &RESULTS)?;
-    needs_its_input(alloc)
+/// Puts what the file below the first line makes of the inputs that this says.
+pub fn put_calculation(alloc: Global, shown: &mut Shown, text: &str) {
+    let (inputs, file) = text.split_once('\n').unwrap_or((text, ""));
+    let Ok(inputs) = inputs_of(alloc, inputs) else {
+        shown.lose();
+        return;
+    };
+    match Text::of_str(alloc, file) {
+        Ok(file) => put_outcome(alloc, shown, &file, &inputs),
+        Err(_) => shown.lose(),
+    }
+    let_go(inputs);
 }

@@ -1,72 +1,121 @@
-//! The lists that values are made of, where memory is ample.
+//! The lists that values are made of.
 
-use crate::made::{bytes, numbers, words};
-use crate::rows::holds;
-use std::alloc::Global;
-use std::test::Fail;
-use wc_value::{Boxed, Duplicate, Kind, Roomy, Text, Value, same_fields, same_value, same_words};
+use crate::rows::let_go;
+use crate::shown::Shown;
+use crate::values::put_json;
+use std::alloc::{AllocError, Global};
+use wc_value::{Boxed, Duplicate, Fields, Roomy, Text, Value, Words, same_fields, same_words};
 
-/// A copy, through the bound alone.
-pub fn copied<T: Duplicate>(item: &T) -> Result<T, Fail> {
-    Ok(item.copy()?)
+/// Puts what is so and what isn't.
+pub fn put_facts(shown: &mut Shown, facts: &[(&str, bool)]) {
+    for (what, is_so) in facts {
+        shown.put(if *is_so { "" } else { "not " });
+        shown.put(what);
+        shown.put("; ");
+    }
 }
 
-fn words_are_a_list(alloc: Global) -> Result<(), Fail> {
-    let list = words(alloc, &["b", "a"])?;
-    holds("two words", list.len() == 2)?;
-    holds("emptied", list.emptied().is_empty())?;
-    holds("no third word", list.get(2).is_none())?;
-    holds("a copy", same_words(&copied(&list)?, &list))?;
-    holds("two items", list.into_vec().len() == 2)
+/// The words of a text.
+fn words_of(alloc: Global, text: &str) -> Result<Words, AllocError> {
+    let mut words = Words::new(alloc);
+    for word in text.split(' ') {
+        words.push(Text::of_str(alloc, word)?)?;
+    }
+    Ok(words)
 }
 
-fn fields_have_keys(alloc: Global) -> Result<(), Fail> {
-    let fields = numbers(alloc, &[("k", 1)])?;
-    holds("one field", fields.len() == 1)?;
-    holds("l is past k", fields.goes_last(b"l"))?;
-    holds("k isn't past k", !fields.goes_last(b"k"))?;
-    holds("k", fields.find(b"k").is_some())?;
-    holds("no l", fields.find(b"l").is_none())?;
-    holds("no second field", fields.get(1).is_none())?;
-    holds("emptied", fields.emptied().as_slice().is_empty())?;
-    holds("a copy", same_fields(&copied(&fields)?, &fields))
+/// Puts what words answer, and a copy of them.
+fn put_word_facts(shown: &mut Shown, words: Words, copy: &Words) {
+    let count = words.len();
+    put_facts(
+        shown,
+        &[
+            ("two", count == 2),
+            ("emptied", words.emptied().is_empty()),
+            ("one behind", words.get(count).is_some()),
+            ("copied", same_words(copy, &words)),
+            ("taken", words.into_vec().len() == count),
+        ],
+    );
 }
 
-fn fields_ascend(alloc: Global) -> Result<(), Fail> {
-    let both = numbers(alloc, &[("k", 1), ("a", 2), ("k", 3)])?;
-    holds("two fields", both.len() == 2)?;
-    let (key, _) = both.get(0).ok_or("a first field")?;
-    holds("a first", key.as_str() == "a")?;
-    let last = both.find(b"k").ok_or("a field k")?;
-    holds("the last k", same_value(last, &Value::Int(3)))
+/// Puts what the words of a text answer.
+pub fn put_words(alloc: Global, shown: &mut Shown, text: &str) {
+    match words_of(alloc, text) {
+        Ok(words) => match words.copy() {
+            Ok(copy) => put_word_facts(shown, words, &copy),
+            Err(_) => shown.lose(),
+        },
+        Err(_) => shown.lose(),
+    }
 }
 
-fn rooms_hold_items(alloc: Global) -> Result<(), Fail> {
+/// Whole numbers by their keys, from words like `k=1`.
+pub fn fields_of(alloc: Global, text: &str) -> Result<Fields, AllocError> {
+    let mut fields = Fields::new(alloc);
+    for field in text.split(' ') {
+        let (key, number) = field.split_once('=').unwrap_or((field, ""));
+        let key = Text::of_str(alloc, key)?;
+        fields.set(key, Value::Int(number.parse().unwrap_or(0)))?;
+    }
+    Ok(fields)
+}
+
+/// Puts what fields answer, and a copy of them.
+fn put_field_facts(shown: &mut Shown, fields: &Fields, copy: &Fields) {
+    let count = fields.len();
+    put_facts(
+        shown,
+        &[
+            ("one", count == 1),
+            ("emptied", fields.emptied().len() == 0),
+            ("k there", fields.find(b"k").is_some()),
+            ("l there", fields.find(b"l").is_some()),
+            ("k last", fields.goes_last(b"k")),
+            ("l last", fields.goes_last(b"l")),
+            ("one behind", fields.get(count).is_some()),
+            ("copied", same_fields(copy, fields)),
+        ],
+    );
+}
+
+/// Puts the fields of a text as JSON, and what they answer.
+pub fn put_fields(alloc: Global, shown: &mut Shown, text: &str) {
+    match fields_of(alloc, text) {
+        Ok(fields) => match fields.copy() {
+            Ok(copy) => {
+                put_field_facts(shown, &fields, &copy);
+                put_json(alloc, shown, Value::Dict(copy));
+                let_go(fields);
+            }
+            Err(_) => shown.lose(),
+        },
+        Err(_) => shown.lose(),
+    }
+}
+
+/// A list with room and a box, each with an item.
+fn rooms(alloc: Global) -> Result<(Roomy<u8>, Boxed<u32>), AllocError> {
     let mut roomy = Roomy::new(alloc);
     roomy.reserve(2)?;
     roomy.push(7u8)?;
-    holds("one item", roomy.len() == 1)?;
-    holds("7", roomy.get(0).copied() == Some(7))?;
-    holds("7 alone", roomy.as_slice() == [7u8].as_slice())?;
-    let boxed = Boxed::new(alloc, 4u32)?;
-    holds("4", *boxed.get() == 4)?;
-    holds("4 taken out", boxed.into_inner() == 4)
+    Ok((roomy, Boxed::new(alloc, 4u32)?))
 }
 
-fn texts_are_utf8(alloc: Global) -> Result<(), Fail> {
-    holds("no text", Text::of(bytes(alloc, &[255])?).is_none())?;
-    let text = Text::of(bytes(alloc, b"t")?).ok_or("a text")?;
-    holds("t", text.as_str() == "t")
-}
-
-#[test]
-fn lists_hold_items(rt: HostRuntime) -> Result<(), Fail> {
-    let alloc = rt.alloc();
-    words_are_a_list(alloc)?;
-    fields_have_keys(alloc)?;
-    fields_ascend(alloc)?;
-    rooms_hold_items(alloc)?;
-    texts_are_utf8(alloc)?;
-    holds("two", copied(&Some((3u32, true)))? == Some((3, true)))?;
-    holds("a kind", copied(&(4u64, Kind::Text))? == (4, Kind::Text))
+/// Puts what a list with room and a box answer.
+pub fn put_rooms(alloc: Global, shown: &mut Shown) {
+    let Ok((roomy, boxed)) = rooms(alloc) else {
+        shown.lose();
+        return;
+    };
+    put_facts(
+        shown,
+        &[
+            ("one", roomy.len() == 1),
+            ("7", roomy.get(0).copied() == Some(7)),
+            ("7 alone", roomy.as_slice() == [7u8].as_slice()),
+            ("4", *boxed.get() == 4),
+            ("4 taken", boxed.into_inner() == 4),
+        ],
+    );
 }

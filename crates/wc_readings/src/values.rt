@@ -1,116 +1,122 @@
-//! Canonical bytes: the values that they spell, and where other bytes are refused.
+//! Bytes as values and texts, and JSON as values.
 
-use crate::rows::{holds, same};
+use crate::rows::let_go;
+use crate::shown::Shown;
 use std::alloc::{AllocError, Global};
-use std::test::Fail;
-use wc_json::to_json;
+use wc_json::{JsonError, from_json, to_json};
 use wc_value::{
-    Bytes, Duplicate, Kind, Value, decode, encode, is_within, is_within_depth, same_value,
+    Bytes, Duplicate, Kind, Text, Value, decode, encode, is_within, is_within_depth, same_value,
 };
 
-/// Bytes, and the kind and the JSON of the value that they spell.
-const SPELLED: [(&[u8], Kind, &str); 8] = [
-    (&[1, 0, 0, 0, 0, 0, 0, 0, 5], Kind::Int, "5"),
-    (
-        &[1, 255, 255, 255, 255, 255, 255, 255, 254],
-        Kind::Int,
-        "-2",
-    ),
-    (&[2, 0], Kind::Bool, "false"),
-    (&[2, 1], Kind::Bool, "true"),
-    (&[3, 0, 0, 0, 3, 104, 195, 169], Kind::Text, r#""hé""#),
-    (&[4, 0, 0, 0, 1, 2, 1], Kind::List, "[true]"),
-    (
-        &[5, 0, 0, 0, 1, 0, 0, 0, 1, 97, 2, 0],
-        Kind::Dict,
-        r#"{"a":false}"#,
-    ),
-    (
-        &[6, 0, 0, 0, 1, 0, 0, 0, 1, 102, 0, 0, 0, 2, 0, 255],
-        Kind::Folder,
-        r#"{"f":{"hex":"00ff"}}"#,
-    ),
-];
-
-/// Bytes that spell nothing, and the first refusal.
-const REFUSED: [(&[u8], &str); 9] = [
-    (&[1, 0, 0, 0, 0, 0, 0, 0], "truncated at 8"),
-    (&[1, 0, 0, 0, 0, 0, 0, 0, 5, 0], "trailing bytes at 9"),
-    (
-        &[5, 0, 0, 0, 2, 0, 0, 0, 1, 98, 2, 1, 0, 0, 0, 1, 97, 2, 0],
-        "unsorted at 12",
-    ),
-    (&[4, 255, 255, 255, 255], "truncated at 5"),
-    (&[], "truncated at 0"),
-    (&[7], "bad tag at 0"),
-    (&[2, 2], "bad tag at 1"),
-    (&[3, 0, 0, 0, 1, 255], "not UTF-8 at 5"),
-    (&[6, 0, 0, 0, 1, 0, 0, 0, 0, 0, 0, 0, 1], "truncated at 13"),
-];
-
-/// Reads bytes, and writes a copy of their value.
-fn spells(alloc: Global, bytes: &[u8], kind: Kind, json: &str) -> Result<(), Fail> {
-    let value = decode(alloc, bytes)?;
-    let copy = value.copy()?;
-    same("the value", to_json(alloc, &value)?.as_str(), json)?;
-    holds(json, value.kind() == kind)?;
-    holds(json, same_value(&copy, &value))?;
-    holds(json, encode(alloc, &copy)?.bytes() == bytes)
-}
-
-/// The refusal of bytes, or the JSON of their value.
-fn refusal(alloc: Global, bytes: &[u8]) -> Result<String, Fail> {
-    match decode(alloc, bytes) {
-        Ok(value) => Ok(format!(in alloc; "{}", to_json(alloc, &value)?.as_str())?),
-        Err(error) => Ok(format!(in alloc; "{error}")?),
-    }
-}
-
-fn refused(alloc: Global, bytes: &[u8], wanted: &str) -> Result<(), Fail> {
-    same("bytes", refusal(alloc, bytes)?.as_str(), wanted)
-}
-
-/// The first bytes of 32 lists in one another.
-fn lists(alloc: Global) -> Result<Bytes, AllocError> {
+/// The bytes of hexadecimal digits, or none where something else stands there.
+fn bytes_of(alloc: Global, digits: &str) -> Result<Bytes, AllocError> {
     let mut bytes = Bytes::new(alloc);
-    for _level in 0..32u8 {
-        bytes.extend(&[4, 0, 0, 0, 1])?;
+    if let Ok(read) = hex::decode(alloc, digits.as_bytes()) {
+        bytes.extend(read.as_slice())?;
     }
     Ok(bytes)
 }
 
-fn all_spell(alloc: Global, rows: &[(&[u8], Kind, &str)]) -> Result<(), Fail> {
-    for (bytes, kind, json) in rows {
-        spells(alloc, bytes, *kind, json)?;
+/// Puts a value as JSON, and lets it go.
+pub fn put_json(alloc: Global, shown: &mut Shown, value: Value) {
+    match to_json(alloc, &value) {
+        Ok(json) => shown.put(json.as_str()),
+        Err(_) => shown.lose(),
     }
-    Ok(())
+    let_go(value);
 }
 
-/// A value of 7 bytes, two levels deep.
-fn is_limited(list: &Value) -> Result<(), Fail> {
-    holds("7 bytes", is_within(list, 7, 2))?;
-    holds("more than 6 bytes", !is_within(list, 6, 2))?;
-    holds("deeper than 1", !is_within_depth(list, 1))
-}
-
-#[test]
-fn bytes_spell_values(rt: HostRuntime) -> Result<(), Fail> {
-    all_spell(rt.alloc(), &SPELLED)?;
-    is_limited(&decode(rt.alloc(), SPELLED[5].0)?)
-}
-
-fn all_refused(alloc: Global, rows: &[(&[u8], &str)]) -> Result<(), Fail> {
-    for (bytes, wanted) in rows {
-        refused(alloc, bytes, wanted)?;
+/// Whether these bytes spell a value.
+fn spells(alloc: Global, bytes: &[u8], value: &Value) -> bool {
+    match encode(alloc, value) {
+        Ok(spelled) => spelled.bytes() == bytes,
+        Err(_) => false,
     }
-    Ok(())
 }
 
-#[test]
-fn other_bytes_are_refused(rt: HostRuntime) -> Result<(), Fail> {
-    all_refused(rt.alloc(), &REFUSED)?;
-    let mut deep = lists(rt.alloc())?;
-    refused(rt.alloc(), deep.bytes(), "truncated at 160")?;
-    deep.push(1)?;
-    refused(rt.alloc(), deep.bytes(), "too deep at 160")
+/// Whether a copy of a value is the same, and is spelled by these bytes.
+fn is_spelled(alloc: Global, value: &Value, bytes: &[u8]) -> bool {
+    match value.copy() {
+        Ok(copy) => {
+            let is_spelled = same_value(&copy, value) && spells(alloc, bytes, &copy);
+            let_go(copy);
+            is_spelled
+        }
+        Err(_) => false,
+    }
+}
+
+/// Puts the kind and the JSON of a value that these bytes spell.
+fn put_value(alloc: Global, shown: &mut Shown, value: Value, bytes: &[u8]) {
+    if !is_spelled(alloc, &value, bytes) {
+        shown.put("otherwise spelled ");
+    }
+    shown.put_word(&value.kind());
+    shown.put(" ");
+    put_json(alloc, shown, value);
+}
+
+/// Puts the value that bytes spell, or why they spell none.
+pub fn put_bytes(alloc: Global, shown: &mut Shown, digits: &str) {
+    let Ok(bytes) = bytes_of(alloc, digits) else {
+        shown.lose();
+        return;
+    };
+    match decode(alloc, bytes.bytes()) {
+        Ok(value) => put_value(alloc, shown, value, bytes.bytes()),
+        Err(error) => shown.put_item(&error),
+    }
+}
+
+/// Puts whether a value of two levels is within its number of bytes, within one byte less, and within one level.
+fn put_within(shown: &mut Shown, value: &Value, length: usize) {
+    shown.put_item(&is_within(value, length, 2));
+    shown.put(", ");
+    shown.put_item(&is_within(value, length.saturating_sub(1), 2));
+    shown.put(", ");
+    shown.put_item(&is_within_depth(value, 1));
+}
+
+/// Puts in which limits the value is that bytes spell.
+pub fn put_limits(alloc: Global, shown: &mut Shown, digits: &str) {
+    let Ok(bytes) = bytes_of(alloc, digits) else {
+        shown.lose();
+        return;
+    };
+    match decode(alloc, bytes.bytes()) {
+        Ok(value) => {
+            put_within(shown, &value, bytes.len());
+            let_go(value);
+        }
+        Err(error) => shown.put_item(&error),
+    }
+}
+
+/// Puts the text that bytes are, if they are one.
+pub fn put_text(alloc: Global, shown: &mut Shown, digits: &str) {
+    match bytes_of(alloc, digits) {
+        Ok(bytes) => match Text::of(bytes) {
+            Some(text) => shown.put(text.as_str()),
+            None => shown.put("no text"),
+        },
+        Err(_) => shown.lose(),
+    }
+}
+
+/// Puts why JSON is refused, and at which path.
+fn put_refusal(shown: &mut Shown, why: &str, path: &Text) {
+    shown.put(why);
+    shown.put(path.as_str());
+}
+
+/// Puts a text that is read as a value of a kind, written again, or why it is refused.
+pub fn put_read(alloc: Global, shown: &mut Shown, kind: Kind, text: &str) {
+    match from_json(alloc, text.as_bytes(), kind) {
+        Ok(value) => put_json(alloc, shown, value),
+        Err(JsonError::NotJson) => shown.put("not json"),
+        Err(JsonError::Float(path)) => put_refusal(shown, "float at ", &path),
+        Err(JsonError::OutOfRange(path)) => put_refusal(shown, "out of range at ", &path),
+        Err(JsonError::Shape(path)) => put_refusal(shown, "shape at ", &path),
+        Err(JsonError::OutOfMemory) => shown.lose(),
+    }
 }

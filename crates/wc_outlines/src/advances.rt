@@ -1,117 +1,149 @@
 //! One advance of the work chain, and its answer as text.
 
-use crate::given::{checkpoint, env, library};
+use crate::given::{checkpoint, env};
+use crate::libraries::library;
 use crate::shown::put_answer;
-use crate::wrong::{Wrong, let_go, same};
 use std::alloc::{AllocError, Global};
 use wc_outline::{Advanced, advance, is_chain};
+use wc_questions::{both, first_word, let_go};
 use wc_state::{Awaits, Checkpoint, Env};
 use wc_syntax::Checked;
 use wc_value::Text;
 
-/// One advance of a work chain. This says nothing of the call, so that no test carries what it promises.
-fn advance_chain(
+/// Where an advance begins: the frames, how many calls were made, and the depth of the chain.
+#[derive(Clone, Copy)]
+struct Start<'a> {
+    places: &'a str,
+    calls: u32,
+    depth: u32,
+}
+
+/// An answer as text.
+fn answer_text(alloc: Global, answer: &Advanced) -> Result<String, AllocError> {
+    let mut text = String::new(alloc);
+    put_answer(alloc, &mut text, answer)?;
+    Ok(text)
+}
+
+/// What came of an advance, as text.
+fn told(alloc: Global, answer: Result<Advanced, AllocError>) -> Result<String, AllocError> {
+    match answer {
+        Ok(answer) => {
+            let text = answer_text(alloc, &answer);
+            let_go(answer);
+            text
+        }
+        Err(error) => Err(error),
+    }
+}
+
+/// The answer of one advance of a work chain.
+fn advanced(
     alloc: Global,
     library: &Checked,
     chain: &Text,
     depth: u32,
     checkpoint: Checkpoint,
     env: Env,
-) -> Result<Advanced, Wrong> {
+) -> Result<String, AllocError> {
     if !is_chain(library, chain) {
         let_go(checkpoint);
         let_go(env);
-        return Err(Wrong::Not("the library has its work chain"));
+        return String::from_str(alloc, "no chain");
     }
-    match advance(alloc, library, chain, depth, checkpoint, env) {
-        Ok(answer) => Ok(answer),
-        Err(_) => Err(Wrong::OutOfMemory),
-    }
+    told(
+        alloc,
+        advance(alloc, library, chain, depth, checkpoint, env),
+    )
 }
 
-/// The name of the work chain, and the environment.
-fn surroundings(alloc: Global) -> Result<(Text, Env), AllocError> {
+/// The checkpoint and the environment with which an advance begins.
+fn begun(alloc: Global, start: Start<'_>) -> Result<(Checkpoint, Env), AllocError> {
+    let checkpoint = checkpoint(alloc, start.places, Awaits::new(alloc), start.calls)?;
+    both(checkpoint, env(alloc))
+}
+
+/// The answer of one advance of `w` in a library.
+fn advanced_in(alloc: Global, library: &Checked, start: Start<'_>) -> Result<String, AllocError> {
     let chain = Text::of_str(alloc, "w")?;
-    Ok((chain, env(alloc)?))
-}
-
-/// One advance of `w` in the environment.
-fn answer(
-    alloc: Global,
-    library: &Checked,
-    depth: u32,
-    checkpoint: Checkpoint,
-) -> Result<Advanced, Wrong> {
-    match surroundings(alloc) {
-        Ok((chain, env)) => advance_chain(alloc, library, &chain, depth, checkpoint, env),
-        Err(_) => {
-            let_go(checkpoint);
-            Err(Wrong::OutOfMemory)
-        }
+    match begun(alloc, start) {
+        Ok((checkpoint, env)) => { advanced(alloc, library, &chain, start.depth, checkpoint, env) }
+        Err(error) => Err(error),
     }
 }
 
-/// Whether a text found memory, as a test tells it.
-fn told(put: Result<(), AllocError>) -> Result<(), Wrong> {
-    Ok(put?)
-}
-
-/// Puts an answer that there may be behind a text.
-fn put_came(
-    alloc: Global,
-    text: &mut String,
-    answer: Result<Advanced, Wrong>,
-) -> Result<(), Wrong> {
-    match answer {
-        Ok(answer) => {
-            let put = put_answer(alloc, text, &answer);
-            let_go(answer);
-            told(put)
-        }
-        Err(wrong) => Err(wrong),
-    }
-}
-
-/// Puts the answer of one advance from a checkpoint that there may be, at a depth, behind a text.
-fn put_advanced(
-    alloc: Global,
-    text: &mut String,
-    library: &Checked,
-    depth: u32,
-    checkpoint: Result<Checkpoint, AllocError>,
-) -> Result<(), Wrong> {
-    match checkpoint {
-        Ok(checkpoint) => put_came(alloc, text, answer(alloc, library, depth, checkpoint)),
-        Err(_) => Err(Wrong::OutOfMemory),
-    }
-}
-
-/// Puts the answer of one advance of a chain with this outline behind a text.
-fn put_of(
-    alloc: Global,
-    text: &mut String,
-    outline: &str,
-    depth: u32,
-    checkpoint: Result<Checkpoint, AllocError>,
-) -> Result<(), Wrong> {
+/// The answer of one advance of `w` with this outline.
+fn advanced_by(alloc: Global, outline: &str, start: Start<'_>) -> Result<String, AllocError> {
     match library(alloc, outline) {
-        Ok(library) => put_advanced(alloc, text, &library, depth, checkpoint),
-        Err(wrong) => Err(wrong),
+        Ok(library) => advanced_in(alloc, &library, start),
+        Err(error) => Err(error),
     }
 }
 
-/// Fails where one advance of a chain with this outline, from these frames, with so many calls made, at a depth, has
-/// another answer.
-pub fn expect(
-    alloc: Global,
-    outline: &str,
-    places: &[(u32, u32)],
-    calls: u32,
-    depth: u32,
-    wanted: &str,
-) -> Result<(), Wrong> {
-    let mut text = String::new(alloc);
-    let checkpoint = checkpoint(alloc, places, Awaits::new(alloc), calls);
-    put_of(alloc, &mut text, outline, depth, checkpoint)?;
-    same(alloc, outline, text.as_str(), wanted)
+/// The calls that were made, the depth, and what is behind them.
+fn start_of<'a>(places: &'a str, words: &'a str) -> (Start<'a>, &'a str) {
+    let (calls, words) = first_word(words);
+    let (depth, words) = first_word(words);
+    let start = Start {
+        places,
+        calls: calls.parse().unwrap_or(0),
+        depth: depth.parse().unwrap_or(0),
+    };
+    (start, words)
+}
+
+/// The answer of one advance: the frames, the calls, the depth, and the outline.
+pub fn advance_answer(alloc: Global, words: &str) -> Result<String, AllocError> {
+    let (places, words) = first_word(words);
+    let (start, outline) = start_of(places, words);
+    advanced_by(alloc, outline, start)
+}
+
+/// An outline that is one step, of these statements so often.
+fn step(alloc: Global, times: u32, statements: &str) -> Result<String, AllocError> {
+    let mut outline = String::from_str(alloc, "step a { ")?;
+    for _time in 0..times {
+        outline.push_str(statements)?;
+        outline.push_str(" ")?;
+    }
+    outline.push_str("}")?;
+    Ok(outline)
+}
+
+/// The answer of an advance of one step: the calls, the depth, and the statements.
+pub fn step_answer(alloc: Global, words: &str) -> Result<String, AllocError> {
+    let (start, statements) = start_of("0:0", words);
+    let outline = step(alloc, 1, statements)?;
+    advanced_by(alloc, outline.as_str(), start)
+}
+
+/// The answer of an advance of one step, of these statements so often.
+pub fn many_answer(alloc: Global, words: &str) -> Result<String, AllocError> {
+    let (times, statements) = first_word(words);
+    let outline = step(alloc, times.parse().unwrap_or(0), statements)?;
+    let start = Start {
+        places: "0:0",
+        calls: 0,
+        depth: 1,
+    };
+    advanced_by(alloc, outline.as_str(), start)
+}
+
+/// Whether a name is one of a work chain in a library.
+fn chain_word(alloc: Global, library: &Checked, name: &str) -> Result<String, AllocError> {
+    let name = Text::of_str(alloc, name)?;
+    let word = if is_chain(library, &name) {
+        "yes"
+    } else {
+        "no"
+    };
+    String::from_str(alloc, word)
+}
+
+/// Whether a name is one of a work chain.
+pub fn chain_answer(alloc: Global, name: &str) -> Result<String, AllocError> {
+    match library(alloc, "") {
+        Ok(library) => chain_word(alloc, &library, name),
+        Err(error) => Err(error),
+    }
 }

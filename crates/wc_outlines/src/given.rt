@@ -1,56 +1,12 @@
-//! A work chain in the midst of its outline: its library, its environment and its checkpoint.
+//! A work chain in the midst of its outline: its environment and its checkpoint.
 
-use crate::wrong::{Wrong, let_go};
 use std::alloc::{AllocError, Global};
-use wc_check::check;
-use wc_parser::parse;
+use wc_questions::{both, done, filled};
 use wc_state::{
     Awaits, Checkpoint, Child, Children, Context, CtxRef, Env, Frame, Frames, Ids, Item, Items,
     Named, NodeValue, Outs,
 };
-use wc_syntax::Checked;
 use wc_value::{ProcessState, Text, Value};
-
-/// A library of two functions and a work chain `w`, up to its outline.
-const HEAD: &str = "calcfunction add(x: int, y: int) -> (n: int) { out n = x + y; }
-calcfunction note(t: text, x?: int) -> (n: int) { out n = len(t); }
-workchain w(a: int, t: text) -> (r?: int, s?: int, u?: text) {
-  exit_code 400 \"first\";
-  exit_code 401 \"second\";
-";
-
-/// Puts that library with this outline behind a text.
-fn put_file(text: &mut String, outline: &str) -> Result<(), AllocError> {
-    text.push_str(HEAD)?;
-    text.push_str(outline)?;
-    text.push_str("\n}")
-}
-
-/// The text of that library with this outline.
-fn file(alloc: Global, outline: &str) -> Result<Text, AllocError> {
-    let mut text = String::new(alloc);
-    put_file(&mut text, outline)?;
-    Text::of_string(text)
-}
-
-/// The library that a text is.
-fn library_in(alloc: Global, file: &Text) -> Result<Checked, Wrong> {
-    match parse(alloc, file) {
-        Ok(library) => match check(alloc, library) {
-            Ok(library) => Ok(library),
-            Err(_) => Err(Wrong::Not("the library keeps the rules")),
-        },
-        Err(_) => Err(Wrong::Not("the text is one of a library")),
-    }
-}
-
-/// That library with this outline.
-pub fn library(alloc: Global, outline: &str) -> Result<Checked, Wrong> {
-    match file(alloc, outline) {
-        Ok(file) => library_in(alloc, &file),
-        Err(_) => Err(Wrong::OutOfMemory),
-    }
-}
 
 /// Puts a number with its node under a label.
 fn put_number(
@@ -79,19 +35,24 @@ fn put_text(
     named.set(label, NodeValue { node, value })
 }
 
+/// Puts the inputs 5 at node 1 and `x` at node 2.
+fn put_inputs(alloc: Global, inputs: &mut Named) -> Result<(), AllocError> {
+    put_number(alloc, inputs, "a", 1, 5)?;
+    put_text(alloc, inputs, "t", 2, "x")
+}
+
 /// The inputs 5 at node 1 and `x` at node 2.
 fn inputs(alloc: Global) -> Result<Named, AllocError> {
     let mut inputs = Named::new(alloc);
-    put_number(alloc, &mut inputs, "a", 1, 5)?;
-    put_text(alloc, &mut inputs, "t", 2, "x")?;
-    Ok(inputs)
+    let put = put_inputs(alloc, &mut inputs);
+    filled(inputs, put)
 }
 
 /// The output `n` of a called process.
 fn output(alloc: Global, node: u32, number: i64) -> Result<Named, AllocError> {
     let mut outputs = Named::new(alloc);
-    put_number(alloc, &mut outputs, "n", node, number)?;
-    Ok(outputs)
+    let put = put_number(alloc, &mut outputs, "n", node, number);
+    filled(outputs, put)
 }
 
 /// A called process that ended with a status, and with an output at the next node.
@@ -114,38 +75,41 @@ fn put_child(
     children.push(child(alloc, node, status, value)?)
 }
 
+/// Puts two called processes.
+fn put_children(alloc: Global, children: &mut Children) -> Result<(), AllocError> {
+    put_child(alloc, children, 9, 0, 20)?;
+    put_child(alloc, children, 11, 3, 30)
+}
+
 /// Two called processes.
 fn children(alloc: Global) -> Result<Children, AllocError> {
     let mut children = Children::new(alloc);
-    put_child(alloc, &mut children, 9, 0, 20)?;
-    put_child(alloc, &mut children, 11, 3, 30)?;
-    Ok(children)
+    let put = put_children(alloc, &mut children);
+    filled(children, put)
 }
 
-/// Puts a plain number behind what other keys hold.
+/// Puts a plain number under a key.
 fn put_plain(alloc: Global, items: &mut Items) -> Result<(), AllocError> {
     let key = Text::of_str(alloc, "i")?;
-    let _before = items.set(key, Item::Plain(Value::Int(3)))?;
-    Ok(())
+    done(items.set(key, Item::Plain(Value::Int(3))))
 }
 
-/// Puts a called process behind what other keys hold.
+/// Puts a called process under a key.
 fn put_one(alloc: Global, items: &mut Items) -> Result<(), AllocError> {
     let key = Text::of_str(alloc, "c")?;
     let child = child(alloc, 7, 0, 10)?;
-    let _before = items.set(key, Item::One(child))?;
-    Ok(())
+    done(items.set(key, Item::One(child)))
 }
 
-/// Puts two called processes behind what other keys hold.
+/// Puts two called processes under a key.
 fn put_many(alloc: Global, items: &mut Items) -> Result<(), AllocError> {
     let key = Text::of_str(alloc, "cs")?;
     let children = children(alloc)?;
-    let _before = items.set(key, Item::Many(children))?;
-    Ok(())
+    done(items.set(key, Item::Many(children)))
 }
 
-fn put_all(alloc: Global, items: &mut Items) -> Result<(), AllocError> {
+/// Puts 3, a called process, and a list of two.
+fn put_items(alloc: Global, items: &mut Items) -> Result<(), AllocError> {
     put_plain(alloc, items)?;
     put_one(alloc, items)?;
     put_many(alloc, items)
@@ -154,19 +118,14 @@ fn put_all(alloc: Global, items: &mut Items) -> Result<(), AllocError> {
 /// 3, a called process, and a list of two.
 fn items(alloc: Global) -> Result<Items, AllocError> {
     let mut items = Items::new(alloc);
-    match put_all(alloc, &mut items) {
-        Ok(()) => Ok(items),
-        Err(wrong) => {
-            let_go(items);
-            Err(wrong)
-        }
-    }
+    let put = put_items(alloc, &mut items);
+    filled(items, put)
 }
 
 /// Those inputs, and that context.
 pub fn env(alloc: Global) -> Result<Env, AllocError> {
     let inputs = inputs(alloc)?;
-    let ctx = items(alloc)?;
+    let (inputs, ctx) = both(inputs, items(alloc))?;
     Ok(Env { inputs, ctx })
 }
 
@@ -177,42 +136,54 @@ fn pids(alloc: Global) -> Result<Ids, AllocError> {
     Ok(pids)
 }
 
-/// Sets what a key holds.
-fn set(alloc: Global, ctx: &mut Context, key: &str, held: CtxRef) -> Result<(), AllocError> {
-    match Text::of_str(alloc, key) {
-        Ok(key) => {
-            let _before = ctx.set(key, held)?;
-            Ok(())
-        }
-        Err(wrong) => Err(wrong),
-    }
+/// The plain number stands under its key.
+fn set_plain(alloc: Global, ctx: &mut Context) -> Result<(), AllocError> {
+    let key = Text::of_str(alloc, "i")?;
+    done(ctx.set(key, CtxRef::Plain(Value::Int(3))))
+}
+
+/// The number of the called process stands under its key.
+fn set_one(alloc: Global, ctx: &mut Context) -> Result<(), AllocError> {
+    let key = Text::of_str(alloc, "c")?;
+    done(ctx.set(key, CtxRef::One(7)))
+}
+
+/// The numbers of the two stand under their key.
+fn set_many(alloc: Global, ctx: &mut Context) -> Result<(), AllocError> {
+    let key = Text::of_str(alloc, "cs")?;
+    let pids = pids(alloc)?;
+    done(ctx.set(key, CtxRef::Many(pids)))
 }
 
 /// Sets what the keys of that context hold.
 fn set_all(alloc: Global, ctx: &mut Context) -> Result<(), AllocError> {
-    set(alloc, ctx, "i", CtxRef::Plain(Value::Int(3)))?;
-    set(alloc, ctx, "c", CtxRef::One(7))?;
-    set(alloc, ctx, "cs", CtxRef::Many(pids(alloc)?))
+    set_plain(alloc, ctx)?;
+    set_one(alloc, ctx)?;
+    set_many(alloc, ctx)
 }
 
 /// What the keys of that context hold.
 fn context(alloc: Global) -> Result<Context, AllocError> {
     let mut ctx = Context::new(alloc);
-    match set_all(alloc, &mut ctx) {
-        Ok(()) => Ok(ctx),
-        Err(wrong) => {
-            let_go(ctx);
-            Err(wrong)
-        }
-    }
+    let set = set_all(alloc, &mut ctx);
+    filled(ctx, set)
 }
 
-/// Frames by their blocks and places.
-fn frames(alloc: Global, places: &[(u32, u32)]) -> Result<Frames, AllocError> {
+/// A frame, by its block and its place.
+fn frame_of(place: &str) -> Option<Frame> {
+    let (block, next) = place.split_once(':')?;
+    let block = block.parse().ok()?;
+    let next = next.parse().ok()?;
+    Some(Frame { block, next })
+}
+
+/// Frames, by their blocks and places.
+fn frames(alloc: Global, places: &str) -> Result<Frames, AllocError> {
     let mut frames = Frames::new(alloc);
-    for (block, next) in places {
-        let (block, next) = (*block, *next);
-        frames.push(Frame { block, next })?;
+    for place in places.split(',') {
+        if let Some(frame) = frame_of(place) {
+            frames.push(frame)?;
+        }
     }
     Ok(frames)
 }
@@ -227,7 +198,7 @@ fn outputs(alloc: Global) -> Result<Outs, AllocError> {
 /// A checkpoint with that context and that output, these frames, these awaited children, and so many calls.
 pub fn checkpoint(
     alloc: Global,
-    places: &[(u32, u32)],
+    places: &str,
     awaiting: Awaits,
     calls: u32,
 ) -> Result<Checkpoint, AllocError> {

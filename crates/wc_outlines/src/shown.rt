@@ -56,7 +56,7 @@ fn put_name(text: &mut String, name: &str, sign: &str) -> Result<(), AllocError>
 }
 
 /// Puts the keys with what they hold, in their order, behind a text.
-pub fn put_context(alloc: Global, text: &mut String, ctx: &Context) -> Result<(), AllocError> {
+fn put_context(alloc: Global, text: &mut String, ctx: &Context) -> Result<(), AllocError> {
     for at in 0..ctx.len() {
         if let Some((key, held)) = ctx.get(at) {
             put_name(text, key.as_str(), "=")?;

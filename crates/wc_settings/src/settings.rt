@@ -1,87 +1,87 @@
 //! Settings files, and what they say.
 
-use crate::rows::same;
-use std::alloc::Global;
-use std::test::Fail;
+use std::alloc::{AllocError, Global};
 use wc_config::{ConfigError, Settings, caching_on, read_settings};
+use wc_questions::{Answers, first_word};
 use wc_value::Text;
 
+/// Puts whether caching is on for a name behind a text.
+fn put_caching(
+    alloc: Global,
+    text: &mut String,
+    settings: &Settings,
+    name: &str,
+) -> Result<(), AllocError> {
+    let on = caching_on(settings, &Text::of_str(alloc, name)?);
+    text.push_str(if on { " on" } else { " off" })
+}
+
 /// Settings in one line: the limits, and of the names `a`, `b` and `c` whether caching is on.
-fn shown(alloc: Global, settings: &Settings) -> Result<String, Fail> {
-    let limits = &settings.limits;
-    let mut text = format!(in alloc;
-        "{} {} {}",
-        limits.max_nodes, limits.max_bytes, limits.poll_ms
-    )?;
-    for name in ["a", "b", "c"] {
-        let on = caching_on(settings, &Text::of_str(alloc, name)?);
-        text.push_str(if on { " on" } else { " off" })?;
+fn shown(alloc: Global, settings: &Settings) -> Result<String, AllocError> {
+    let nodes = settings.limits.max_nodes;
+    let bytes = settings.limits.max_bytes;
+    let poll = settings.limits.poll_ms;
+    let mut text = format!(in alloc; "{nodes} {bytes} {poll}")?;
+    put_caching(alloc, &mut text, settings, "a")?;
+    put_caching(alloc, &mut text, settings, "b")?;
+    put_caching(alloc, &mut text, settings, "c")?;
+    Ok(text)
+}
+
+/// A word with a key path behind it.
+fn keyed(alloc: Global, word: &str, key: &Text) -> Result<String, AllocError> {
+    let mut text = String::from_str(alloc, word)?;
+    text.push_str(key.as_str())?;
+    Ok(text)
+}
+
+/// Why settings are refused.
+fn refused(alloc: Global, error: &ConfigError) -> Result<String, AllocError> {
+    match error {
+        ConfigError::NotToml => String::from_str(alloc, "not toml"),
+        ConfigError::UnknownKey(key) => keyed(alloc, "unknown key ", key),
+        ConfigError::BadValue(key) => keyed(alloc, "bad value ", key),
+        ConfigError::OutOfMemory => Err(AllocError),
+    }
+}
+
+/// What a settings file gives, or why it is refused.
+fn read(alloc: Global, file: &[u8]) -> Result<String, AllocError> {
+    match read_settings(alloc, file) {
+        Ok(settings) => shown(alloc, &settings),
+        Err(error) => refused(alloc, &error),
+    }
+}
+
+/// The text in which each bar ends a line.
+fn lines_of(alloc: Global, line: &str) -> Result<String, AllocError> {
+    let mut text = String::new(alloc);
+    for (at, part) in line.split('|').enumerate() {
+        if at > 0 {
+            text.push_str("\n")?;
+        }
+        text.push_str(part)?;
     }
     Ok(text)
 }
 
-/// What a settings file gives, or why it is refused.
-fn read(alloc: Global, file: &str) -> Result<String, Fail> {
-    match read_settings(alloc, file.as_bytes()) {
-        Ok(settings) => shown(alloc, &settings),
-        Err(ConfigError::NotToml) => Ok(String::from_str(alloc, "not toml")?),
-        Err(ConfigError::UnknownKey(key)) => Ok(format!(in alloc; "unknown key {}", key.as_str())?),
-        Err(ConfigError::BadValue(key)) => Ok(format!(in alloc; "bad value {}", key.as_str())?),
-        Err(ConfigError::OutOfMemory) => Ok(String::from_str(alloc, "out of memory")?),
-    }
+/// What a settings file of these lines gives.
+fn file_answer(alloc: Global, line: &str) -> Result<String, AllocError> {
+    let file = lines_of(alloc, line)?;
+    read(alloc, file.as_str().as_bytes())
 }
 
-const ROWS: [(&str, &str); 16] = [
-    ("", "1000000 268435456 1000 off off off"),
-    (
-        "[caching]\ndefault = true\n",
-        "1000000 268435456 1000 on on on",
-    ),
-    (
-        "[caching]\ndefault = true\nenabled = [\"a\"]\ndisabled = [\"b\"]\n",
-        "1000000 268435456 1000 on off on",
-    ),
-    (
-        "[caching]\nenabled = [\"b\", \"b\"]\n[limits]\nmax_nodes = 1\nmax_bytes = 1024\n[run]\npoll_ms = 600000\n",
-        "1 1024 600000 off on off",
-    ),
-    (
-        "[limits]\nmax_nodes = 8000000\nmax_bytes = 2147483648\n",
-        "8000000 2147483648 1000 off off off",
-    ),
-    ("[run]\npoll_ms = 0\n", "bad value run.poll_ms"),
-    ("[run]\npoll_ms = 600001\n", "bad value run.poll_ms"),
-    ("[run]\npoll_ms = \"1\"\n", "bad value run.poll_ms"),
-    (
-        "[limits]\nmax_nodes = 8000001\n",
-        "bad value limits.max_nodes",
-    ),
-    ("[limits]\nmax_bytes = 1023\n", "bad value limits.max_bytes"),
-    ("x = 1\n", "unknown key x"),
-    ("[run]\nseed = 1\n", "unknown key run.seed"),
-    ("caching = 1\n", "bad value caching"),
-    (
-        "[caching]\nenabled = [\"a\", \"b\"]\ndisabled = [\"b\"]\n",
-        "bad value caching.enabled",
-    ),
-    // The path that comes first by its bytes is told, not the one that stands first.
-    (
-        "[run]\nx = 1\n[caching]\ndefault = 1\n[caching-x]\n",
-        "unknown key caching-x",
-    ),
-    ("x =\n", "not toml"),
-];
+/// What settings files are read as.
+#[derive(Drop)]
+pub struct Files;
 
-#[test]
-fn settings_are_read(rt: HostRuntime) -> Result<(), Fail> {
-    let alloc = rt.alloc();
-    for (file, wanted) in ROWS {
-        let found = read(alloc, file)?;
-        same(file, found.as_str(), wanted)?;
+impl Answers for Files {
+    fn answer(&mut self, alloc: Global, question: &str) -> Result<String, AllocError> {
+        let (verb, line) = first_word(question);
+        match verb {
+            "file" => file_answer(alloc, line),
+            "usual" => shown(alloc, &Settings::usual(alloc)),
+            _ => String::from_str(alloc, "no such question"),
+        }
     }
-    same(
-        "no file",
-        shown(alloc, &Settings::usual(alloc))?.as_str(),
-        "1000000 268435456 1000 off off off",
-    )
 }

@@ -1,21 +1,30 @@
-//! Disks: what is drawn, what crashes leave, which calls fail, and a file of the system as a disk.
+//! Questions to a disk in memory: what is written, which calls fail, what a crash leaves.
 
-use crate::rows::{bytes, failing, first_wrong, memory};
+use crate::journals::journal_answer;
+use crate::words::{bytes, digits, number, numbers, outcome, word};
 use std::alloc::{AllocError, Global};
-use std::fs;
-use std::test::Fail;
-use wc_disk::{Disk, FileDisk, Generator, MemoryDisk, Pick};
+use wc_disk::{Disk, Generator, MemoryDisk, Pick};
 use wc_io::Failed;
-use wc_value::Text;
+use wc_questions::first_word;
+use wc_value::List;
 
-/// The place of the first number that isn't drawn.
-fn other_draw(generator: &mut Generator, numbers: &[u32]) -> Option<usize> {
-    for (at, number) in numbers.iter().enumerate() {
-        if generator.draw() != *number {
-            return Some(at);
-        }
-    }
-    None
+/// A disk that holds these bytes, of which no call fails.
+pub fn memory(alloc: Global, image: &[u8]) -> Result<MemoryDisk, AllocError> {
+    let mut held = List::new(alloc);
+    held.extend(image)?;
+    Ok(MemoryDisk::new(alloc, held, List::new(alloc)))
+}
+
+/// A disk that holds the bytes of these digits.
+pub fn disk_of(alloc: Global, image: &str) -> Result<MemoryDisk, AllocError> {
+    Ok(MemoryDisk::new(alloc, bytes(alloc, image)?, List::new(alloc)))
+}
+
+/// A disk that holds what this one holds, and whose calls of these numbers fail.
+pub fn failing(alloc: Global, disk: &MemoryDisk, words: &str) -> Result<MemoryDisk, AllocError> {
+    let mut held = List::new(alloc);
+    held.extend(disk.bytes())?;
+    Ok(MemoryDisk::new(alloc, held, numbers(alloc, words)?))
 }
 
 /// Writes at an offset that the disk has.
@@ -35,43 +44,7 @@ fn cut<D: Disk>(disk: &mut D, len: u64) -> Result<(), Failed> {
     disk.cut(len)
 }
 
-/// A disk with three bytes, and with two writes that no sync followed.
-fn written(alloc: Global) -> Result<MemoryDisk, Fail> {
-    let mut disk = memory(alloc, &[1, 2, 3])?;
-    write(&mut disk, 1, &[9])?;
-    write(&mut disk, 3, &[7, 8])?;
-    Ok(disk)
-}
-
-/// Whether a crash leaves these bytes.
-fn leaves(disk: &MemoryDisk, alloc: Global, pick: Pick, want: &[u8]) -> Result<bool, AllocError> {
-    let left = disk.crashed(alloc, pick)?;
-    Ok(left.bytes() == want)
-}
-
-/// Crashes after the writes.
-fn crashes(alloc: Global) -> Result<Option<usize>, Fail> {
-    let disk = written(alloc)?;
-    Ok(first_wrong(&[
-        leaves(&disk, alloc, Pick::Old, &[1, 2, 3])?,
-        leaves(&disk, alloc, Pick::New, &[1, 9, 3, 7, 8])?,
-        leaves(&disk, alloc, Pick::Noise(1), &[1, 198, 3, 126, 129])?,
-    ]))
-}
-
-/// Crashes after a sync and a cut.
-fn crashes_after_cut(alloc: Global) -> Result<Option<usize>, Fail> {
-    let mut disk = written(alloc)?;
-    cut(&mut disk, 2)?;
-    Ok(first_wrong(&[
-        leaves(&disk, alloc, Pick::Old, &[1, 9, 3, 7, 8])?,
-        leaves(&disk, alloc, Pick::New, &[1, 9])?,
-        leaves(&disk, alloc, Pick::Noise(1), &[1, 9])?,
-        disk.starved() == 0,
-    ]))
-}
-
-/// Writes at the end, cuts all but the first byte off, and reads it, through the bound.
+/// Writes at the end, cuts all but the first byte off, and reads it, through the bound. How long the disk was.
 fn turn<D: Disk>(disk: &mut D, bytes: &[u8], first: &mut [u8; 1]) -> Result<u64, Failed> {
     let end = disk.len()?;
     disk.write_at(end, bytes)?;
@@ -84,86 +57,75 @@ fn turn<D: Disk>(disk: &mut D, bytes: &[u8], first: &mut [u8; 1]) -> Result<u64,
     Ok(longer)
 }
 
-/// A disk whose second call fails, and later each.
-fn faults(alloc: Global) -> Result<Option<usize>, Fail> {
-    let mut disk = MemoryDisk::new(alloc, bytes(alloc, &[5])?, failing(alloc, &[2])?);
+/// What such a turn comes to.
+pub fn turned<D: Disk>(alloc: Global, disk: &mut D, added: &str) -> Result<String, AllocError> {
+    let added = bytes(alloc, added)?;
     let mut first = [0];
-    let is_listed = turn(&mut disk, &[6], &mut first).is_err();
-    let is_kept = disk.bytes() == [5].as_slice();
-    let longer = turn(&mut disk, &[6], &mut first)?;
-    disk.fuse(1);
-    let is_blown = turn(&mut disk, &[6], &mut first).is_err();
-    Ok(first_wrong(&[
-        is_listed,
-        is_kept,
-        longer == 2,
-        first == [5],
-        is_blown,
-        disk.bytes() == [5].as_slice(),
-    ]))
+    match turn(disk, added.as_slice(), &mut first) {
+        Ok(length) => {
+            let first = first[0];
+            format!(in alloc; "{length} bytes, the first {first}")
+        }
+        Err(_) => word(alloc, "failed"),
+    }
 }
 
-#[test]
-fn disks_in_memory(rt: HostRuntime) -> Result<(), Fail> {
-    let alloc = rt.alloc();
-    let mut generator = Generator::new(1);
-    let numbers = [16838, 5758, 10113, 17515];
-    assert_eq!(rt; other_draw(&mut generator, &numbers), None);
-    assert_eq!(rt; crashes(alloc)?, None);
-    assert_eq!(rt; crashes_after_cut(alloc)?, None);
-    assert_eq!(rt; faults(alloc)?, None);
-    Ok(())
+/// What a write comes to: the offset, and the digits.
+fn written(alloc: Global, disk: &mut MemoryDisk, words: &str) -> Result<String, AllocError> {
+    let (at, added) = first_word(words);
+    let added = bytes(alloc, added)?;
+    outcome(alloc, write(disk, number(at), added.as_slice()))
 }
 
-/// The folder of the file.
-const FOLDER: &str = "wc_disk_file_test";
-
-/// The file.
-const PATH: &str = "wc_disk_file_test/a/one";
-
-/// A file that isn't there is empty.
-fn missing(disk: &mut FileDisk<&HostRuntime>) -> Result<Option<usize>, Failed> {
-    let len = disk.len()?;
-    disk.sync()?;
-    disk.cut(0)?;
-    Ok(first_wrong(&[
-        len == 0,
-        disk.read(0, &mut [0]).is_err(),
-        disk.cut(1).is_err(),
-        disk.write_at(1, &[6]).is_err(),
-    ]))
+/// What a crash leaves where nothing was synced.
+fn pick(word: &str) -> Pick {
+    match word {
+        "old" => Pick::Old,
+        "new" => Pick::New,
+        _ => Pick::Noise(1),
+    }
 }
 
-/// A file of one byte, which is locked while it is open.
-fn made(
-    rt: &HostRuntime,
+/// The bytes that a crash leaves.
+fn crashed(alloc: Global, disk: &MemoryDisk, word: &str) -> Result<String, AllocError> {
+    let left = disk.crashed(alloc, pick(word))?;
+    digits(alloc, left.bytes())
+}
+
+/// How often the disk found no memory.
+fn starved(alloc: Global, disk: &MemoryDisk) -> Result<String, AllocError> {
+    let count = disk.starved();
+    format!(in alloc; "{count} times")
+}
+
+/// What a question to a disk in memory or to its journal is answered.
+pub fn disk_answer(
     alloc: Global,
-    mut disk: FileDisk<&HostRuntime>,
-) -> Result<Option<usize>, Fail> {
-    let mut first = [0];
-    let longer = turn(&mut disk, &[4, 5], &mut first)?;
-    let is_refused = disk.write_at(2, &[6]).is_err();
-    let len = disk.len()?;
-    let mut other = FileDisk::new(rt, Text::of_str(alloc, PATH)?);
-    let is_locked = other.len().is_err();
-    drop(disk);
-    Ok(first_wrong(&[
-        longer == 2,
-        first == [4],
-        is_refused,
-        len == 1,
-        is_locked,
-        other.len()? == 1,
-    ]))
+    disk: &mut MemoryDisk,
+    question: &str,
+) -> Result<String, AllocError> {
+    let (verb, words) = first_word(question);
+    match verb {
+        "holds" => digits(alloc, disk.bytes()),
+        "write" => written(alloc, disk, words),
+        "cut" => outcome(alloc, cut(disk, number(words))),
+        "turn" => turned(alloc, disk, words),
+        "crash" => crashed(alloc, disk, words),
+        "starved" => starved(alloc, disk),
+        "fuse" => {
+            disk.fuse(number(words));
+            word(alloc, "ok")
+        }
+        _ => journal_answer(alloc, disk, question),
+    }
 }
 
-#[test]
-fn file_is_a_disk(rt: HostRuntime) -> Result<(), Fail> {
-    let _ = fs::remove_dir_all(&rt, FOLDER);
-    let mut disk = FileDisk::new(&rt, Text::of_str(rt.alloc(), PATH)?);
-    assert_eq!(rt; missing(&mut disk)?, None);
-    assert!(rt; fs::metadata(&rt, FOLDER).is_err());
-    assert_eq!(rt; made(&rt, rt.alloc(), disk)?, None);
-    fs::remove_dir_all(&rt, FOLDER)?;
-    Ok(())
+/// Four numbers that a generator draws.
+pub fn drawn(alloc: Global) -> Result<String, AllocError> {
+    let mut generator = Generator::new(1);
+    let first = generator.draw();
+    let second = generator.draw();
+    let third = generator.draw();
+    let fourth = generator.draw();
+    format!(in alloc; "{first} {second} {third} {fourth}")
 }

@@ -1,165 +1,127 @@
-//! Files by name, places for text, and clocks: in memory, and of the system.
+//! Questions to files by name, places for text and clocks: in memory, and of the system.
 
-use crate::rows::{bytes, failing, first_wrong};
-use std::alloc::Global;
-use std::test::Fail;
-use std::{fs, io};
+use crate::words::{digits, listed, number, numbers, outcome, word};
+use std::alloc::{AllocError, Global};
 use wc_io::{
-    ClockPacer, Failed, FileShelf, MemoryPacer, MemoryShelf, MemorySink, Pacer, Shelf, ShelfError,
-    Sink, StdoutSink, write_all,
+    ClockPacer, FileShelf, MemoryPacer, MemoryShelf, MemorySink, Pacer, Shelf, StdoutSink,
+    write_all,
 };
-use wc_value::{Files, Keyed, Text};
+use wc_questions::{filled, first_word};
+use wc_value::{Files, Keyed, List, Text};
 
-/// A sink that takes at most two bytes in a call.
-#[derive(Drop)]
-struct Sipping {
-    inner: MemorySink,
-}
-
-impl Sink for Sipping {
-    ghost use Rattle.std.specs.Prelude.{Some};
-    ghost use Rattle.wc_io.specs.Memory.{bytes_of, sink_schedule};
-
-    ghost taken = { λ sink. Some (bytes_of sink.inner) };
-
-    ghost faults = { λ sink. (sink_schedule sink.inner).faults };
-
-    fn write(&mut self, bytes: &[u8]) -> Result<usize, Failed> {
-        let count = bytes.len().min(2);
-        self.inner.write(&bytes[..count])
-    }
-}
-
-/// Files of one name.
-fn one_file(alloc: Global, name: &str, content: &[u8]) -> Result<Files, Fail> {
-    let content = bytes(alloc, content)?;
+/// The file `a` with the content `12`.
+fn one_file(alloc: Global) -> Result<Files, AllocError> {
+    let content = listed(alloc, b"12")?;
     let mut files: Files = Keyed::new(alloc);
-    let name = Text::of_str(alloc, name)?;
-    if files.goes_last(name.bytes()) {
-        files.push((name, content))?;
-    }
+    files.set(Text::of_str(alloc, "a")?, content)?;
     Ok(files)
 }
 
-/// Whether a shelf gives this content, or nothing, for a name.
-fn gives<S: Shelf>(
-    shelf: &mut S,
+/// What a shelf gives for a name.
+fn given<S: Shelf>(alloc: Global, shelf: &mut S, name: &str) -> Result<String, AllocError> {
+    let name = Text::of_str(alloc, name)?;
+    match shelf.read(alloc, &name) {
+        Ok(Some(content)) => digits(alloc, content.as_slice()),
+        Ok(None) => word(alloc, "none"),
+        Err(_) => word(alloc, "failed"),
+    }
+}
+
+/// Puts an answer behind others, with a semicolon.
+fn put(answers: &mut String, answer: Result<String, AllocError>) -> Result<(), AllocError> {
+    answers.push_str(answer?.as_str())?;
+    answers.push_str(";")
+}
+
+/// Puts what a shelf gives for these names, one after another, behind other answers.
+fn put_given<S: Shelf>(
     alloc: Global,
-    name: &str,
-    content: Option<&[u8]>,
-) -> Result<bool, Fail> {
-    let name = Text::of_str(alloc, name)?;
-    match (shelf.read(alloc, &name)?, content) {
-        (Some(found), Some(content)) => Ok(found.bytes() == content),
-        (None, None) => Ok(true),
-        _ => Ok(false),
+    shelf: &mut S,
+    names: &str,
+    answers: &mut String,
+) -> Result<(), AllocError> {
+    for name in names.split(' ') {
+        put(answers, given(alloc, shelf, name))?;
     }
-}
-
-/// How many bytes a shelf gives for a name, where it gives any.
-fn length<S: Shelf>(shelf: &mut S, alloc: Global, name: &str) -> Result<Option<usize>, Fail> {
-    let name = Text::of_str(alloc, name)?;
-    match shelf.read(alloc, &name)? {
-        Some(found) => Ok(Some(found.len())),
-        None => Ok(None),
-    }
-}
-
-/// Whether a shelf fails at a name.
-fn fails<S: Shelf>(shelf: &mut S, alloc: Global, name: &str) -> Result<bool, Fail> {
-    let name = Text::of_str(alloc, name)?;
-    Ok(matches!(shelf.read(alloc, &name), Err(ShelfError::Failed)))
-}
-
-/// A shelf whose third read fails.
-fn memory_shelf(alloc: Global) -> Result<Option<usize>, Fail> {
-    let files = one_file(alloc, "a", b"12")?;
-    let mut shelf = MemoryShelf::new(files, failing(alloc, &[3])?);
-    Ok(first_wrong(&[
-        gives(&mut shelf, alloc, "a", Some(b"12"))?,
-        gives(&mut shelf, alloc, "b", None)?,
-        fails(&mut shelf, alloc, "a")?,
-        gives(&mut shelf, alloc, "a", Some(b"12"))?,
-    ]))
-}
-
-/// A sink that takes two bytes in a call, and whose fifth call fails.
-fn pieces(alloc: Global) -> Result<Option<usize>, Fail> {
-    let inner = MemorySink::new(alloc, failing(alloc, &[5])?);
-    let mut sink = Sipping { inner };
-    let is_taken = write_all(&mut sink, b"12345").is_ok();
-    let is_whole = sink.inner.bytes() == b"12345".as_slice();
-    let is_refused = write_all(&mut sink, b"6789").is_err();
-    let is_part = sink.inner.bytes() == b"1234567".as_slice();
-    let is_fed = sink.inner.starved() == 0;
-    Ok(first_wrong(&[is_taken, is_whole, is_refused, is_part, is_fed]))
-}
-
-/// Moments of a clock, through the bound: now, after 5 milliseconds, and after as many as there are.
-fn moments<P: Pacer>(pacer: &mut P) -> [u64; 3] {
-    let first = pacer.now();
-    pacer.rest(5);
-    let second = pacer.now();
-    pacer.rest(u64::MAX);
-    [first, second, pacer.now()]
-}
-
-#[test]
-fn forms_in_memory(rt: HostRuntime) -> Result<(), Fail> {
-    let alloc = rt.alloc();
-    assert_eq!(rt; memory_shelf(alloc)?, None);
-    assert_eq!(rt; pieces(alloc)?, None);
-    assert_eq!(rt; moments(&mut MemoryPacer::new(20)), [20, 25, u64::MAX]);
     Ok(())
 }
 
-/// The folder of the files.
-const FOLDER: &str = "wc_io_shelf_test";
-
-/// A file of two bytes.
-const SHORT: &str = "wc_io_shelf_test/a";
-
-/// A file of 16 MiB, and of a byte more.
-const LONG: &str = "wc_io_shelf_test/long";
-
-/// Makes the folder with both files.
-fn make_files(rt: &HostRuntime, long: &[u8]) -> io::Result<()> {
-    let _ = fs::remove_dir_all(rt, FOLDER);
-    fs::create_dir(rt, FOLDER)?;
-    fs::write(rt, SHORT, b"34".as_slice())?;
-    fs::write(rt, LONG, long)
+/// What a shelf in memory gives for these names, one after another. Its third read fails.
+fn memory_shelf(alloc: Global, names: &str) -> Result<String, AllocError> {
+    let failing = numbers(alloc, "3")?;
+    let mut shelf = MemoryShelf::new(one_file(alloc)?, failing);
+    let mut answers = String::new(alloc);
+    let done = put_given(alloc, &mut shelf, names, &mut answers);
+    filled(answers, done)
 }
 
-/// Files of the system, of which one of 16 MiB is the longest that is read.
-fn file_shelf(rt: &HostRuntime, alloc: Global) -> Result<Option<usize>, Fail> {
-    let mut long = vec![in alloc; 7; 16 * 1024 * 1024]?;
-    make_files(rt, &long)?;
-    let mut shelf = FileShelf::new(rt);
-    let is_short = gives(&mut shelf, alloc, SHORT, Some(b"34"))?;
-    let is_missing = gives(&mut shelf, alloc, "wc_io_shelf_test/b", None)?;
-    let is_long = length(&mut shelf, alloc, LONG)? == Some(16 * 1024 * 1024);
-    long.push(7)?;
-    fs::write(rt, LONG, long.as_slice())?;
-    let is_too_long = fails(&mut shelf, alloc, LONG)?;
-    let is_folder = fails(&mut shelf, alloc, FOLDER)?;
-    fs::remove_dir_all(rt, FOLDER)?;
-    Ok(first_wrong(&[is_short, is_missing, is_long, is_too_long, is_folder]))
+/// Puts what writes of these words come to, what the sink took, and how often it found no memory, behind other answers.
+fn put_written(
+    alloc: Global,
+    sink: &mut MemorySink,
+    words: &str,
+    answers: &mut String,
+) -> Result<(), AllocError> {
+    for word in words.split(' ') {
+        let written = write_all(sink, word.as_bytes());
+        put(answers, outcome(alloc, written))?;
+    }
+    put(answers, digits(alloc, sink.bytes()))?;
+    let starved = sink.starved();
+    put(answers, format!(in alloc; "{starved}"))
 }
 
-/// A clock that goes on, and standard output.
-fn clock_and_output(rt: &HostRuntime) -> Option<usize> {
+/// What writes of these words to a sink in memory come to. Its second call fails.
+fn memory_sink(alloc: Global, words: &str) -> Result<String, AllocError> {
+    let mut sink = MemorySink::new(alloc, numbers(alloc, "2")?);
+    let mut answers = String::new(alloc);
+    let done = put_written(alloc, &mut sink, words, &mut answers);
+    filled(answers, done)
+}
+
+/// Moments of a clock, through the bound: now, after so many milliseconds, and after as many as there are.
+fn moments<P: Pacer>(pacer: &mut P, rest: u64) -> (u64, u64, u64) {
+    let first = pacer.now();
+    pacer.rest(rest);
+    let second = pacer.now();
+    pacer.rest(u64::MAX);
+    (first, second, pacer.now())
+}
+
+/// Moments of a clock in memory: it stands at the first number, and rests for as long as the second.
+fn memory_pacer(alloc: Global, words: &str) -> Result<String, AllocError> {
+    let (start, rest) = first_word(words);
+    let (first, second, third) = moments(&mut MemoryPacer::new(number(start)), number(rest));
+    format!(in alloc; "{first} {second} {third}")
+}
+
+/// Whether the clock of the system stands behind a moment, and a rest of 30 milliseconds takes at least 25.
+fn clock(rt: &HostRuntime) -> Result<String, AllocError> {
     let mut pacer = ClockPacer::new(rt);
     let before = pacer.now();
     pacer.rest(30);
     let is_later = pacer.now() >= before.saturating_add(25);
-    let mut sink = StdoutSink::new(rt);
-    let is_told = write_all(&mut sink, b"a line of the test\n").is_ok();
-    first_wrong(&[before > 1_600_000_000_000, is_later, is_told])
+    let goes_on = before > 1_600_000_000_000 && is_later;
+    word(rt.alloc(), if goes_on { "goes on" } else { "stands" })
 }
 
-#[test]
-fn forms_of_the_system(rt: HostRuntime) -> Result<(), Fail> {
-    assert_eq!(rt; file_shelf(&rt, rt.alloc())?, None);
-    assert_eq!(rt; clock_and_output(&rt), None);
-    Ok(())
+/// Writes a line to standard output.
+fn said(rt: &HostRuntime, line: &str) -> Result<String, AllocError> {
+    let mut sink = StdoutSink::new(rt);
+    let line = format!(in rt.alloc(); "{line}\n")?;
+    outcome(rt.alloc(), write_all(&mut sink, line.as_bytes()))
+}
+
+/// What a question to the outside is answered.
+pub fn outside_answer(rt: &HostRuntime, question: &str) -> Result<String, AllocError> {
+    let (verb, words) = first_word(question);
+    match verb {
+        "shelf" => memory_shelf(rt.alloc(), words),
+        "sink" => memory_sink(rt.alloc(), words),
+        "pacer" => memory_pacer(rt.alloc(), words),
+        "look" => given(rt.alloc(), &mut FileShelf::new(rt), words),
+        "clock" => clock(rt),
+        "say" => said(rt, words),
+        _ => word(rt.alloc(), "no such question"),
+    }
 }

@@ -1,68 +1,82 @@
 //! What states, reasons and kinds are called.
 
-use crate::rows::same;
-use std::alloc::Global;
-use std::test::Fail;
+use crate::shown::{shown, word};
+use std::alloc::{AllocError, Global};
+use wc_questions::first_word;
 use wc_report::{kind_name, process_kind_name, reason_name, state_text};
 use wc_state::ProcessKind;
 use wc_value::{Kind, ProcessState, Reason};
 
-const STATES: [(ProcessState, &str); 7] = [
-    (ProcessState::Created, "created"),
-    (ProcessState::Running, "running"),
-    (ProcessState::Waiting, "waiting"),
-    (ProcessState::Finished(0), "finished 0"),
-    (ProcessState::Finished(4294967295), "finished 4294967295"),
-    (
-        ProcessState::Excepted(Reason::NoOutput),
-        "excepted no such output",
-    ),
-    (ProcessState::Killed, "killed"),
-];
-
-const REASONS: [(Reason, &str); 9] = [
-    (Reason::Overflow, "overflow"),
-    (Reason::DivideByZero, "division by zero"),
-    (Reason::MissingKey, "missing key"),
-    (Reason::WrongKind, "wrong kind"),
-    (Reason::NoOutput, "no such output"),
-    (Reason::BadText, "bad text"),
-    (Reason::TooLong, "too long"),
-    (Reason::Depth, "depth"),
-    (Reason::BadInput, "bad input"),
-];
-
-const KINDS: [(ProcessKind, &str); 3] = [
-    (ProcessKind::Function, "calcfunction"),
-    (ProcessKind::Job, "calcjob"),
-    (ProcessKind::Chain, "workchain"),
-];
-
-fn names_states(alloc: Global, rows: &[(ProcessState, &str)]) -> Result<(), Fail> {
-    for (state, wanted) in rows {
-        same("a state", state_text(alloc, *state)?.as_str(), wanted)?;
+/// The reason that a word names.
+fn reason_of(word: &str) -> Option<Reason> {
+    match word {
+        "Overflow" => Some(Reason::Overflow),
+        "DivideByZero" => Some(Reason::DivideByZero),
+        "MissingKey" => Some(Reason::MissingKey),
+        "WrongKind" => Some(Reason::WrongKind),
+        "NoOutput" => Some(Reason::NoOutput),
+        "BadText" => Some(Reason::BadText),
+        "TooLong" => Some(Reason::TooLong),
+        "Depth" => Some(Reason::Depth),
+        "BadInput" => Some(Reason::BadInput),
+        _ => None,
     }
-    Ok(())
 }
 
-fn names_reasons(rows: &[(Reason, &str)]) -> Result<(), Fail> {
-    for (reason, wanted) in rows {
-        same("a reason", reason_name(*reason), wanted)?;
+/// The state that words name.
+fn state_of(words: &str) -> Option<ProcessState> {
+    let (state, detail) = first_word(words);
+    match state {
+        "Created" => Some(ProcessState::Created),
+        "Running" => Some(ProcessState::Running),
+        "Waiting" => Some(ProcessState::Waiting),
+        "Finished" => Some(ProcessState::Finished(detail.parse().ok()?)),
+        "Excepted" => Some(ProcessState::Excepted(reason_of(detail)?)),
+        "Killed" => Some(ProcessState::Killed),
+        _ => None,
     }
-    Ok(())
 }
 
-fn names_processes(rows: &[(ProcessKind, &str)]) -> Result<(), Fail> {
-    for (kind, wanted) in rows {
-        same("a process", process_kind_name(*kind), wanted)?;
+/// What a state is called.
+fn state_name(alloc: Global, words: &str) -> Result<String, AllocError> {
+    match state_of(words) {
+        Some(state) => shown(alloc, state_text(alloc, state)),
+        None => word(alloc, "no such state"),
     }
-    Ok(())
 }
 
-#[test]
-fn states_reasons_and_kinds_have_names(rt: HostRuntime) -> Result<(), Fail> {
-    names_states(rt.alloc(), &STATES)?;
-    names_reasons(&REASONS)?;
-    names_processes(&KINDS)?;
-    same("a kind", kind_name(Kind::Dict), "dict")
+/// What the kind of process that a word names is called.
+fn process_name(name: &str) -> &'static str {
+    match name {
+        "Function" => process_kind_name(ProcessKind::Function),
+        "Job" => process_kind_name(ProcessKind::Job),
+        "Chain" => process_kind_name(ProcessKind::Chain),
+        _ => "no such kind",
+    }
+}
+
+/// What the kind of value that a word names is called.
+fn value_name(name: &str) -> &'static str {
+    match name {
+        "Dict" => kind_name(Kind::Dict),
+        _ => "no such kind",
+    }
+}
+
+/// What the reason that a word names is called.
+fn reason_word(name: &str) -> &'static str {
+    match reason_of(name) {
+        Some(reason) => reason_name(reason),
+        None => "no such reason",
+    }
+}
+
+/// What a state, a reason or a kind is called.
+pub fn name_answer(alloc: Global, verb: &str, words: &str) -> Result<String, AllocError> {
+    match verb {
+        "state" => state_name(alloc, words),
+        "reason" => word(alloc, reason_word(words)),
+        "process" => word(alloc, process_name(words)),
+        _ => word(alloc, value_name(words)),
+    }
 }

@@ -1,48 +1,11 @@
-//! The texts of values and of trees.
+//! The texts of trees.
 
-use crate::rows::same;
+use crate::shown::{shown, word};
+use crate::values::folder;
 use std::alloc::{AllocError, Global};
-use std::test::Fail;
-use wc_report::{tree_lines, value_text};
-use wc_value::{Branches, Bytes, Fields, Files, ProcessState, Reason, Text, Tree, Value, Values};
-
-/// A folder of one file.
-fn folder(alloc: Global, name: &str, content: &[u8]) -> Result<Value, AllocError> {
-    let mut bytes = Bytes::new(alloc);
-    bytes.extend(content)?;
-    let mut files = Files::new(alloc);
-    files.set(Text::of_str(alloc, name)?, bytes)?;
-    Ok(Value::Folder(files))
-}
-
-fn list(alloc: Global) -> Result<Value, AllocError> {
-    let mut items = Values::new(alloc);
-    items.push(Value::Int(1))?;
-    Ok(Value::List(items))
-}
-
-fn dictionary(alloc: Global) -> Result<Value, AllocError> {
-    let mut fields = Fields::new(alloc);
-    fields.set(Text::of_str(alloc, "k")?, Value::Bool(false))?;
-    Ok(Value::Dict(fields))
-}
-
-fn writes(alloc: Global, value: Value, wanted: &str) -> Result<(), Fail> {
-    same("a value", value_text(alloc, &value)?.as_str(), wanted)
-}
-
-#[test]
-fn values_stand_behind_their_kinds(rt: HostRuntime) -> Result<(), Fail> {
-    let alloc = rt.alloc();
-    writes(alloc, Value::Int(-3), "int -3")?;
-    writes(alloc, Value::Bool(true), "bool true")?;
-    let text = Value::Text(Text::of_str(alloc, "a\n\"é\"")?);
-    writes(alloc, text, r#"text "a\n\"é\"""#)?;
-    writes(alloc, list(alloc)?, "list [1]")?;
-    writes(alloc, dictionary(alloc)?, r#"dict {"k":false}"#)?;
-    let bytes = folder(alloc, "f", &[0xff])?;
-    writes(alloc, bytes, r#"folder {"f":{"hex":"ff"}}"#)
-}
+use wc_questions::filled;
+use wc_report::tree_lines;
+use wc_value::{Branches, Fields, ProcessState, Reason, Text, Tree, Value};
 
 /// A process that left and called nothing.
 fn ended(alloc: Global, definition: &str, state: ProcessState) -> Result<Tree, AllocError> {
@@ -54,89 +17,136 @@ fn ended(alloc: Global, definition: &str, state: ProcessState) -> Result<Tree, A
     })
 }
 
-/// Sets an output.
-fn leave(alloc: Global, tree: &mut Tree, label: &str, value: Value) -> Result<(), AllocError> {
-    tree.outputs.set(Text::of_str(alloc, label)?, value)
+/// A process that finished with 0, and left and called nothing.
+fn finished(alloc: Global, definition: &str) -> Result<Tree, AllocError> {
+    ended(alloc, definition, ProcessState::Finished(0))
 }
 
-/// Puts a called process at the end.
-fn call(alloc: Global, tree: &mut Tree, label: &str, called: Tree) -> Result<(), AllocError> {
-    tree.calls.push((Text::of_str(alloc, label)?, called))
+/// Sets a number as output.
+fn leave(alloc: Global, tree: &mut Tree, label: &str, number: i64) -> Result<(), AllocError> {
+    tree.outputs
+        .set(Text::of_str(alloc, label)?, Value::Int(number))
+}
+
+/// Sets the file that was brought back as output.
+fn retrieve(alloc: Global, tree: &mut Tree, content: &[u8]) -> Result<(), AllocError> {
+    let label = Text::of_str(alloc, "retrieved")?;
+    tree.outputs.set(label, folder(alloc, "out.txt", content)?)
+}
+
+/// What a job left that brought back its number in a file.
+fn double_leaves(
+    alloc: Global,
+    tree: &mut Tree,
+    number: i64,
+    content: &[u8],
+) -> Result<(), AllocError> {
+    leave(alloc, tree, "value", number)?;
+    retrieve(alloc, tree, content)
 }
 
 /// A job that brought back its number in a file.
-fn double(alloc: Global, value: i64, content: &[u8]) -> Result<Tree, AllocError> {
-    let mut tree = ended(alloc, "double", ProcessState::Finished(0))?;
-    leave(alloc, &mut tree, "value", Value::Int(value))?;
-    let retrieved = folder(alloc, "out.txt", content)?;
-    leave(alloc, &mut tree, "retrieved", retrieved)?;
-    Ok(tree)
+fn double(alloc: Global, number: i64, content: &[u8]) -> Result<Tree, AllocError> {
+    let mut tree = finished(alloc, "double")?;
+    let left = double_leaves(alloc, &mut tree, number, content);
+    filled(tree, left)
 }
 
 /// A function that left a sum.
 fn add(alloc: Global) -> Result<Tree, AllocError> {
-    let mut tree = ended(alloc, "add", ProcessState::Finished(0))?;
-    leave(alloc, &mut tree, "sum", Value::Int(4))?;
-    Ok(tree)
+    let mut tree = finished(alloc, "add")?;
+    let left = leave(alloc, &mut tree, "sum", 4);
+    filled(tree, left)
 }
 
-/// Two jobs and a function.
-fn parts(alloc: Global) -> Result<Branches, AllocError> {
-    let mut parts = Branches::new(alloc);
-    parts.push((Text::of_str(alloc, "parts_1")?, double(alloc, 4, b"4\n")?))?;
-    parts.push((Text::of_str(alloc, "parts_2")?, double(alloc, 6, b"6\n")?))?;
-    parts.push((Text::of_str(alloc, "parts_3")?, add(alloc)?))?;
-    Ok(parts)
+/// Puts a called job at the end.
+fn call_double(
+    alloc: Global,
+    calls: &mut Branches,
+    label: &str,
+    number: i64,
+    content: &[u8],
+) -> Result<(), AllocError> {
+    let label = Text::of_str(alloc, label)?;
+    calls.push((label, double(alloc, number, content)?))
 }
 
-/// A chain that called these.
+/// Puts a called function at the end.
+fn call_add(alloc: Global, calls: &mut Branches, label: &str) -> Result<(), AllocError> {
+    let label = Text::of_str(alloc, label)?;
+    calls.push((label, add(alloc)?))
+}
+
+/// What a chain left and called.
+fn fan_leaves(alloc: Global, tree: &mut Tree) -> Result<(), AllocError> {
+    leave(alloc, tree, "last", 4)?;
+    leave(alloc, tree, "first", 4)?;
+    call_double(alloc, &mut tree.calls, "parts_1", 4, b"4\n")?;
+    call_double(alloc, &mut tree.calls, "parts_2", 6, b"6\n")?;
+    call_add(alloc, &mut tree.calls, "parts_3")
+}
+
+/// A chain that called two jobs and a function.
 fn fan(alloc: Global) -> Result<Tree, AllocError> {
-    let mut tree = ended(alloc, "fan", ProcessState::Finished(0))?;
-    leave(alloc, &mut tree, "last", Value::Int(4))?;
-    leave(alloc, &mut tree, "first", Value::Int(4))?;
-    tree.calls = parts(alloc)?;
-    Ok(tree)
+    let mut tree = finished(alloc, "fan")?;
+    let left = fan_leaves(alloc, &mut tree);
+    filled(tree, left)
 }
 
-const FAN: &str = "finished 0
-first int 4
-last int 4
-call parts_1 double finished 0
-  retrieved folder {\"out.txt\":\"4\\n\"}
-  value int 4
-call parts_2 double finished 0
-  retrieved folder {\"out.txt\":\"6\\n\"}
-  value int 6
-call parts_3 add finished 0
-  sum int 4
-";
+/// Puts a called process at the end that left and called nothing.
+fn call(
+    alloc: Global,
+    calls: &mut Branches,
+    label: &str,
+    definition: &str,
+    state: ProcessState,
+) -> Result<(), AllocError> {
+    let label = Text::of_str(alloc, label)?;
+    calls.push((label, ended(alloc, definition, state)?))
+}
 
-/// Calls two deep, whose labels don't ascend.
+/// What the middle one left and called: its labels don't ascend.
+fn middle_leaves(alloc: Global, tree: &mut Tree) -> Result<(), AllocError> {
+    let label = Text::of_str(alloc, "x")?;
+    tree.outputs.set(label, Value::Bool(false))?;
+    call(alloc, &mut tree.calls, "z", "c", ProcessState::Killed)?;
+    call(alloc, &mut tree.calls, "a", "d", ProcessState::Finished(0))
+}
+
+/// A process in the middle.
+fn middle(alloc: Global) -> Result<Tree, AllocError> {
+    let mut tree = ended(alloc, "b", ProcessState::Finished(310))?;
+    let left = middle_leaves(alloc, &mut tree);
+    filled(tree, left)
+}
+
+/// Puts the process in the middle at the end.
+fn call_middle(alloc: Global, calls: &mut Branches) -> Result<(), AllocError> {
+    let label = Text::of_str(alloc, "m")?;
+    calls.push((label, middle(alloc)?))
+}
+
+/// Calls two deep.
 fn deep(alloc: Global) -> Result<Tree, AllocError> {
-    let mut middle = ended(alloc, "b", ProcessState::Finished(310))?;
-    leave(alloc, &mut middle, "x", Value::Bool(false))?;
-    let lowest = ended(alloc, "c", ProcessState::Killed)?;
-    call(alloc, &mut middle, "z", lowest)?;
-    let second = ended(alloc, "d", ProcessState::Finished(0))?;
-    call(alloc, &mut middle, "a", second)?;
     let excepted = ProcessState::Excepted(Reason::DivideByZero);
     let mut tree = ended(alloc, "top", excepted)?;
-    call(alloc, &mut tree, "m", middle)?;
-    Ok(tree)
+    let called = call_middle(alloc, &mut tree.calls);
+    filled(tree, called)
 }
 
-const DEEP: &str = "excepted division by zero
-call m b finished 310
-  x bool false
-  call z c killed
-  call a d finished 0
-";
+/// The text of a tree that there may be.
+fn told(alloc: Global, tree: Result<Tree, AllocError>) -> Result<String, AllocError> {
+    match tree {
+        Ok(tree) => shown(alloc, tree_lines(alloc, &tree)),
+        Err(error) => Err(error),
+    }
+}
 
-#[test]
-fn trees_are_indented_lines(rt: HostRuntime) -> Result<(), Fail> {
-    let alloc = rt.alloc();
-    let lines = tree_lines(alloc, &fan(alloc)?)?;
-    same("a fan", lines.as_str(), FAN)?;
-    let lines = tree_lines(alloc, &deep(alloc)?)?;
-    same("calls two deep", lines.as_str(), DEEP)
+/// The text of the tree that a word names.
+pub fn tree_answer(alloc: Global, name: &str) -> Result<String, AllocError> {
+    match name {
+        "fan" => told(alloc, fan(alloc)),
+        "deep" => told(alloc, deep(alloc)),
+        _ => word(alloc, "no such tree"),
+    }
 }

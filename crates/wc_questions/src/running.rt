@@ -1,0 +1,23 @@
+//! A program that asks what its input asks.
+
+use crate::asking::{Answers, ask_all};
+use std::io::{self, Read};
+use std::process::ExitCode;
+
+/// The whole input.
+fn input(rt: &HostRuntime) -> io::Result<String> {
+    let mut text = String::new(rt.alloc());
+    rt.reader().read_to_string(&mut text)?;
+    Ok(text)
+}
+
+/// Asks the questions of the input, and prints what came. The status tells whether all answers were right.
+pub fn ask_input<A: Answers>(rt: &HostRuntime, answers: &mut A) -> io::Result<ExitCode> {
+    let text = input(rt)?;
+    let report = ask_all(rt.alloc(), answers, text.as_str())?;
+    print!(rt; "{}", report.text())?;
+    if report.is_right() {
+        return Ok(ExitCode::SUCCESS);
+    }
+    Ok(ExitCode::FAILURE)
+}

@@ -1,0 +1,18 @@
+//! Asks for the texts of values, of trees and of lines, and tells whose answers aren't right. What is right was worked out by hand
+//! from the rules.
+#![tactic(auto)]
+
+mod lines;
+mod names;
+mod shown;
+mod trees;
+mod values;
+
+use crate::shown::Texts;
+use std::io;
+use std::process::ExitCode;
+use wc_questions::ask_input;
+
+fn main(rt: HostRuntime) -> io::Result<ExitCode> {
+    ask_input(&rt, &mut Texts)
+}

@@ -1,0 +1,50 @@
+//! Texts as answers, and which question asks for which.
+
+use crate::lines::line_answer;
+use crate::names::name_answer;
+use crate::trees::tree_answer;
+use crate::values::value_answer;
+use std::alloc::{AllocError, Global};
+use wc_questions::{Answers, first_word};
+use wc_value::Text;
+
+/// A word as an answer.
+pub fn word(alloc: Global, word: &str) -> Result<String, AllocError> {
+    String::from_str(alloc, word)
+}
+
+/// The lines of a text in one, with a bar for each end of a line.
+pub fn barred(alloc: Global, text: &str) -> Result<String, AllocError> {
+    let mut line = String::new(alloc);
+    for (at, part) in text.split('\n').enumerate() {
+        if at > 0 {
+            line.push_str("|")?;
+        }
+        line.push_str(part)?;
+    }
+    Ok(line)
+}
+
+/// A text that there may be, as an answer.
+pub fn shown(alloc: Global, text: Result<Text, AllocError>) -> Result<String, AllocError> {
+    match text {
+        Ok(text) => barred(alloc, text.as_str()),
+        Err(error) => Err(error),
+    }
+}
+
+/// The texts, which keep nothing.
+#[derive(Drop)]
+pub struct Texts;
+
+impl Answers for Texts {
+    fn answer(&mut self, alloc: Global, question: &str) -> Result<String, AllocError> {
+        let (verb, words) = first_word(question);
+        match verb {
+            "state" | "reason" | "process" | "kind" => name_answer(alloc, verb, words),
+            "value" => value_answer(alloc, words),
+            "tree" => tree_answer(alloc, words),
+            _ => line_answer(alloc, verb, words),
+        }
+    }
+}

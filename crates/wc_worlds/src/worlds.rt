@@ -1,316 +1,156 @@
-//! Worlds made by hand: what they take, the trees that they record, and their environments.
+//! Worlds: the changes that they take and refuse, and what they tell.
 
-use crate::rows::first_wrong;
-use std::alloc::{AllocError, Global};
-use std::test::Fail;
-use wc_check::check;
-use wc_graph::{Link, LinkType, NodeKind};
-use wc_parser::parse;
-use wc_report::tree_lines;
-use wc_state::{Await, Checkpoint, Part, ProcessKind};
-use wc_syntax::Checked;
-use wc_value::{ProcessState, Text, Value, Words, same_value};
-use wc_world::{Change, Changes, NewProcess, SetProcess, World, WorldError, env_of, tree_of};
+use crate::changes::changes_of;
+use crate::letting::let_go;
+use crate::stop::Stop;
+use crate::telling::{put_done, put_error, put_line};
+use std::alloc::Global;
+use std::mem;
+use wc_graph::NodeKind;
+use wc_report::{state_text, tree_lines, value_text};
+use wc_state::Part;
+use wc_value::{Text, Value, Values, Words};
+use wc_world::{Change, Changes, World, WorldError, tree_of};
 
-/// A function, a job, and two chains of which the outer calls the inner, which calls the function.
-const FILE: &str = "calcfunction add(x: int, y: int) -> (sum: int) { out sum = x + y; }
-calcjob run(x: int) -> (y: int) { program \"run\"; parse { out y = 1; } }
-workchain inner(x: int) -> (y: int) {
-  step go { call add(x: inputs.x, y: inputs.x) to ctx.a; }
-  step end { out y = ctx.a.outputs.sum; }
-}
-workchain outer(x: int) -> (y: int) {
-  step go { call inner(x: inputs.x) to ctx.b; }
-  step end { out y = ctx.b.outputs.y; }
-}
-";
-
-/// The library of the file, as a change.
-pub fn library(alloc: Global) -> Result<Change, Fail> {
-    let library: Checked = check(alloc, parse(alloc, &Text::of_str(alloc, FILE)?)?)?;
-    Ok(Change::Library(library, Words::new(alloc)))
+/// Tells whether a world takes changes, or why not.
+fn put_judged(told: &mut String, judged: Result<(), WorldError>) -> Result<(), Stop> {
+    match judged {
+        Ok(()) => put_line(told, "fits"),
+        Err(error) => put_error(told, &error),
+    }
 }
 
-/// A new process.
-pub fn process(
-    alloc: Global,
-    kind: ProcessKind,
-    name: &str,
-    depth: u32,
-    label: &str,
-) -> Result<Change, AllocError> {
-    Ok(Change::Process(NewProcess {
-        kind,
-        definition: Text::of_str(alloc, name)?,
-        library: 1,
-        depth,
-        label: Text::of_str(alloc, label)?,
-        caching: false,
-    }))
+/// Whether a world takes changes. This says nothing of the call, so that no row carries what it promises.
+fn judge(alloc: Global, world: &World, changes: &Changes) -> Result<(), WorldError> {
+    world.accepts(alloc, changes)
 }
 
-/// A link.
-pub fn link(
-    alloc: Global,
-    source: u32,
-    link: LinkType,
-    target: u32,
-    label: &str,
-) -> Result<Change, AllocError> {
-    Ok(Change::Link(Link {
-        source,
-        target,
-        link,
-        label: Text::of_str(alloc, label)?,
-    }))
+/// Tells whether a world takes the changes that bytes spell, or why not.
+pub fn fits(alloc: Global, world: &World, bytes: &[u8], told: &mut String) -> Result<(), Stop> {
+    match changes_of(alloc, bytes) {
+        Ok(changes) => {
+            let judged = judge(alloc, world, &changes);
+            let_go(changes);
+            put_judged(told, judged)
+        }
+        Err(error) => put_error(told, &error),
+    }
 }
 
-/// What a process is from now on, with no marks.
-pub fn set(pid: u32, state: ProcessState, part: Part) -> Change {
-    Change::Set(SetProcess {
-        pid,
-        state,
-        paused: false,
-        cached_from: 0,
-        fuel: 0,
-        code: None,
-        part,
-    })
+/// Names of a library end in one that stands before the others.
+fn worsen_names(alloc: Global, names: &mut Words) {
+    if let Ok(least) = Text::of_str(alloc, "") {
+        let _pushed = names.push(least);
+    }
 }
 
-/// The process has finished.
-pub fn finished(pid: u32) -> Change {
-    set(pid, ProcessState::Finished(0), Part::Over)
+/// A value stands in one list more.
+fn worsen_value(alloc: Global, value: &mut Value) {
+    let mut outside = Values::new(alloc);
+    let _pushed = outside.push(mem::replace(value, Value::Int(0)));
+    *value = Value::List(outside);
 }
 
-/// Changes of one.
-pub fn one(alloc: Global, change: Change) -> Result<Changes, AllocError> {
-    let mut changes = Changes::new(alloc);
-    changes.push(change)?;
-    Ok(changes)
+/// A job has failed six times.
+fn worsen_part(part: &mut Part) {
+    if let Part::Job(job) = part {
+        job.fails = 6;
+    }
 }
 
-/// The world with changes that it accepts.
-pub fn take(alloc: Global, world: &mut World, changes: Changes) -> Result<(), WorldError> {
+/// Makes a change one that no bytes spell, if there is such a one.
+fn worsen(alloc: Global, change: &mut Change) {
+    match change {
+        Change::Library(_library, names) => worsen_names(alloc, names),
+        Change::Data(value) => worsen_value(alloc, value),
+        Change::Set(set) => worsen_part(&mut set.part),
+        _ => {}
+    }
+}
+
+/// The last change alone, made one that no bytes spell.
+fn worst(alloc: Global, changes: Changes) -> Changes {
+    let mut worst = Changes::new(alloc);
+    if let Some(mut change) = changes.into_vec().pop() {
+        worsen(alloc, &mut change);
+        let _pushed = worst.push(change);
+    }
+    worst
+}
+
+/// Tells whether a world takes the last change that bytes spell, made one that no bytes spell, or why not.
+pub fn worse(alloc: Global, world: &World, bytes: &[u8], told: &mut String) -> Result<(), Stop> {
+    match changes_of(alloc, bytes) {
+        Ok(changes) => {
+            let worst = worst(alloc, changes);
+            let judged = judge(alloc, world, &worst);
+            let_go(worst);
+            put_judged(told, judged)
+        }
+        Err(error) => put_error(told, &error),
+    }
+}
+
+/// The world with changes that it takes.
+fn add(alloc: Global, world: &mut World, changes: Changes) -> Result<(), WorldError> {
     world.accepts(alloc, &changes)?;
     world.reserve(alloc, &changes)?;
     world.apply(changes);
     Ok(())
 }
 
-/// Whether a world has no process 1.
-fn has_none(alloc: Global, world: &World) -> bool {
-    let is_treeless = matches!(tree_of(alloc, world, 1), Err(WorldError::NoProcess(1)));
-    let is_bare = matches!(env_of(alloc, world, 1), Err(WorldError::NoProcess(1)));
-    is_treeless && is_bare && world.record_of(1).is_none()
-}
-
-/// Whether the first node is the number 5.
-fn has_five(world: &World) -> bool {
-    match world.graph().nodes().get(0) {
-        Some(NodeKind::Data(value)) => same_value(value, &Value::Int(5)),
-        _ => false,
+/// A world takes the changes that bytes spell, or it is told why it doesn't.
+pub fn take(alloc: Global, world: &mut World, bytes: &[u8], told: &mut String) -> Result<(), Stop> {
+    match changes_of(alloc, bytes) {
+        Ok(changes) => put_done(told, add(alloc, world, changes)),
+        Err(error) => put_error(told, &error),
     }
 }
 
-/// A world of nothing, and then of one number.
-fn data(alloc: Global) -> Result<Option<usize>, Fail> {
-    let mut world = World::new(alloc);
-    let is_bare = has_none(alloc, &world);
-    let is_new = world.batches() == 0 && world.records().as_slice().is_empty();
-    take(alloc, &mut world, one(alloc, Change::Data(Value::Int(5)))?)?;
-    take(alloc, &mut world, Changes::new(alloc))?;
-    Ok(first_wrong(&[
-        is_bare,
-        is_new,
-        world.batches() == 2,
-        world.graph().nodes().len() == 1,
-        has_five(&world),
-    ]))
+/// Tells how many batches, nodes, links, processes and libraries there are.
+pub fn put_counts(world: &World, told: &mut String) -> Result<(), Stop> {
+    let batches = world.batches();
+    let nodes = world.graph().nodes().len();
+    let links = world.graph().links().len();
+    let processes = world.records().as_slice().len();
+    let libraries = world.libraries().len();
+    write!(told, "batches {batches} nodes {nodes} links {links} ")?;
+    Ok(writeln!(told, "processes {processes} libraries {libraries}")?)
 }
 
-/// The inputs 2 and 3 of process 3.
-fn inputs(alloc: Global) -> Result<Changes, Fail> {
-    let mut changes = Changes::new(alloc);
-    changes.push(library(alloc)?)?;
-    changes.push(Change::Data(Value::Int(2)))?;
-    changes.push(Change::Data(Value::Int(3)))?;
-    Ok(changes)
-}
-
-/// The submission of `add` with 2 and 3, which is process 3.
-pub fn submission(alloc: Global) -> Result<Changes, Fail> {
-    let mut changes = inputs(alloc)?;
-    changes.push(process(alloc, ProcessKind::Function, "add", 1, "")?)?;
-    changes.push(link(alloc, 1, LinkType::InputCalc, 3, "x")?)?;
-    changes.push(link(alloc, 2, LinkType::InputCalc, 3, "y")?)?;
-    Ok(changes)
-}
-
-/// The world with process 3.
-pub fn submitted(alloc: Global) -> Result<World, Fail> {
-    let mut world = World::new(alloc);
-    take(alloc, &mut world, submission(alloc)?)?;
-    Ok(world)
-}
-
-/// The turn of process 3.
-fn turn(alloc: Global) -> Result<Changes, Fail> {
-    let mut changes = Changes::new(alloc);
-    changes.push(Change::Data(Value::Int(5)))?;
-    changes.push(link(alloc, 3, LinkType::Create, 4, "sum")?)?;
-    changes.push(finished(3))?;
-    Ok(changes)
-}
-
-/// Whether a process finished in the batch in which it started, the second.
-fn has_finished(world: &World, pid: u32) -> bool {
-    match world.record_of(pid) {
-        Some(record) => {
-            record.state == ProcessState::Finished(0) && (record.started, record.ended) == (2, 2)
+/// Tells the value of a data node.
+pub fn put_value(alloc: Global, world: &World, node: u32, told: &mut String) -> Result<(), Stop> {
+    let at = node.checked_sub(1).ok_or(Stop::NoRow)?;
+    match world.graph().nodes().get(at as usize) {
+        Some(NodeKind::Data(value)) => {
+            let text = value_text(alloc, value)?;
+            put_line(told, text.as_str())
         }
-        None => false,
+        _ => put_line(told, "no data"),
     }
 }
 
-/// Whether the tree of a process has this text.
-fn has_tree(alloc: Global, world: &World, pid: u32, want: &str) -> Result<bool, Fail> {
-    let tree = tree_of(alloc, world, pid)?;
-    Ok(tree_lines(alloc, &tree)?.as_str() == want)
+/// Tells what a process runs, its state, its fuel, and in which batches it started and ended.
+pub fn put_record(alloc: Global, world: &World, pid: u32, told: &mut String) -> Result<(), Stop> {
+    let Some(record) = world.record_of(pid) else {
+        return put_line(told, "no process");
+    };
+    let definition = record.definition.as_str();
+    let state = state_text(alloc, record.state)?;
+    let state = state.as_str();
+    let (fuel, started, ended) = (record.fuel, record.started, record.ended);
+    write!(told, "{definition} {state} fuel {fuel} ")?;
+    Ok(writeln!(told, "started {started} ended {ended}")?)
 }
 
-/// A function that is submitted.
-fn function(alloc: Global) -> Result<Option<usize>, Fail> {
-    let world = submitted(alloc)?;
-    Ok(first_wrong(&[
-        world.graph().nodes().len() == 3,
-        world.graph().links().len() == 2,
-        world.libraries().len() == 1,
-        world.batches() == 1,
-    ]))
-}
-
-/// A function that ends.
-fn ended(alloc: Global) -> Result<Option<usize>, Fail> {
-    let mut world = submitted(alloc)?;
-    take(alloc, &mut world, turn(alloc)?)?;
-    Ok(first_wrong(&[
-        has_finished(&world, 3),
-        world.record_of(4).is_none(),
-        has_tree(alloc, &world, 3, "finished 0\nsum int 5\n")?,
-    ]))
-}
-
-/// Data 1, and the chain `outer` as process 2.
-fn outer(alloc: Global) -> Result<Changes, Fail> {
-    let mut changes = Changes::new(alloc);
-    changes.push(library(alloc)?)?;
-    changes.push(Change::Data(Value::Int(4)))?;
-    changes.push(process(alloc, ProcessKind::Chain, "outer", 1, "")?)?;
-    changes.push(link(alloc, 1, LinkType::InputWork, 2, "x")?)?;
-    Ok(changes)
-}
-
-/// A checkpoint that has made a call and awaits it.
-pub fn awaiting(alloc: Global, key: &str, pid: u32) -> Result<Part, AllocError> {
-    let mut checkpoint = Checkpoint::first(alloc)?;
-    checkpoint.awaiting.push(Await {
-        key: Text::of_str(alloc, key)?,
-        append: false,
-        pid,
-    })?;
-    checkpoint.calls = 1;
-    Ok(Part::Chain(checkpoint))
-}
-
-/// A chain calls the next process, which takes data 1.
-fn call(
-    alloc: Global,
-    caller: u32,
-    pid: u32,
-    called: Change,
-    ends: (LinkType, LinkType),
-    key: &str,
-) -> Result<Changes, Fail> {
-    let label = format!(in alloc; "{key}_1")?;
-    let mut changes = one(alloc, called)?;
-    changes.push(link(alloc, 1, ends.0, pid, "x")?)?;
-    changes.push(link(alloc, caller, ends.1, pid, label.as_str())?)?;
-    let part = awaiting(alloc, key, pid)?;
-    changes.push(set(caller, ProcessState::Waiting, part))?;
-    Ok(changes)
-}
-
-/// A chain finishes with data that is there.
-fn returned(alloc: Global, pid: u32, data: u32) -> Result<Changes, Fail> {
-    let mut changes = one(alloc, link(alloc, pid, LinkType::Return, data, "y")?)?;
-    changes.push(finished(pid))?;
-    Ok(changes)
-}
-
-/// The function 4 ends with data 5.
-fn summed(alloc: Global) -> Result<Changes, Fail> {
-    let mut changes = one(alloc, Change::Data(Value::Int(8)))?;
-    changes.push(link(alloc, 4, LinkType::Create, 5, "sum")?)?;
-    changes.push(finished(4))?;
-    Ok(changes)
-}
-
-/// A world with calls two deep.
-fn calling(alloc: Global) -> Result<World, Fail> {
-    let mut world = World::new(alloc);
-    take(alloc, &mut world, outer(alloc)?)?;
-    let inner = process(alloc, ProcessKind::Chain, "inner", 2, "b_1")?;
-    let ends = (LinkType::InputWork, LinkType::CallWork);
-    take(alloc, &mut world, call(alloc, 2, 3, inner, ends, "b")?)?;
-    let add = process(alloc, ProcessKind::Function, "add", 3, "a_1")?;
-    let ends = (LinkType::InputCalc, LinkType::CallCalc);
-    take(alloc, &mut world, call(alloc, 3, 4, add, ends, "a")?)?;
-    Ok(world)
-}
-
-/// That world, after each has ended.
-fn called(alloc: Global) -> Result<World, Fail> {
-    let mut world = calling(alloc)?;
-    take(alloc, &mut world, summed(alloc)?)?;
-    take(alloc, &mut world, returned(alloc, 3, 5)?)?;
-    take(alloc, &mut world, returned(alloc, 2, 5)?)?;
-    Ok(world)
-}
-
-/// The tree of that world.
-const CALLED: &str = "finished 0
-y int 8
-call b_1 inner finished 0
-  y int 8
-  call a_1 add finished 0
-    sum int 8
-";
-
-/// Whether process 3 has one input, the data 1, and no key.
-fn has_input(alloc: Global, world: &World) -> Result<bool, WorldError> {
-    let env = env_of(alloc, world, 3)?;
-    match env.inputs.find(b"x") {
-        Some(input) => Ok(input.node == 1 && env.inputs.len() == 1 && env.ctx.len() == 0),
-        None => Ok(false),
+/// Tells the tree that a world records of a process.
+pub fn put_tree(alloc: Global, world: &World, pid: u32, told: &mut String) -> Result<(), Stop> {
+    match tree_of(alloc, world, pid) {
+        Ok(tree) => {
+            let lines = tree_lines(alloc, &tree);
+            let_go(tree);
+            Ok(told.push_str(lines?.as_str())?)
+        }
+        Err(error) => put_error(told, &error),
     }
-}
-
-/// Calls two deep.
-fn calls(alloc: Global) -> Result<Option<usize>, Fail> {
-    let world = called(alloc)?;
-    Ok(first_wrong(&[
-        has_tree(alloc, &world, 2, CALLED)?,
-        has_input(alloc, &world)?,
-    ]))
-}
-
-#[test]
-fn worlds_take_changes(rt: HostRuntime) -> Result<(), Fail> {
-    let alloc = rt.alloc();
-    assert_eq!(rt; data(alloc)?, None);
-    assert_eq!(rt; function(alloc)?, None);
-    assert_eq!(rt; ended(alloc)?, None);
-    assert_eq!(rt; calls(alloc)?, None);
-    Ok(())
 }

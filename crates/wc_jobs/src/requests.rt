@@ -1,14 +1,14 @@
 //! The requests of named jobs.
 
 use std::alloc::{AllocError, Global};
-use std::test::Fail;
 use wc_check::check;
 use wc_expression::Outcome;
 use wc_job::request_of;
 use wc_meaning::find_definition;
 use wc_parser::parse;
+use wc_questions::first_word;
 use wc_syntax::{Checked, Definition};
-use wc_value::{Bytes, Fields, Keyed, Reason, Request, Text, Value, Words, same_request};
+use wc_value::{Fields, Files, Request, Text, Value, Words};
 
 /// A function and two jobs.
 const FILE: &str = "calcfunction add(x: int) -> (y: int) { out y = x; }
@@ -22,27 +22,12 @@ calcjob many(x: int, t: text) -> (y: int) {
 }
 ";
 
-/// Words, in order.
-fn words(alloc: Global, items: &[&str]) -> Result<Words, AllocError> {
-    let mut words = Words::new(alloc);
-    for item in items {
-        words.push(Text::of_str(alloc, item)?)?;
+/// The library of the file.
+fn library(alloc: Global) -> Result<Checked, AllocError> {
+    match parse(alloc, &Text::of_str(alloc, FILE)?) {
+        Ok(library) => check(alloc, library).map_err(|_| AllocError),
+        Err(_) => Err(AllocError),
     }
-    Ok(words)
-}
-
-/// The request of `half` for 2 and `cat`.
-fn halved(alloc: Global) -> Result<Request, AllocError> {
-    let mut content = Bytes::new(alloc);
-    content.extend(b"cat!")?;
-    let mut files = Keyed::new(alloc);
-    files.set(Text::of_str(alloc, "in")?, content)?;
-    Ok(Request {
-        program: Text::of_str(alloc, "cat")?,
-        args: words(alloc, &["-n", "4"])?,
-        files,
-        fetch: words(alloc, &["y"])?,
-    })
 }
 
 /// The inputs `x` and `t`.
@@ -69,77 +54,72 @@ fn asked(
     }
 }
 
-fn asked_word(asked: &Option<Outcome<Request>>, wanted: &Request) -> &'static str {
-    match asked {
-        None => "no job",
-        Some(Outcome::Gives(request)) => {
-            if same_request(request, wanted) {
-                "the request"
-            } else {
-                "another request"
-            }
-        }
-        Some(Outcome::Faults(Reason::DivideByZero)) => "no divisor",
-        Some(Outcome::Faults(Reason::BadText)) => "bad text",
-        Some(Outcome::Faults(_)) => "another reason",
+/// Puts words behind a text, each behind a space.
+fn put_words(text: &mut String, words: &Words) -> Result<(), AllocError> {
+    for word in words.as_slice() {
+        text.push_str(" ")?;
+        text.push_str(word.as_str())?;
     }
-}
-
-/// What a row asks: a name, and the inputs `x` and `t`.
-fn row_word(
-    alloc: Global,
-    library: &Checked,
-    wanted: &Request,
-    row: &(&str, i64, &str),
-) -> Result<&'static str, AllocError> {
-    let (name, x, t) = row;
-    let name = Text::of_str(alloc, name)?;
-    let inputs = inputs(alloc, *x, t)?;
-    let asked = asked(alloc, library, &name, &inputs)?;
-    Ok(asked_word(&asked, wanted))
-}
-
-/// What is asked, one row after the other.
-fn row_words(
-    alloc: Global,
-    library: &Checked,
-    wanted: &Request,
-    rows: &[(&str, i64, &str)],
-) -> Result<Vec<&'static str>, AllocError> {
-    let mut words = Vec::new(alloc);
-    for row in rows {
-        words.push(row_word(alloc, library, wanted, row)?)?;
-    }
-    Ok(words)
-}
-
-/// The words of rows, over the library of the file.
-fn all_asked(alloc: Global, rows: &[(&str, i64, &str)]) -> Result<Vec<&'static str>, Fail> {
-    let wanted = halved(alloc)?;
-    let library = check(alloc, parse(alloc, &Text::of_str(alloc, FILE)?)?)?;
-    Ok(row_words(alloc, &library, &wanted, rows)?)
-}
-
-#[test]
-fn a_named_job_has_a_request_or_its_first_reason(rt: HostRuntime) -> Result<(), Fail> {
-    let rows = [
-        ("half", 2, "cat"),
-        ("half", 4, "cat"),
-        ("half", 0, "cat"),
-        ("many", 0, "nine"),
-        ("many", 0, "57"),
-        ("add", 2, "cat"),
-        ("double", 2, "cat"),
-    ];
-    let wanted = [
-        "the request",
-        "another request",
-        "no divisor",
-        "bad text",
-        "no divisor",
-        "no job",
-        "no job",
-    ];
-    assert_eq!(rt; all_asked(rt.alloc(), &rows)?.as_slice(), wanted.as_slice());
     Ok(())
+}
+
+/// Puts files with what they hold behind a text.
+fn put_files(text: &mut String, files: &Files) -> Result<(), AllocError> {
+    for (name, content) in files.as_slice() {
+        text.push_str(" ")?;
+        text.push_str(name.as_str())?;
+        text.push_str("=")?;
+        text.push_str(str::from_utf8(content.as_slice()).unwrap_or("bytes"))?;
+    }
+    Ok(())
+}
+
+/// A request as text: the program and its arguments, the files that it finds, those to bring back.
+fn request_text(alloc: Global, request: &Request) -> Result<String, AllocError> {
+    let mut text = String::from_str(alloc, request.program.as_str())?;
+    put_words(&mut text, &request.args)?;
+    text.push_str(";")?;
+    put_files(&mut text, &request.files)?;
+    text.push_str(";")?;
+    put_words(&mut text, &request.fetch)?;
+    Ok(text)
+}
+
+/// What was asked, as text.
+fn asked_text(alloc: Global, asked: &Option<Outcome<Request>>) -> Result<String, AllocError> {
+    match asked {
+        None => String::from_str(alloc, "no job"),
+        Some(Outcome::Gives(request)) => request_text(alloc, request),
+        Some(Outcome::Faults(reason)) => format!(in alloc; "{reason:?}"),
+    }
+}
+
+/// What a definition of this name asks for, with these inputs.
+fn answer_of(
+    alloc: Global,
+    library: &Checked,
+    name: &Text,
+    inputs: &Fields,
+) -> Result<String, AllocError> {
+    match asked(alloc, library, name, inputs) {
+        Ok(asked) => asked_text(alloc, &asked),
+        Err(error) => Err(error),
+    }
+}
+
+/// What a definition of a library asks for: its name, and the inputs `x` and `t`.
+fn answer_in(alloc: Global, library: &Checked, words: &str) -> Result<String, AllocError> {
+    let (name, words) = first_word(words);
+    let (x, t) = first_word(words);
+    let name = Text::of_str(alloc, name)?;
+    let inputs = inputs(alloc, x.parse().unwrap_or(0), t)?;
+    answer_of(alloc, library, &name, &inputs)
+}
+
+/// What a definition of the file asks for: its name, and the inputs `x` and `t`.
+pub fn request_answer(alloc: Global, words: &str) -> Result<String, AllocError> {
+    match library(alloc) {
+        Ok(library) => answer_in(alloc, &library, words),
+        Err(error) => Err(error),
+    }
 }

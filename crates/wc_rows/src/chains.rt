@@ -1,71 +1,27 @@
-//! Trees of work chains, worked out by hand from the rules.
+//! Trees of work chains.
 
-use crate::bytes::bytes_of;
-use crate::files::FAN;
+use crate::files::{CLIMB, FAN};
 use std::alloc::{AllocError, Global};
-use std::test::Fail;
 use wc_check::check;
-use wc_meaning::{dry, replay};
+use wc_meaning::{DryError, dry, replay};
 use wc_parser::parse;
+use wc_questions::first_word;
 use wc_report::tree_lines;
-use wc_semantics::Kills;
+use wc_semantics::{Kills, Replayed};
 use wc_syntax::Checked;
-use wc_value::{Fields, Files, JobResult, Request, Rows, Table, Text, Tree, Value, Words};
-
-/// Climbs to 3 in a loop and calls a function there. It leaves with a status where it began above.
-const CLIMB: &str = "
-calcfunction next(x: int) -> (r: int) { out r = x + 1; }
-workchain climb(x: int) -> (r: int) {
-  exit_code 400 \"too large\";
-  step begin { ctx.n = inputs.x; }
-  while ctx.n < 3 { step turn { ctx.n = ctx.n + 1; } }
-  if ctx.n == 3 { step grow { call next(x: ctx.n) to ctx.c; } } else { return 400; }
-  step end { out r = ctx.c.outputs.r; }
-}";
-
-/// The text of a climb that ends well.
-const WELL: &str = "finished 0\nr int 4\ncall c_1 next finished 0\n  r int 4\n";
-
-/// The input, the fuel, what is killed with the number of its calls, a child by its label or the root, and the text.
-type Case<'a> = (i64, u64, Option<(&'a str, u32)>, &'a str);
-
-const CASES: [Case; 8] = [
-    (0, 4, None, WELL),
-    (0, 3, None, "none"),
-    (4, 0, None, "finished 400\n"),
-    (
-        3,
-        9,
-        Some(("c_1", 0)),
-        "excepted no such output\ncall c_1 next killed\n",
-    ),
-    (3, 9, Some(("c_1", 1)), "none"),
-    (
-        3,
-        9,
-        Some(("", 1)),
-        "killed\ncall c_1 next finished 0\n  r int 4\n",
-    ),
-    (3, 9, Some(("", 0)), "killed\n"),
-    (-9_997, 10_001, None, WELL),
-];
-
-/// A list with at most one row, of a child or of the root.
-fn kills(alloc: Global, row: Option<(&str, u32)>) -> Result<Kills, AllocError> {
-    let mut kills = Kills::new(alloc);
-    if let Some((label, count)) = row {
-        let mut path = Words::new(alloc);
-        if !label.is_empty() {
-            path.push(Text::of_str(alloc, label)?)?;
-        }
-        kills.push((path, count))?;
-    }
-    Ok(kills)
-}
+use wc_value::{Bytes, Fields, Files, JobResult, Request, Rows, Table, Text, Tree, Value, Words};
 
 /// The library of a file.
-fn library(alloc: Global, file: &str) -> Result<Checked, Fail> {
-    Ok(check(alloc, parse(alloc, &Text::of_str(alloc, file)?)?)?)
+fn library(alloc: Global, file: &str) -> Result<Checked, AllocError> {
+    match parse(alloc, &Text::of_str(alloc, file)?) {
+        Ok(library) => check(alloc, library).map_err(|_| AllocError),
+        Err(_) => Err(AllocError),
+    }
+}
+
+/// A table of these rows.
+fn table(alloc: Global, rows: Rows) -> Result<Table, AllocError> {
+    Table::new(alloc, rows).map_err(|_| AllocError)
 }
 
 /// One whole number as input.
@@ -75,40 +31,87 @@ fn input(alloc: Global, port: &str, number: i64) -> Result<Fields, AllocError> {
     Ok(inputs)
 }
 
+/// The lines of a text in one, each with a bar behind it.
+fn barred(alloc: Global, text: &str) -> Result<String, AllocError> {
+    let mut line = String::new(alloc);
+    for part in text.split('\n') {
+        if !part.is_empty() {
+            line.push_str(part)?;
+            line.push_str("|")?;
+        }
+    }
+    Ok(line)
+}
+
 /// The text of a tree, or none.
-fn told(alloc: Global, tree: Option<&Tree>) -> Result<Text, AllocError> {
+fn told(alloc: Global, tree: Option<&Tree>) -> Result<String, AllocError> {
     match tree {
-        Some(tree) => tree_lines(alloc, tree),
-        None => Text::of_str(alloc, "none"),
+        Some(tree) => barred(alloc, tree_lines(alloc, tree)?.as_str()),
+        None => String::from_str(alloc, "none"),
     }
 }
 
-/// The text of the tree of a climb, or none.
-fn climb(alloc: Global, x: i64, fuel: u64, kills: &Kills) -> Result<Text, Fail> {
-    let library = library(alloc, CLIMB)?;
-    let inputs = input(alloc, "x", x)?;
-    let table = Table::new(alloc, Rows::new(alloc))?;
+/// The text of what a chain was told to be, or none.
+fn replayed_text(alloc: Global, replayed: &Option<Replayed>) -> Result<String, AllocError> {
+    told(alloc, replayed.as_ref().map(|replayed| &replayed.tree))
+}
+
+/// The text of what came of a chain.
+fn came(alloc: Global, replayed: Result<Option<Replayed>, DryError>) -> Result<String, AllocError> {
+    match replayed {
+        Ok(replayed) => replayed_text(alloc, &replayed),
+        Err(_) => Err(AllocError),
+    }
+}
+
+/// Who is killed: nobody, or the one of this label, or `root`, after so many calls.
+fn kills(alloc: Global, words: &str) -> Result<Kills, AllocError> {
+    let (label, count) = first_word(words);
+    let mut kills = Kills::new(alloc);
+    if label.is_empty() {
+        return Ok(kills);
+    }
+    let mut path = Words::new(alloc);
+    if label != "root" {
+        path.push(Text::of_str(alloc, label)?)?;
+    }
+    kills.push((path, count.parse().unwrap_or(0)))?;
+    Ok(kills)
+}
+
+/// The text of the tree of a climb in a library.
+fn climbed(
+    alloc: Global,
+    library: &Checked,
+    inputs: &Fields,
+    table: &Table,
+    kills: &Kills,
+    fuel: u64,
+) -> Result<String, AllocError> {
     let name = Text::of_str(alloc, "climb")?;
-    let replayed = replay(alloc, &library, &name, &inputs, 1, &table, kills, fuel)?;
-    Ok(told(alloc, replayed.as_ref().map(|r| &r.tree))?)
+    came(
+        alloc,
+        replay(alloc, library, &name, inputs, 1, table, kills, fuel),
+    )
 }
 
-/// Fails where a climb has another tree.
-fn expect_climb(alloc: Global, case: &Case) -> Result<(), Fail> {
-    let (x, fuel, row, text) = *case;
-    let told = climb(alloc, x, fuel, &kills(alloc, row)?)?;
-    if told.as_str() == text {
-        return Ok(());
-    }
-    Err(format!(in alloc; "{x} {fuel}: {} for {text}", told.as_str())?)?
+/// The text of the tree of a climb in a library: its input, the fuel, and who is killed.
+fn climb_in(alloc: Global, library: &Checked, words: &str) -> Result<String, AllocError> {
+    let (x, words) = first_word(words);
+    let (fuel, killed) = first_word(words);
+    let fuel = fuel.parse().unwrap_or(0);
+    let kills = kills(alloc, killed)?;
+    let inputs = input(alloc, "x", x.parse().unwrap_or(0))?;
+    let table = table(alloc, Rows::new(alloc))?;
+    climbed(alloc, library, &inputs, &table, &kills, fuel)
 }
 
-#[test]
-fn chains_have_trees(rt: HostRuntime) -> Result<(), Fail> {
-    for case in &CASES {
-        expect_climb(rt.alloc(), case)?;
+/// The text of the tree of a climb: its input, the fuel, and who is killed.
+pub fn climb_answer(alloc: Global, words: &str) -> Result<String, AllocError> {
+    match library(alloc, CLIMB) {
+        Ok(library) => climb_in(alloc, &library, words),
+        Err(error) => Err(error),
     }
-    Ok(())
 }
 
 /// One word.
@@ -120,9 +123,10 @@ fn one_word(alloc: Global, word: &str) -> Result<Words, AllocError> {
 
 /// One file, `out.txt`.
 fn one_file(alloc: Global, content: &str) -> Result<Files, AllocError> {
-    let content = bytes_of(alloc, content.as_bytes())?;
+    let mut bytes = Bytes::new(alloc);
+    bytes.extend(content.as_bytes())?;
     let mut files = Files::new(alloc);
-    files.set(Text::of_str(alloc, "out.txt")?, content)?;
+    files.set(Text::of_str(alloc, "out.txt")?, bytes)?;
     Ok(files)
 }
 
@@ -138,55 +142,46 @@ fn asked(alloc: Global, argument: &str) -> Result<Request, AllocError> {
     })
 }
 
-/// A result of the program `double`: its argument, and what it writes.
-fn doubled(
+/// Puts a result of the program `double` behind others: its argument, and what it writes.
+fn put_doubled(
     alloc: Global,
+    rows: &mut Rows,
     argument: &str,
     output: &str,
-) -> Result<(Request, JobResult), AllocError> {
+) -> Result<(), AllocError> {
     let files = one_file(alloc, output)?;
-    Ok((asked(alloc, argument)?, JobResult { code: 0, files }))
+    let request = asked(alloc, argument)?;
+    rows.push((request, JobResult { code: 0, files }))
 }
 
 /// What `double` gives for 2 and for 3.
-fn doubles(alloc: Global) -> Result<Rows, AllocError> {
+fn doubles(alloc: Global) -> Result<Table, AllocError> {
     let mut rows = Rows::new(alloc);
-    rows.push(doubled(alloc, "2", "4\n")?)?;
-    rows.push(doubled(alloc, "3", "6\n")?)?;
-    Ok(rows)
+    put_doubled(alloc, &mut rows, "2", "4\n")?;
+    put_doubled(alloc, &mut rows, "3", "6\n")?;
+    table(alloc, rows)
 }
 
-/// The tree of a fan of 2.
-const FANNED: &str = "finished 0
-first int 4
-last int 4
-call parts_1 double finished 0
-  retrieved folder {\"out.txt\":\"4\\n\"}
-  value int 4
-call parts_2 double finished 0
-  retrieved folder {\"out.txt\":\"6\\n\"}
-  value int 6
-call parts_3 add finished 0
-  sum int 4
-";
+/// The text of what came of a chain that isn't killed.
+fn dried(alloc: Global, tree: Result<Option<Tree>, DryError>) -> Result<String, AllocError> {
+    match tree {
+        Ok(tree) => told(alloc, tree.as_ref()),
+        Err(_) => Err(AllocError),
+    }
+}
 
-/// The text of the tree of a fan of 2, or none.
-fn fanned(alloc: Global, fuel: u64) -> Result<Text, Fail> {
-    let library = library(alloc, FAN)?;
+/// The text of the tree of a fan of 2 in a library, or none.
+fn fan_in(alloc: Global, library: &Checked, fuel: u64) -> Result<String, AllocError> {
     let inputs = input(alloc, "a", 2)?;
-    let table = Table::new(alloc, doubles(alloc)?)?;
     let name = Text::of_str(alloc, "fan")?;
-    let tree = dry(alloc, &library, &name, &inputs, &table, fuel)?;
-    Ok(told(alloc, tree.as_ref())?)
+    let table = doubles(alloc)?;
+    dried(alloc, dry(alloc, library, &name, &inputs, &table, fuel))
 }
 
-#[test]
-fn a_fan_has_its_tree(rt: HostRuntime) -> Result<(), Fail> {
-    if fanned(rt.alloc(), 3)?.as_str() != FANNED {
-        Err("the fan has this tree")?;
+/// The text of the tree of a fan of 2, or none: the fuel.
+pub fn fan_answer(alloc: Global, words: &str) -> Result<String, AllocError> {
+    match library(alloc, FAN) {
+        Ok(library) => fan_in(alloc, &library, words.parse().unwrap_or(0)),
+        Err(error) => Err(error),
     }
-    if fanned(rt.alloc(), 2)?.as_str() != "none" {
-        Err("the fan has no tree for so little fuel")?;
-    }
-    Ok(())
 }

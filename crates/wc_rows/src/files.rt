@@ -1,7 +1,15 @@
 //! Whole workflow files.
 
-/// The file of the examples.
-pub const ADD: &str = "calcfunction add(x: int, y: int) -> (sum: int) {\n  out sum = x + y;\n}\n";
+/// Climbs to 3 in a loop and calls a function there. It leaves with a status where it began above.
+pub const CLIMB: &str = "
+calcfunction next(x: int) -> (r: int) { out r = x + 1; }
+workchain climb(x: int) -> (r: int) {
+  exit_code 400 \"too large\";
+  step begin { ctx.n = inputs.x; }
+  while ctx.n < 3 { step turn { ctx.n = ctx.n + 1; } }
+  if ctx.n == 3 { step grow { call next(x: ctx.n) to ctx.c; } } else { return 400; }
+  step end { out r = ctx.c.outputs.r; }
+}";
 
 /// A function, a job, and a chain that calls them.
 pub const FAN: &str = "calcfunction add(x: int, y: int) -> (sum: int) {

@@ -1,86 +1,109 @@
-//! Calls of the values that their own tests reach only from within others.
+//! Lists of named values, and comparisons.
 
-use crate::bytes::bytes_of;
-use crate::wrong::Wrong;
 use std::alloc::{AllocError, Global};
-use wc_value::{Fields, List, Text, Value, Values, same_bytes, same_text, same_value, same_values};
+use wc_questions::first_word;
+use wc_value::{
+    Bytes, Fields, Text, Value, Values, same_bytes, same_text, same_value, same_values,
+};
 
-/// Names and numbers, of which one name is set twice.
-const SET: [(&str, i64); 4] = [("k", 1), ("a", 2), ("z", 3), ("k", 4)];
-
-/// Where they stand then.
-const STANDING: [(usize, &str, i64); 3] = [(0, "a", 2), (1, "k", 4), (2, "z", 3)];
-
-/// What is made of the names.
-fn fields_set(alloc: Global) -> Result<Fields, AllocError> {
+/// Names with their numbers, which are set one after another.
+fn fields(alloc: Global, words: &str) -> Result<Fields, AllocError> {
     let mut fields = Fields::new(alloc);
-    for (name, number) in &SET {
-        fields.set(Text::of_str(alloc, name)?, Value::Int(*number))?;
+    for word in words.split(' ') {
+        if let Some((name, number)) = word.split_once('=') {
+            let number = number.parse().unwrap_or(0);
+            fields.set(Text::of_str(alloc, name)?, Value::Int(number))?;
+        }
     }
     Ok(fields)
 }
 
-/// Whether this name and this number stand at this place.
-fn stands(fields: &Fields, at: usize, name: &str, number: i64) -> bool {
-    match fields.get(at) {
-        Some((label, value)) => label.as_str() == name && same_value(value, &Value::Int(number)),
-        None => false,
+/// The number that a value is.
+fn number_of(value: &Value) -> i64 {
+    match value {
+        Value::Int(number) => *number,
+        _ => 0,
     }
 }
 
-/// Whether each name stands at its place, and no other does.
-fn all_stand(fields: &Fields) -> bool {
-    for (at, name, number) in &STANDING {
-        if !stands(fields, *at, name, *number) {
-            return false;
+/// Names with their numbers, in the order in which they stand.
+fn fields_text(alloc: Global, fields: &Fields) -> Result<String, AllocError> {
+    let mut text = String::new(alloc);
+    for (name, value) in fields.as_slice() {
+        let name = name.as_str();
+        let number = number_of(value);
+        let part = format!(in alloc; "{name}={number};")?;
+        text.push_str(part.as_str())?;
+    }
+    Ok(text)
+}
+
+/// What is made of names that are set.
+fn set(alloc: Global, words: &str) -> Result<String, AllocError> {
+    let fields = fields(alloc, words)?;
+    fields_text(alloc, &fields)
+}
+
+/// The number that a name has among those that are set: the name, and these.
+fn found(alloc: Global, words: &str) -> Result<String, AllocError> {
+    let (name, words) = first_word(words);
+    let fields = fields(alloc, words)?;
+    match fields.find(name.as_bytes()) {
+        Some(value) => {
+            let number = number_of(value);
+            format!(in alloc; "{number}")
         }
+        None => String::from_str(alloc, "none"),
     }
-    fields.len() == 3 && fields.find(b"b").is_none()
 }
 
-#[test]
-fn a_name_is_set_in_its_order(rt: HostRuntime) -> Result<(), Wrong> {
-    if all_stand(&fields_set(rt.alloc())?) {
-        return Ok(());
-    }
-    Err(Wrong::Not("each name stands at its place"))
+/// The bytes of a word.
+fn bytes(alloc: Global, word: &str) -> Result<Bytes, AllocError> {
+    let mut bytes = Bytes::new(alloc);
+    bytes.extend(word.as_bytes())?;
+    Ok(bytes)
 }
 
-/// Whether a text is the same as this one.
-fn is_same_text(alloc: Global, text: &Text, other: &str) -> Result<bool, AllocError> {
-    Ok(same_text(text, &Text::of_str(alloc, other)?))
+/// A truth value for each letter of a word: `t` is true.
+fn truths(alloc: Global, word: &str) -> Result<Values, AllocError> {
+    let mut values = Values::new(alloc);
+    for byte in word.as_bytes() {
+        values.push(Value::Bool(*byte == b't'))?;
+    }
+    Ok(values)
 }
 
-#[test]
-fn equal_texts_are_the_same(rt: HostRuntime) -> Result<(), Wrong> {
-    let alloc = rt.alloc();
-    let text = Text::of_string(String::from_str(alloc, "ab")?)?;
-    if is_same_text(alloc, &text, "ab")? && !is_same_text(alloc, &text, "abc")? {
-        return Ok(());
+/// Whether two words are the same, as texts, bytes, numbers or lists of truth values.
+fn are_same(alloc: Global, kind: &str, left: &str, right: &str) -> Result<bool, AllocError> {
+    match kind {
+        "texts" => Ok(same_text(&Text::of_str(alloc, left)?, &Text::of_str(alloc, right)?)),
+        "bytes" => Ok(same_bytes(&bytes(alloc, left)?, &bytes(alloc, right)?)),
+        "numbers" => {
+            let left = Value::Int(left.parse().unwrap_or(0));
+            let right = Value::Int(right.parse().unwrap_or(0));
+            Ok(same_value(&left, &right))
+        }
+        _ => Ok(same_values(&truths(alloc, left)?, &truths(alloc, right)?)),
     }
-    Err(Wrong::Not("equal texts are the same"))
 }
 
-#[test]
-fn equal_bytes_are_the_same(rt: HostRuntime) -> Result<(), Wrong> {
-    let alloc = rt.alloc();
-    let bytes = bytes_of(alloc, b"ab")?;
-    if bytes.as_slice() == b"ab".as_slice()
-        && same_bytes(&bytes, &bytes)
-        && !same_bytes(&bytes, &List::new(alloc))
-    {
-        return Ok(());
-    }
-    Err(Wrong::Not("equal bytes are the same"))
+/// What a comparison of two words tells.
+fn compared(alloc: Global, kind: &str, words: &str) -> Result<String, AllocError> {
+    let (left, right) = first_word(words);
+    let told = if are_same(alloc, kind, left, right)? {
+        "the same"
+    } else {
+        "different"
+    };
+    String::from_str(alloc, told)
 }
 
-#[test]
-fn equal_values_are_the_same(rt: HostRuntime) -> Result<(), Wrong> {
-    let alloc = rt.alloc();
-    let mut one: Values = List::new(alloc);
-    one.push(Value::Bool(true))?;
-    if same_values(&one, &one) && !same_values(&one, &List::new(alloc)) {
-        return Ok(());
+/// What a question about values is answered.
+pub fn value_answer(alloc: Global, verb: &str, words: &str) -> Result<String, AllocError> {
+    match verb {
+        "set" => set(alloc, words),
+        "find" => found(alloc, words),
+        "texts" | "bytes" | "numbers" | "truths" => compared(alloc, verb, words),
+        _ => String::from_str(alloc, "no such question"),
     }
-    Err(Wrong::Not("equal values are the same"))
 }

@@ -30,3 +30,4 @@ pub mod Undamaged
 pub mod Acknowledging
 mod Verifying
 mod Idle
+mod Exchanged

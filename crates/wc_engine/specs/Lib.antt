@@ -20,3 +20,4 @@ pub mod Rows
 pub mod Owed
 pub mod Crashes
 pub mod Entries
+pub mod Outside

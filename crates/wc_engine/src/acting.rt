@@ -4,6 +4,7 @@ ghost use Rattle.std.specs.Prelude.{◌≡◌, true, IsTrue, IfOk};
 ghost use Rattle.wc_store.specs.Stores.{StandsFor};
 ghost use Rattle.wc_engine.specs.Calls.{CountsDisks};
 ghost use Rattle.wc_engine.specs.Crashes.{AreDurable, HoldsKeeping, LeavesKept, LeavesPairs};
+ghost use Rattle.wc_engine.specs.Outside.{exchange, ActsOutside, AsksByTurns, WorksOutside};
 ghost use Rattle.wc_engine.specs.Owed.{visit, OwedDeed};
 ghost use Rattle.wc_engine.specs.Plans.{IsIdle, IsNoRun, IsReadyDeed, IsReadyWork};
 ghost use Rattle.wc_engine.specs.Replies.{IsDoneOrFull};
@@ -49,6 +50,9 @@ fn worked<D: Disk, T: Transport, P: Pacer>(
     ensures tells { (D.tells one.new ≡ D.tells one.old) × (D.tells two.new ≡ D.tells two.old) }
     ensures untouched { EndsWith (work_row work).undone result → (one.new ≡ one.old) × (two.new ≡ two.old) }
     ensures idle { IsNoRun work → (transport.new ≡ transport.old) × (pacer.new ≡ pacer.old) }
+    ensures asked { AsksByTurns T.Transport (OnStore work) transport.old transport.new }
+    ensures outside { IfOk result (λ r. IsTrue (D.tells one.old) → IsTrue (D.tells two.old)
+        → WorksOutside (exchange T.Transport P.Pacer transport.old transport.new pacer.old pacer.new) work store.world.world (D.seen one.new, D.seen two.new) r.status) }
     ensures cause { CountsDisks result (D.faults one.old) (D.faults one.new) (D.faults two.old) (D.faults two.new) }
 {
     worlds_are_kept();
@@ -76,6 +80,9 @@ fn work_reply<D: Disk, T: Transport, P: Pacer>(
     ensures tells { (D.tells one.new ≡ D.tells one.old) × (D.tells two.new ≡ D.tells two.old) }
     ensures undone { EndsWith (row (OnStore work)).undone result → IsTrue (D.tells one.old) → IsTrue (D.tells two.old) → LeavesUnwritten D.Disk one.old two.old one.new two.new }
     ensures idle { IsNoRun work → (transport.new ≡ transport.old) × (pacer.new ≡ pacer.old) }
+    ensures asked { AsksByTurns T.Transport (OnStore work) transport.old transport.new }
+    ensures outside { IfOk result (λ r. IsDoneOrFull r.status → IsTrue (D.tells one.old) → IsTrue (D.tells two.old)
+        → ActsOutside (exchange T.Transport P.Pacer transport.old transport.new pacer.old pacer.new) (OnStore work) (D.seen one.old, D.seen two.old) (D.seen one.new, D.seen two.new) r.status) }
     ensures cause { CountsDisks result (D.faults one.old) (D.faults one.new) (D.faults two.old) (D.faults two.new) }
 {
     match open_store(alloc, one, two)? {
@@ -100,6 +107,9 @@ pub fn act<D: Disk, T: Transport, P: Pacer>(
     ensures tells { (D.tells one.new ≡ D.tells one.old) × (D.tells two.new ≡ D.tells two.old) }
     ensures undone { EndsWith (row deed).undone result → IsTrue (D.tells one.old) → IsTrue (D.tells two.old) → LeavesUnwritten D.Disk one.old two.old one.new two.new }
     ensures idle { IsIdle deed → (transport.new ≡ transport.old) × (pacer.new ≡ pacer.old) }
+    ensures asked { AsksByTurns T.Transport deed transport.old transport.new }
+    ensures outside { IfOk result (λ r. IsDoneOrFull r.status → IsTrue (D.tells one.old) → IsTrue (D.tells two.old)
+        → ActsOutside (exchange T.Transport P.Pacer transport.old transport.new pacer.old pacer.new) deed (D.seen one.old, D.seen two.old) (D.seen one.new, D.seen two.new) r.status) }
     ensures cause { CountsDisks result (D.faults one.old) (D.faults one.new) (D.faults two.old) (D.faults two.new) }
 {
     match deed {

@@ -3,8 +3,10 @@
 ghost use Rattle.std.specs.Prelude.{◌≡◌, ◌-◌, true, IsTrue, IfOk};
 ghost use Rattle.wc_state.specs.Ranges.{AreLimits};
 ghost use Rattle.wc_store.specs.Stores.{StandsFor};
+ghost use Rattle.wc_runner.specs.Asked.{IsAskedFor};
 ghost use Rattle.wc_engine.specs.Calls.{CountsDisks};
 ghost use Rattle.wc_engine.specs.Crashes.{AreDurable, LeavesPairs, HoldsKeeping};
+ghost use Rattle.wc_engine.specs.Outside.{exchange, RunsOutside};
 ghost use Rattle.wc_engine.specs.Rows.{run_row};
 ghost use Rattle.wc_engine.specs.Running.{status_of, has_run};
 ghost use Rattle.wc_engine.specs.Undone.{EndsWith};
@@ -68,6 +70,9 @@ pub(crate) fn run_reply<D: Disk, T: Transport, P: Pacer>(
     ensures durable { IfOk result (λ r. IsTrue (D.tells one.old) → IsTrue (D.tells two.old) → AreDurable D.Disk one.new two.new) }
     ensures tells { (D.tells one.new ≡ D.tells one.old) × (D.tells two.new ≡ D.tells two.old) }
     ensures untouched { EndsWith (run_row options).undone result → (one.new ≡ one.old) × (two.new ≡ two.old) }
+    ensures asked { IsAskedFor T.Transport options.turns transport.old transport.new }
+    ensures outside { IfOk result (λ r. IsTrue (D.tells one.old) → IsTrue (D.tells two.old)
+        → RunsOutside (exchange T.Transport P.Pacer transport.old transport.new pacer.old pacer.new) options store.world.world (D.seen one.new, D.seen two.new) r.status) }
     ensures cause { CountsDisks result (D.faults one.old) (D.faults one.new) (D.faults two.old) (D.faults two.new) }
 {
     worlds_are_kept();

@@ -4,8 +4,10 @@ ghost use Rattle.std.specs.Prelude.{◌≡◌, IsTrue, IfOk};
 ghost use Rattle.wc_cli.specs.Words.{command_of};
 ghost use Rattle.wc_io.specs.Counts.{RisesByOne, EitherRisesByOne};
 ghost use Rattle.wc_io.specs.Forms.{TakesPart};
+ghost use Rattle.wc_runner.specs.Asked.{IsAskedFor};
 ghost use Rattle.wc_engine.specs.Calls.{CountsReply, status_of};
 ghost use Rattle.wc_engine.specs.Crashes.{AreDurable, EachPair, HoldsSound, HoldsTheSame, LeavesMade, Stands, StaySound};
+ghost use Rattle.wc_engine.specs.Outside.{exchange, turns_of, ServesOutside};
 ghost use Rattle.wc_engine.specs.Owed.{visit, AskNoDisk, IsCertain, IsNoDeeds, IsOwed, LeaveUndone, NeedDisks};
 ghost use Rattle.wc_engine.specs.Plans.{NamesNoFile, TakesNoTurns};
 ghost use Rattle.wc_engine.specs.Replies.{IsDoneOrFull, IsReplied, OwesStatus, Writes};
@@ -43,6 +45,9 @@ fn answer<R: Shelf, D: Disk, T: Transport, P: Pacer>(
     ensures tells { (D.tells one.new ≡ D.tells one.old) × (D.tells two.new ≡ D.tells two.old) }
     ensures unnamed { NamesNoFile (command_of words.now) → shelf.new ≡ shelf.old }
     ensures idle { TakesNoTurns (command_of words.now) → (transport.new ≡ transport.old) × (pacer.new ≡ pacer.old) }
+    ensures asked { IsAskedFor T.Transport (turns_of (command_of words.now)) transport.old transport.new }
+    ensures outside { IfOk result (λ r. NeedDisks (R.contents shelf.old) words.now → IsDoneOrFull r.status → IsTrue (D.tells one.old) → IsTrue (D.tells two.old)
+        → ServesOutside (R.contents shelf.old) words.now (exchange T.Transport P.Pacer transport.old transport.new pacer.old pacer.new) (visit D.Disk one.old two.old one.new two.new) r.status) }
     ensures unasked { AskNoDisk (R.contents shelf.old) words.now → (one.new ≡ one.old) × (two.new ≡ two.old) × (status_of result ≡ Status.DiskFault → ⊥) }
     ensures early { (c : ACause) → status_of result ≡ Status.Refused c → IsNoDeeds (R.contents shelf.old) words.now c → (one.new ≡ one.old) × (two.new ≡ two.old) }
     ensures undone { LeaveUndone (R.contents shelf.old) words.now (status_of result) → IsTrue (D.tells one.old) → IsTrue (D.tells two.old) → LeavesUnwritten D.Disk one.old two.old one.new two.new }
@@ -115,6 +120,19 @@ pub fn serve<R: Shelf, W: Sink, D: Disk, T: Transport, P: Pacer>(
     ensures unnamed { NamesNoFile (command_of words.now) → shelf.new ≡ shelf.old }
     // Nor is the transport, nor the clock, by words that are no `run`.
     ensures idle { TakesNoTurns (command_of words.now) → (transport.new ≡ transport.old) × (pacer.new ≡ pacer.old) }
+    // A `run` asks the transport at most as often as it may take turns, whatever comes of them, and it goes on telling the table that it told.
+    ensures asked { IsAskedFor T.Transport (turns_of (command_of words.now)) transport.old transport.new }
+    // Where a `run` was done, or found the store too full, the world that the disks hold then is what turns and rests make of the one that they
+    // held at entry, at most as many as it may take, all of them with Spent, and fewer with Full. Each turn is at a moment that the clock said, with an answer that
+    // the transport gave; each rest was counted, and none was taken where a process was ready. Each exit code that is kept since, of a sound
+    // world, is that of a result that the transport gave for the job's request, which is the table's where it is told. Where no call of the
+    // transport failed, no process got the pause mark and none failed more often. Where each placed directory belonged to a process, each does.
+    ensures outside { NeedDisks (R.contents shelf.old) words.now → IsDoneOrFull result → IsTrue (D.tells one.old) → IsTrue (D.tells two.old)
+        → ServesOutside (R.contents shelf.old) words.now (exchange T.Transport P.Pacer transport.old transport.new pacer.old pacer.new) (visit D.Disk one.old two.old one.new two.new) result }
+    // So it is where the sink failed.
+    ensures outside_at_fault { result ≡ Status.WriteFault → (r : AReply) × IsOwed (R.contents shelf.old) (visit D.Disk one.old two.old one.new two.new) words.now r
+        × (NeedDisks (R.contents shelf.old) words.now → IsDoneOrFull r.status → IsTrue (D.tells one.old) → IsTrue (D.tells two.old)
+        → ServesOutside (R.contents shelf.old) words.now (exchange T.Transport P.Pacer transport.old transport.new pacer.old pacer.new) (visit D.Disk one.old two.old one.new two.new) r.status) }
     ensures memory { result ≡ Status.OutOfMemory → W.taken sink.new ≡ W.taken sink.old }
     // One call of the shelf failed, and no disk was asked.
     ensures read_fault { result ≡ Status.ReadFault → RisesByOne (R.faults shelf.old) (R.faults shelf.new) × (W.taken sink.new ≡ W.taken sink.old) × (one.new ≡ one.old) × (two.new ≡ two.old) }

@@ -1,8 +1,15 @@
 use Rattle.std.proofs.Common.{Bool, IsTrue, sym, subst}
+use Rattle.std.proofs.lemmas.Result.{IfOk-weaker}
 use Rattle.wc_engine.specs.Opening.{Opens}
+use Rattle.wc_engine.specs.Outside.{exchange, ActsOutside, WorksOutside}
+use Rattle.wc_engine.specs.Replies.{IsDoneOrFull, IsToldUndone}
 use Rattle.wc_engine.specs.Rows.{work_row}
+use Rattle.wc_engine.specs.Stored.{Images}
+use Rattle.wc_engine.specs.declared.deed.Deed.TheVariants as deed
 use Rattle.wc_engine.specs.declared.opening.Opened.{Opened}
+use Rattle.wc_engine.specs.declared.reply.Reply.{Reply}
 use Rattle.wc_engine.proofs.Doing.{held_before, goes_does}
+use Rattle.wc_engine.proofs.Exchanged.{work_unasked}
 use Rattle.wc_engine.proofs.Leaving.{goes_on, unwritten}
 use Rattle.wc_engine.proofs.Unwriting.{then_untouched}
 use Rattle.wc_engine.proofs.acting.work_reply.Goals as goal
@@ -46,3 +53,33 @@ returns-in-Held-clause-undone g c =
     λ ends told told_too.
     then_untouched g.D.Disk c.args.one.now c.args.two.now c.open_store.new.one c.open_store.new.two c.worked.new.one c.worked.new.two c.open_store.ensures.unwritten
     (c.worked.ensures.untouched ends)
+
+pub returns-in_err-reply-clause-asked : goal.returns-in_err-reply-clause-asked
+returns-in_err-reply-clause-asked g c = work_unasked g.T.Transport c.args.work c.args.transport.now
+
+pub returns-in-Told-clause-asked : goal.returns-in-Told-clause-asked
+returns-in-Told-clause-asked g c = work_unasked g.T.Transport c.args.work c.args.transport.now
+
+pub returns-in-Told-clause-outside : goal.returns-in-Told-clause-outside
+returns-in-Told-clause-outside g c = λ done told told_too. absurd (subst (λ (o : Opened). IsToldUndone o) c.in-Told.is c.in_ok-reply.ensures.undone done)
+
+pub returns-in-Held-clause-outside : goal.returns-in-Held-clause-outside
+returns-in-Held-clause-outside g c =
+    let one = c.args.one.now in
+    let two = c.args.two.now in
+    let store = c.in-Held.store in
+    let before : Images = (g.D.Disk.seen one, g.D.Disk.seen two) in
+    let after : Images = (g.D.Disk.seen c.worked.new.one, g.D.Disk.seen c.worked.new.two) in
+    let e = exchange g.T.Transport g.P.Pacer c.args.transport.now c.worked.new.transport c.args.pacer.now c.worked.new.pacer in
+    let O : Opened → Type 0 = λ o. IsTrue (g.D.Disk.tells one) → IsTrue (g.D.Disk.tells two) → Opens g.D.Disk one two c.open_store.new.one c.open_store.new.two o in
+    let opens = subst O c.in-Held.is c.in_ok-reply.ensures.opens in
+    let tells = c.open_store.ensures.tells in
+    let P : Reply → Type 0 = λ r. IsTrue (g.D.Disk.tells c.open_store.new.one) → IsTrue (g.D.Disk.tells c.open_store.new.two) → WorksOutside e c.args.work store.world.world after r.status in
+    let Q : Reply → Type 0 = λ r. IsDoneOrFull r.status → IsTrue (g.D.Disk.tells one) → IsTrue (g.D.Disk.tells two) → ActsOutside e (deed.Work c.args.work) before after r.status in
+    IfOk-weaker c.worked.result P Q
+    (λ r h done told told_too. (
+      store.world.world,
+      held_before g.D.Disk store one two c.open_store.new.one c.open_store.new.two (opens told told_too),
+      h (subst (λ (b : Bool). IsTrue b) (sym tells.0) told) (subst (λ (b : Bool). IsTrue b) (sym tells.1) told_too),
+    ))
+    c.worked.ensures.outside

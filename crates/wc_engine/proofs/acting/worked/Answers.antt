@@ -1,11 +1,15 @@
 use Rattle.std.proofs.Common.{refl, sym, subst, IfOk, IsTrue}
 use Rattle.wc_world.specs.World.{World}
+use Rattle.wc_engine.specs.declared.deed.Deed.TheVariants as deed
 use Rattle.wc_engine.specs.declared.deed.Work.{Work}
 use Rattle.wc_engine.specs.declared.reply.Reply.{Reply}
 use Rattle.wc_engine.specs.Crashes.{HoldsKeeping, LeavesPairs}
+use Rattle.wc_engine.specs.Outside.{exchange, AsksByTurns, WorksOutside}
+use Rattle.wc_engine.specs.Plans.{IsNoRun}
 use Rattle.wc_engine.specs.Rows.{Stays, work_row}
 use Rattle.wc_engine.specs.Stored.{Images}
 use Rattle.wc_engine.specs.Views.{Shows}
+use Rattle.wc_engine.proofs.Exchanged.{no_run_outside, of_each, work_unasked}
 use Rattle.wc_engine.proofs.Leaving.{standing}
 use Rattle.wc_engine.proofs.acting.worked.Goals as goal
 
@@ -65,3 +69,51 @@ returns-in-Run-clause-does g c =
     let w = c.args.store.world.world in
     let P : Work → Type 0 = λ k. IfOk c.run_reply.result (λ (r : Reply). IsTrue (g.D.Disk.tells c.args.one.now) → IsTrue (g.D.Disk.tells c.args.two.now) → (work_row k).does before w after r) in
     subst P (sym c.in-Run.is) c.run_reply.ensures.does
+
+pub returns-in_err-view_reply-in-View-clause-asked : goal.returns-in_err-view_reply-in-View-clause-asked
+returns-in_err-view_reply-in-View-clause-asked g c = work_unasked g.T.Transport c.args.work c.args.transport.now
+
+pub returns-in_ok-view_reply-in-View-clause-asked : goal.returns-in_ok-view_reply-in-View-clause-asked
+returns-in_ok-view_reply-in-View-clause-asked g c = work_unasked g.T.Transport c.args.work c.args.transport.now
+
+pub returns-in-Event-clause-asked : goal.returns-in-Event-clause-asked
+returns-in-Event-clause-asked g c = work_unasked g.T.Transport c.args.work c.args.transport.now
+
+pub returns-in-Pack-clause-asked : goal.returns-in-Pack-clause-asked
+returns-in-Pack-clause-asked g c = work_unasked g.T.Transport c.args.work c.args.transport.now
+
+pub returns-in-Run-clause-asked : goal.returns-in-Run-clause-asked
+returns-in-Run-clause-asked g c =
+    let P : Work → Type 0 = λ k. AsksByTurns g.T.Transport (deed.Work k) c.args.transport.now c.run_reply.new.transport in
+    subst P (sym c.in-Run.is) c.run_reply.ensures.asked
+
+pub returns-in_ok-view_reply-in-View-clause-outside : goal.returns-in_ok-view_reply-in-View-clause-outside
+returns-in_ok-view_reply-in-View-clause-outside g c =
+    λ told told_too.
+    let e = exchange g.T.Transport g.P.Pacer c.args.transport.now c.args.transport.now c.args.pacer.now c.args.pacer.now in
+    no_run_outside e c.args.work c.args.store.world.world (g.D.Disk.seen c.args.one.now, g.D.Disk.seen c.args.two.now) c.in_ok-view_reply-in-View.field-0.status
+    (subst (λ (k : Work). IsNoRun k) (sym c.in-View.is) tt)
+
+pub returns-in-Event-clause-outside : goal.returns-in-Event-clause-outside
+returns-in-Event-clause-outside g c =
+    let e = exchange g.T.Transport g.P.Pacer c.args.transport.now c.args.transport.now c.args.pacer.now c.args.pacer.now in
+    let w = c.args.store.world.world in
+    let after : Images = (g.D.Disk.seen c.event_reply.new.one, g.D.Disk.seen c.event_reply.new.two) in
+    let P : Reply → Type 0 = λ r. IsTrue (g.D.Disk.tells c.args.one.now) → IsTrue (g.D.Disk.tells c.args.two.now) → WorksOutside e c.args.work w after r.status in
+    of_each c.event_reply.result P (λ r told told_too. no_run_outside e c.args.work w after r.status (subst (λ (k : Work). IsNoRun k) (sym c.in-Event.is) tt))
+
+pub returns-in-Pack-clause-outside : goal.returns-in-Pack-clause-outside
+returns-in-Pack-clause-outside g c =
+    let e = exchange g.T.Transport g.P.Pacer c.args.transport.now c.args.transport.now c.args.pacer.now c.args.pacer.now in
+    let w = c.args.store.world.world in
+    let after : Images = (g.D.Disk.seen c.pack_reply.new.one, g.D.Disk.seen c.pack_reply.new.two) in
+    let P : Reply → Type 0 = λ r. IsTrue (g.D.Disk.tells c.args.one.now) → IsTrue (g.D.Disk.tells c.args.two.now) → WorksOutside e c.args.work w after r.status in
+    of_each c.pack_reply.result P (λ r told told_too. no_run_outside e c.args.work w after r.status (subst (λ (k : Work). IsNoRun k) (sym c.in-Pack.is) tt))
+
+pub returns-in-Run-clause-outside : goal.returns-in-Run-clause-outside
+returns-in-Run-clause-outside g c =
+    let e = exchange g.T.Transport g.P.Pacer c.args.transport.now c.run_reply.new.transport c.args.pacer.now c.run_reply.new.pacer in
+    let w = c.args.store.world.world in
+    let after : Images = (g.D.Disk.seen c.run_reply.new.one, g.D.Disk.seen c.run_reply.new.two) in
+    let P : Work → Type 0 = λ k. IfOk c.run_reply.result (λ (r : Reply). IsTrue (g.D.Disk.tells c.args.one.now) → IsTrue (g.D.Disk.tells c.args.two.now) → WorksOutside e k w after r.status) in
+    subst P (sym c.in-Run.is) c.run_reply.ensures.outside

@@ -4,8 +4,10 @@ use Rattle.wc_runner.specs.declared.running.RunEnd.{RunEnd}
 use Rattle.wc_runner.specs.Outside.{in_run}
 use Rattle.wc_runner.specs.Refusals.{RefusesRun, is_live_after}
 use Rattle.wc_engine.specs.declared.reply.Reply.{Reply}
+use Rattle.wc_engine.specs.Outside.{exchange}
 use Rattle.wc_engine.specs.Running.{has_run}
 use Rattle.wc_engine.specs.Undone.{IsBeforeTurns}
+use Rattle.wc_engine.proofs.Exchanged.{ended_outside, filled_outside}
 use Rattle.wc_engine.proofs.Leaving.{taken}
 use Rattle.wc_engine.proofs.Doing.{goes_on_journal}
 use Rattle.wc_engine.proofs.Turns.{run_written, has_come, has_filled, fills_at}
@@ -142,3 +144,41 @@ returns-in-Err-Full-clause-durable g c =
     let live = subst (λ (e : RunError). c.run.new.store.live ≡ is_live_after {T = RunEnd} (Err e)) f.field-0-is f.ensures.live in
     let stands = c.run.ensures.still live told told_too in
     record { durable_one = stands.durable_one; durable_two = stands.durable_two }
+
+pub returns-in-Ok-clause-outside : goal.returns-in-Ok-clause-outside
+returns-in-Ok-clause-outside g c =
+    λ told told_too.
+    let w = c.args.store.world.world in
+    let e = exchange g.T.Transport g.P.Pacer c.args.transport.now c.run.new.transport c.args.pacer.now c.run.new.pacer in
+    let begun : w.batches ≡ c.batches-begun.result = sym (c.batches-begun.ensures ∙ (λ i. (c.world.ensures i).world.batches)) in
+    ended_outside g.D.Disk e c.args.options w c.run.new.store c.run.new.one c.run.new.two c.in_ok-has_run-in-Ok.field-0
+    (c.run.ensures.still c.in-Ok.ensures.live told told_too)
+    c.run.ensures.takes
+    (c.run.ensures.codes (c.worlds_are_kept.ensures.reached (g.D.Disk.seen c.args.one.now) (g.D.Disk.seen c.args.two.now) w (c.requires.stands told told_too).held))
+    c.run.ensures.marks
+    c.run.ensures.processes
+    c.in-Ok.end
+    c.in-Ok.ensures.ends
+    (c.in_ok-has_run-in-Ok.ensures w begun ∙ (λ i. has_run c.in-Ok.end w (c.world-in-Ok.ensures i).world))
+
+pub returns-in-Err-Full-clause-outside : goal.returns-in-Err-Full-clause-outside
+returns-in-Err-Full-clause-outside g c =
+    λ told told_too.
+    let w = c.args.store.world.world in
+    let f = c.in-Err-Full in
+    let o = in_run g.T.Transport g.P.Pacer c.args.options.limits c.args.transport.now c.run.new.transport c.run.new.pacer in
+    let e = exchange g.T.Transport g.P.Pacer c.args.transport.now c.run.new.transport c.args.pacer.now c.run.new.pacer in
+    let full = subst (λ (x : RunError). RefusesRun o c.run.new.store x) f.field-0-is f.ensures.refused in
+    let live = subst (λ (x : RunError). c.run.new.store.live ≡ is_live_after {T = RunEnd} (Err x)) f.field-0-is f.ensures.live in
+    filled_outside g.D.Disk e c.args.options w c.run.new.store c.run.new.one c.run.new.two c.in_ok-full-in-Err-Full.field-0
+    (c.run.ensures.still live told told_too)
+    c.run.ensures.takes
+    (c.run.ensures.codes (c.worlds_are_kept.ensures.reached (g.D.Disk.seen c.args.one.now) (g.D.Disk.seen c.args.two.now) w (c.requires.stands told told_too).held))
+    c.run.ensures.marks
+    c.run.ensures.processes
+    f.what
+    f.count
+    f.limit
+    f.ensures.early
+    full
+    c.in_ok-full-in-Err-Full.ensures

@@ -1,10 +1,12 @@
 use Rattle.std.proofs.Common.{refl, subst}
 use Rattle.wc_cli.specs.Words.{command_of}
+use Rattle.wc_engine.specs.Outside.{turns_of}
 use Rattle.wc_engine.specs.Plans.{Plans}
 use Rattle.wc_engine.specs.declared.deed.Plan.{Plan}
 use Rattle.wc_engine.specs.declared.deed.Plan.TheVariants as plan
 use Rattle.wc_engine.specs.declared.reply.Reply.{Reply}
 use Rattle.wc_engine.proofs.Answered.{plan_counts, plan_no_fault, told_no_fault, act_counts, act_no_refusal, act_undone}
+use Rattle.wc_engine.proofs.Exchanged.{asked_by, asked_none}
 use Rattle.wc_engine.proofs.Moments.{made, made_unasked}
 use Rattle.wc_engine.proofs.Unwriting.{none_asked}
 use Rattle.wc_engine.proofs.Idle.{plan_idle}
@@ -26,6 +28,9 @@ returns-in_err-reply-clause-undone g c = λ ends told told_too. none_asked g.D.D
 pub returns-in_err-reply-clause-made : goal.returns-in_err-reply-clause-made
 returns-in_err-reply-clause-made g c =
     λ told told_too. made_unasked g.D.Disk g.met.D.Disk.only_now g.met.D.Disk.counts_now (g.R.Shelf.contents c.args.shelf.now) c.args.words.now c.args.one.now c.args.two.now
+
+pub returns-in_err-reply-clause-asked : goal.returns-in_err-reply-clause-asked
+returns-in_err-reply-clause-asked g c = asked_none g.T.Transport (turns_of (command_of c.args.words.now)) c.args.transport.now
 
 -- ---- a reply is told
 
@@ -54,6 +59,14 @@ returns-in-Told-clause-made g c =
 
 pub returns-in-Told-clause-durable : goal.returns-in-Told-clause-durable
 returns-in-Told-clause-durable g c =
+    λ needs done told told_too.
+    absurd (needs c.in-Told.reply (subst (λ (p : Plan). Plans (g.R.Shelf.contents c.args.shelf.now) (command_of c.args.words.now) p) c.in-Told.is c.in_ok-reply.ensures.plans) done)
+
+pub returns-in-Told-clause-asked : goal.returns-in-Told-clause-asked
+returns-in-Told-clause-asked g c = asked_none g.T.Transport (turns_of (command_of c.args.words.now)) c.args.transport.now
+
+pub returns-in-Told-clause-outside : goal.returns-in-Told-clause-outside
+returns-in-Told-clause-outside g c =
     λ needs done told told_too.
     absurd (needs c.in-Told.reply (subst (λ (p : Plan). Plans (g.R.Shelf.contents c.args.shelf.now) (command_of c.args.words.now) p) c.in-Told.is c.in_ok-reply.ensures.plans) done)
 
@@ -93,6 +106,12 @@ returns-in_err-act-in-On-clause-idle g c =
     let plans = subst (λ (p : Plan). Plans (g.R.Shelf.contents c.args.shelf.now) (command_of c.args.words.now) p) c.in-On.is c.in_ok-reply.ensures.plans in
     c.in_err-act-in-On.ensures.idle (plan_idle (g.R.Shelf.contents c.args.shelf.now) (command_of c.args.words.now) (plan.On c.in-On.deed) plans none)
 
+pub returns-in_err-act-in-On-clause-asked : goal.returns-in_err-act-in-On-clause-asked
+returns-in_err-act-in-On-clause-asked g c =
+    let plans = subst (λ (p : Plan). Plans (g.R.Shelf.contents c.args.shelf.now) (command_of c.args.words.now) p) c.in-On.is c.in_ok-reply.ensures.plans in
+    asked_by g.T.Transport (g.R.Shelf.contents c.args.shelf.now) (command_of c.args.words.now) c.in-On.deed c.args.transport.now c.act.new.transport plans c.act.ensures.asked
+    (λ idle. (c.act.ensures.idle idle).0)
+
 -- ---- a deed has its reply
 
 pub returns-in_ok-act-in-On-clause-owed : goal.returns-in_ok-act-in-On-clause-owed
@@ -131,3 +150,17 @@ returns-in_ok-act-in-On-clause-idle g c =
     λ none.
     let plans = subst (λ (p : Plan). Plans (g.R.Shelf.contents c.args.shelf.now) (command_of c.args.words.now) p) c.in-On.is c.in_ok-reply.ensures.plans in
     c.in_ok-act-in-On.ensures.idle (plan_idle (g.R.Shelf.contents c.args.shelf.now) (command_of c.args.words.now) (plan.On c.in-On.deed) plans none)
+
+pub returns-in_ok-act-in-On-clause-asked : goal.returns-in_ok-act-in-On-clause-asked
+returns-in_ok-act-in-On-clause-asked g c =
+    let plans = subst (λ (p : Plan). Plans (g.R.Shelf.contents c.args.shelf.now) (command_of c.args.words.now) p) c.in-On.is c.in_ok-reply.ensures.plans in
+    asked_by g.T.Transport (g.R.Shelf.contents c.args.shelf.now) (command_of c.args.words.now) c.in-On.deed c.args.transport.now c.act.new.transport plans c.act.ensures.asked
+    (λ idle. (c.act.ensures.idle idle).0)
+
+pub returns-in_ok-act-in-On-clause-outside : goal.returns-in_ok-act-in-On-clause-outside
+returns-in_ok-act-in-On-clause-outside g c =
+    λ needs done told told_too. (
+      c.in-On.deed,
+      subst (λ (p : Plan). Plans (g.R.Shelf.contents c.args.shelf.now) (command_of c.args.words.now) p) c.in-On.is c.in_ok-reply.ensures.plans,
+      c.in_ok-act-in-On.ensures.outside done told told_too,
+    )

@@ -1,10 +1,13 @@
 use Rattle.std.proofs.Common.{◌≡◌, sym, subst, ◌∙◌}
 use Rattle.wc_cli.specs.Words.{command_of}
+use Rattle.wc_engine.specs.Outside.{exchange, ServesOutside}
 use Rattle.wc_engine.specs.Owed.{visit}
 use Rattle.wc_engine.specs.Replies.{OwesStatus, IsDoneOrFull}
 use Rattle.wc_engine.specs.declared.reply.Reply.{Reply}
+use Rattle.wc_engine.specs.declared.status.Status.{Status}
 use Rattle.wc_engine.specs.declared.status.Status.TheVariants as status
 use Rattle.wc_engine.proofs.Acknowledging.{owed_ok, stands_done}
+use Rattle.wc_engine.proofs.Exchanged.{owed_done}
 use Rattle.wc_engine.proofs.Exits.{durable_same, stay_sound}
 use Rattle.wc_engine.proofs.Undamaged.{owed_tells, ends_whole, ends_faultless}
 use Rattle.wc_engine.proofs.Once.{owed_once}
@@ -76,6 +79,19 @@ returns-in-Ok-clause-write_fault g c =
       λ needs done told told_too. c.in-Ok.ensures.durable needs done told told_too,
       λ ends. c.in-Ok.ensures.undone ends,
     )
+
+pub returns-in-Ok-clause-outside : goal.returns-in-Ok-clause-outside
+returns-in-Ok-clause-outside g c =
+    λ needs done told told_too.
+    let r = c.in-Ok.reply in
+    let e = exchange g.T.Transport g.P.Pacer c.args.transport.now c.answer.new.transport c.args.pacer.now c.answer.new.pacer in
+    let v = visit g.D.Disk c.args.one.now c.args.two.now c.answer.new.one c.answer.new.two in
+    subst (λ (s : Status). ServesOutside (g.R.Shelf.contents c.args.shelf.now) c.args.words.now e v s) (owed_done r.status c.finish.result c.finish.ensures.status done)
+    (c.in-Ok.ensures.outside needs (done_owed r.status c.finish.result c.finish.ensures.status done) told told_too)
+
+pub returns-in-Ok-clause-outside_at_fault : goal.returns-in-Ok-clause-outside_at_fault
+returns-in-Ok-clause-outside_at_fault g c =
+    λ fault. (c.in-Ok.reply, c.in-Ok.ensures.owed, λ needs done told told_too. c.in-Ok.ensures.outside needs done told told_too)
 
 pub returns-in-Err-OutOfMemory-clause-sound : goal.returns-in-Err-OutOfMemory-clause-sound
 returns-in-Err-OutOfMemory-clause-sound g c =

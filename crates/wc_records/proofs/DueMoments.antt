@@ -1,7 +1,7 @@
 -- The due moments after one record is set.
 use Rattle.std.proofs.Common.{◌≡◌, ℕ, ◌+◌, ◌<◌, ◌≤◌, Bool, true, false, cond, List, length, get_or, set, Some, inl, inr, refl, sym, ap, ◌∙◌, arith}
 use Rattle.std.specs.Prelude.{if◌then◌else◌, ◌⊎◌, ◌==◌, ◌&&◌, count_by}
-use Rattle.std.proofs.lemmas.Bool.{cases_eq, eq-eqb, ne_eqb, and_left, and_right}
+use Rattle.std.proofs.lemmas.Bool.{cases_eq, eq-eqb, eqb-true, ne_eqb, and_left, and_right, and_parts, and_from}
 use Rattle.std.proofs.lemmas.List.Sums.{sum_by-set, count_by-le-length}
 use Rattle.wc_state.specs.declared.record.ProcessRecord.{ProcessRecord}
 use Rattle.wc_records.specs.Records.{find_record}
@@ -9,10 +9,17 @@ use Rattle.wc_records.specs.Ascending.{AreAscending}
 use Rattle.wc_records.specs.Marked.{IsSorted, marked}
 use Rattle.wc_records.specs.Readiness.{due_of, waits_later, waits_until, sooner, is_due_in, AreDues}
 use Rattle.wc_records.specs.Index.{without_due, with_due}
-use Rattle.wc_records.proofs.Marks.{sorted_marked}
+use Rattle.wc_records.proofs.Marks.{Tests, sorted_marked}
 use Rattle.wc_records.proofs.Standing.{stands_itself, stands_other, as_number, length_marked}
-use Rattle.wc_records.proofs.Orders.{dues_in_order, due_tests}
+use Rattle.wc_records.specs.Orders.{dues_in_order}
 use Rattle.wc_records.proofs.Finding.{find_other, find_set, find_at}
+
+-- a due moment with its process is the same as another exactly where both parts are
+due_tests : (d : ℕ × ℕ) → Tests (λ e. (e.0 == d.0) && (e.1 == d.1)) d
+due_tests d = record {
+  same = λ e is i. (eqb-true e.0 d.0 ((and_parts (e.0 == d.0) (e.1 == d.1) is).0) i, eqb-true e.1 d.1 ((and_parts (e.0 == d.0) (e.1 == d.1) is).1) i);
+  itself = and_from (d.0 == d.0) (d.1 == d.1) (eq-eqb d.0 d.0 refl) (eq-eqb d.1 d.1 refl);
+}
 
 -- ---- without the due moment of a process
 

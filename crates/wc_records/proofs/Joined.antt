@@ -14,7 +14,7 @@ use Rattle.wc_records.specs.Ascending.{AreAscending}
 use Rattle.wc_records.specs.Marked.{AllAfter, IsSorted}
 use Rattle.wc_records.specs.Readiness.{is_ready, ready_at, due_of, waits_later, waits_until, sooner, is_due_in, AreDues}
 use Rattle.wc_records.specs.Ready.{due_by}
-use Rattle.wc_records.proofs.Orders.{dues_in_order}
+use Rattle.wc_records.specs.Orders.{dues_in_order}
 use Rattle.wc_records.proofs.Standing.{as_number}
 use Rattle.wc_records.proofs.Chosen.{chosen_sorted}
 use Rattle.wc_records.proofs.Firsts.{stands, all_above}

@@ -1,7 +1,7 @@
 pub mod Halving
 pub mod Marks
 pub mod Standing
-pub mod Orders
+pub mod Shifts
 pub mod Passed
 pub mod Chosen
 pub mod Finding

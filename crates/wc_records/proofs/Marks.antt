@@ -2,18 +2,10 @@
 use Rattle.std.proofs.Common.{◌≡◌, ℕ, zero, suc, ◌<◌, Bool, true, false, List, [], ◌∷◌, length, get_or, refl, sym, ap, ◌∙◌, subst, arith}
 use Rattle.std.specs.Prelude.{if◌then◌else◌, slice_get, not}
 use Rattle.std.specs.List.{insert, remove}
+use Rattle.std.proofs.lemmas.Bool.{and_parts}
 use mathlib.Core.Bool.{beq}
 use Rattle.std.specs.List.Sorted.{IsPartitionedBy}
-use Rattle.wc_records.specs.Marked.{AllAfter, IsSorted, if_wanted, marked, IsPlace, is_item}
-
--- ---- strict orders
-
--- One of two different items comes before the other, and items come in one line.
-pub record IsOrder {T : Type 0} (before : T → T → Bool) : Type 0 where
-  pub not_itself : (x : T) → before x x ≡ false
-  pub one_way : (x y : T) → before x y ≡ true → before y x ≡ false
-  pub same : (x y : T) → before x y ≡ false → before y x ≡ false → x ≡ y
-  pub along : (x y z : T) → before x y ≡ true → before y z ≡ true → before x z ≡ true
+use Rattle.wc_records.specs.Marked.{IsOrder, is_same, AllAfter, IsSorted, if_wanted, marked, IsPlace, is_item}
 
 -- ---- all after
 
@@ -77,6 +69,18 @@ place_tail before d x xs i h = record {
 pub record Tests {T : Type 0} (test : T → Bool) (d : T) : Type 0 where
   pub same : (x : T) → test x ≡ true → x ≡ d
   pub itself : test d ≡ true
+
+-- neither of two items comes before the other exactly where they are the same
+pub same_tests : {T : Type 0} (before : T → T → Bool) (o : IsOrder before) (d : T) → Tests (is_same before d) d
+same_tests before o d = record {
+  same = λ x is. let ps = and_parts (not (before d x)) (not (before x d)) is in
+      o.same x d (not_true (before x d) ps.1) (not_true (before d x) ps.0);
+  itself = rw (o.not_itself d) refl;
+}
+  where
+    not_true : (b : Bool) → not b ≡ true → b ≡ false
+    not_true true h = absurd (cc)
+    not_true false h = refl
 
 -- what stands at the place isn't the item: nothing is taken out, or the item is put in
 pub marked_absent : {T : Type 0} (before : T → T → Bool) (o : IsOrder before) (test : T → Bool) (d : T) (ts : Tests test d) (xs : List T) (i : ℕ) → IsPlace before d xs i
@@ -165,3 +169,26 @@ item_within test [] zero there wanted is e w = absurd (let b : wanted ≡ not th
 item_within test [] (suc i) there wanted is e w = absurd (let b : wanted ≡ not there = unlike there wanted e in cc)
 item_within test (x ∷ xs) zero there wanted is e w = omega arith
 item_within test (x ∷ xs) (suc i) there wanted is e w = let more = item_within test xs i there wanted is e w in omega (arith, more)
+
+-- ---- the same where the list was read twice
+
+pub left_read : {T : Type 0} (before : T → T → Bool) (o : IsOrder before) (d : T) (xs ys zs : List T) (i : ℕ) (there wanted : Bool) → ys ≡ xs → zs ≡ xs → IsPlace before d ys i
+    → there ≡ is_item (is_same before d) (slice_get zs i) → beq there wanted ≡ true → xs ≡ marked before d wanted xs
+left_read {T} before o d xs ys zs i there wanted first second h is e =
+    left_alone before o (is_same before d) d (same_tests before o d) xs i (subst (λ (ws : List T). IsPlace before d ws i) first h) there wanted
+    (is ∙ ap (λ (ws : List T). is_item (is_same before d) (slice_get ws i)) second) e
+
+pub put_read : {T : Type 0} (before : T → T → Bool) (o : IsOrder before) (d : T) (xs ys zs : List T) (i : ℕ) (there wanted : Bool) → ys ≡ xs → zs ≡ xs → IsPlace before d ys i
+    → there ≡ is_item (is_same before d) (slice_get zs i) → beq there wanted ≡ false → wanted ≡ true → insert xs i d ≡ marked before d wanted xs
+put_read {T} before o d xs ys zs i there wanted first second h is e w =
+    put_in before o (is_same before d) d (same_tests before o d) xs i (subst (λ (ws : List T). IsPlace before d ws i) first h) there wanted
+    (is ∙ ap (λ (ws : List T). is_item (is_same before d) (slice_get ws i)) second) e w
+
+pub taken_read : {T : Type 0} (before : T → T → Bool) (o : IsOrder before) (d : T) (xs ys zs : List T) (i : ℕ) (there wanted : Bool) → ys ≡ xs → zs ≡ xs → IsPlace before d ys i
+    → there ≡ is_item (is_same before d) (slice_get zs i) → beq there wanted ≡ false → wanted ≡ false
+    → (i < length xs) × (remove xs i ≡ marked before d wanted xs)
+taken_read {T} before o d xs ys zs i there wanted first second h is e w =
+    let read = is ∙ ap (λ (ws : List T). is_item (is_same before d) (slice_get ws i)) second in (
+      item_within (is_same before d) xs i there wanted read e w,
+      taken_out before o (is_same before d) d (same_tests before o d) xs i (subst (λ (ws : List T). IsPlace before d ws i) first h) there wanted read e w,
+    )

@@ -10,7 +10,7 @@ use Rattle.std.proofs.lemmas.List.Sums.{position_or_len_is}
 use Rattle.wc_records.specs.Readiness.{sooner}
 use Rattle.wc_records.specs.Marked.{IsSorted}
 use Rattle.wc_records.proofs.Marks.{sorted_is_parted}
-use Rattle.wc_records.proofs.Orders.{numbers_in_order, dues_in_order}
+use Rattle.wc_records.specs.Orders.{numbers_in_order, dues_in_order}
 
 pub front_is_filter : {T : Type 0} (p : T → Bool) (xs : List T) (at : ℕ) → ((k : ℕ) (d : T) → k < at → k < length xs → p (get_or xs k d) ≡ true)
     → ((k : ℕ) (d : T) → at ≤ k → k < length xs → p (get_or xs k d) ≡ false) → take at xs ≡ filter p xs

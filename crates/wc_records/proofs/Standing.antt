@@ -2,8 +2,8 @@
 use Rattle.std.proofs.Common.{◌≡◌, ℕ, suc, ◌+◌, Bool, true, false, List, [], ◌∷◌, length, refl, sym, ap, ◌∙◌, subst, arith}
 use Rattle.std.specs.Prelude.{if◌then◌else◌, ◌||◌}
 use Rattle.std.specs.List.{list_any}
-use Rattle.wc_records.specs.Marked.{AllAfter, IsSorted, if_wanted, marked}
-use Rattle.wc_records.proofs.Marks.{IsOrder, Tests}
+use Rattle.wc_records.specs.Marked.{IsOrder, AllAfter, IsSorted, if_wanted, marked}
+use Rattle.wc_records.proofs.Marks.{Tests}
 
 either : (a b c : Bool) → a ≡ false → b ≡ c → a || b ≡ c
 either a b c missing e = ap (λ (x : Bool). x || b) missing ∙ e

@@ -1,15 +1,14 @@
 -- What an index tells of the moments that processes wait for, and of those that live.
-use Rattle.std.proofs.Common.{◌≡◌, ℕ, zero, suc, ◌+◌, ◌<◌, ◌≤◌, Bool, true, false, cond, List, [], ◌∷◌, length, get_or, map, Option, Some, None, inl, inr, refl, sym, ap, ◌∙◌, arith}
-use Rattle.std.specs.Prelude.{if◌then◌else◌, ◌⊎◌, nat_lt, nat_le, ◌==◌, ◌||◌, ◌&&◌, not, filter, count_by, All}
+use Rattle.std.proofs.Common.{◌≡◌, ℕ, ◌+◌, ◌≤◌, Bool, true, false, cond, List, [], ◌∷◌, Option, Some, None, inl, inr, refl, sym, ap, ◌∙◌, arith}
+use Rattle.std.specs.Prelude.{◌⊎◌, nat_le, ◌==◌, ◌||◌, ◌&&◌, not}
 use Rattle.std.specs.List.{list_any}
-use Rattle.std.proofs.lemmas.Bool.{eq-eqb, ne_eqb, eqb-true, eqb-false, le-leb, or_cases, or_left, or_right, or_parts, and_parts, and_from, false≢true}
+use Rattle.std.proofs.lemmas.Bool.{eq-eqb, ne_eqb, eqb-true, eqb-false, le-leb, or_cases, or_left, or_right, and_parts, and_from}
 use Rattle.std.proofs.lemmas.Bool.Decides.{nat_tests}
 use Rattle.std.proofs.lemmas.List.Sums.{sum_by-cons}
 use Rattle.wc_state.specs.declared.record.ProcessRecord.{ProcessRecord}
 use Rattle.wc_records.specs.Records.{find_record, has_ended}
-use Rattle.wc_records.specs.Ascending.{AreAscending}
 use Rattle.wc_records.specs.Marked.{AllAfter}
-use Rattle.wc_records.specs.Readiness.{is_ready, ready_at, due_of, waits_later, waits_until, sooner, is_due_in, AreDues, live_in}
+use Rattle.wc_records.specs.Readiness.{is_ready, due_of, waits_later, waits_until, sooner, is_due_in, AreDues, live_in}
 use Rattle.wc_records.proofs.Moments.{ready_by_parts, is_due}
 
 -- ---- a process that waits for a moment

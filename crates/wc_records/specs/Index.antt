@@ -80,5 +80,5 @@ with_due r dues = if waits_later r then marked sooner (due_of r.part, r.node) tr
 -- There is room for the entries of so many records.
 pub record HasPlaces (count : ℕ) (x : Index) : Type 0 where
   pub passed : count ≤ vec_capacity x.passed
-  pub at_once : count ≤ vec_capacity x.at_once
-  pub later : count ≤ vec_capacity x.later
+  pub at_once : count ≤ x.at_once.room
+  pub later : count ≤ x.later.room

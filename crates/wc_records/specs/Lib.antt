@@ -3,6 +3,8 @@ pub mod Changes
 pub mod Ascending
 pub mod Readiness
 pub mod Marked
+pub mod Orders
+pub mod Window
 pub mod Index
 pub mod Ready
 pub mod Rounds

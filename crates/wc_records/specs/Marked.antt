@@ -1,5 +1,16 @@
 -- Lists in a strict order, with one item put in or taken out.
-use Rattle.std.specs.Prelude.{◌≡◌, ℕ, ◌<◌, ◌≤◌, Bool, true, false, if◌then◌else◌, List, [], ◌∷◌, length, Option, Some, None, slice_index_or}
+use Rattle.std.specs.Prelude.{◌≡◌, ℕ, ◌<◌, ◌≤◌, Bool, true, false, not, ◌&&◌, if◌then◌else◌, List, [], ◌∷◌, length, Option, Some, None, slice_index_or}
+
+-- One of two different items comes before the other, and items come in one line.
+pub record IsOrder {T : Type 0} (before : T → T → Bool) : Type 0 where
+  pub not_itself : (x : T) → before x x ≡ false
+  pub one_way : (x y : T) → before x y ≡ true → before y x ≡ false
+  pub same : (x y : T) → before x y ≡ false → before y x ≡ false → x ≡ y
+  pub along : (x y z : T) → before x y ≡ true → before y z ≡ true → before x z ≡ true
+
+-- neither of two items comes before the other
+abbrev pub is_same : {T : Type 0} → (T → T → Bool) → T → T → Bool
+is_same before x y = not (before x y) && not (before y x)
 
 -- Each item of the list comes after this one.
 abbrev pub AllAfter : {T : Type 0} → (T → T → Bool) → T → List T → Type 0

@@ -10,10 +10,11 @@ ghost use Rattle.wc_records.specs.Index.{passed_by, IsIndexOf, AreCounted, AreNo
 
 use crate::awaiting::passed_by;
 use crate::change::SetProcess;
+use crate::in_place;
 use crate::places::{is_numbered, place_of};
 use crate::processes::has_ended;
 use crate::readiness::{due_of, is_ready_past, waits_later};
-use crate::{dues, in_place, numbers};
+use crate::window::Window;
 use std::alloc::{AllocError, Global};
 use wc_state::ProcessRecord;
 
@@ -23,34 +24,34 @@ pub(crate) struct Index {
     /// Of each record, how many of the processes that it awaits have ended, from the first one on.
     pub passed: Vec<usize>,
     /// The numbers of the processes that are ready at moment 0, ascending.
-    pub at_once: Vec<u32>,
+    pub at_once: Window<u32>,
     /// The due moments of the jobs that wait for a later one, in order, each with the job's number.
-    pub later: Vec<(u64, u32)>,
+    pub later: Window<(u64, u32)>,
     /// How many processes haven't ended.
     pub live: usize,
 }
 
 /// Takes the due moment of a process out.
-fn take_due(later: &mut Vec<(u64, u32)>, process: &ProcessRecord)
+fn take_due(later: &mut Window<(u64, u32)>, process: &ProcessRecord)
     requires order { IsSorted sooner later.old.items }
-    requires room { length (without_due process.now later.old.items) ≤ vec_capacity later.old }
+    requires room { length (without_due process.now later.old.items) ≤ later.old.room }
     ensures items { later.new.items ≡ without_due process.now later.old.items }
-    ensures capacity { vec_capacity later.new ≡ vec_capacity later.old }
+    ensures room { later.new.room ≡ later.old.room }
 {
     if waits_later(process) {
-        dues::mark(later, (due_of(&process.part), process.node), false);
+        later.mark((due_of(&process.part), process.node), false);
     }
 }
 
 /// Puts the due moment of a process in.
-fn put_due(later: &mut Vec<(u64, u32)>, process: &ProcessRecord)
+fn put_due(later: &mut Window<(u64, u32)>, process: &ProcessRecord)
     requires order { IsSorted sooner later.old.items }
-    requires room { length (with_due process.now later.old.items) ≤ vec_capacity later.old }
+    requires room { length (with_due process.now later.old.items) ≤ later.old.room }
     ensures items { later.new.items ≡ with_due process.now later.old.items }
-    ensures capacity { vec_capacity later.new ≡ vec_capacity later.old }
+    ensures room { later.new.room ≡ later.old.room }
 {
     if waits_later(process) {
-        dues::mark(later, (due_of(&process.part), process.node), true);
+        later.mark((due_of(&process.part), process.node), true);
     }
 }
 
@@ -58,7 +59,7 @@ fn put_due(later: &mut Vec<(u64, u32)>, process: &ProcessRecord)
 /// it is ready.
 fn recount(
     passed: &mut Vec<usize>,
-    at_once: &mut Vec<u32>,
+    at_once: &mut Window<u32>,
     records: &[ProcessRecord],
     at: usize,
     process: &ProcessRecord,
@@ -68,30 +69,32 @@ fn recount(
     requires ascending { AreAscending 0 records.now }
     requires known { known ≤ passed_by records.now process.now }
     requires order { IsSorted nat_lt at_once.old.items }
-    requires room { length (marked nat_lt process.now.node (is_ready records.now 0 process.now) at_once.old.items) ≤ vec_capacity at_once.old }
+    requires room { length (marked nat_lt process.now.node (is_ready records.now 0 process.now) at_once.old.items) ≤ at_once.old.room }
     ensures passed { passed.new.items ≡ slice_set passed.old.items at (passed_by records.now process.now) }
     ensures at_once { at_once.new.items ≡ marked nat_lt process.now.node (is_ready records.now 0 process.now) at_once.old.items }
-    ensures capacity { (vec_capacity passed.new ≡ vec_capacity passed.old) × (vec_capacity at_once.new ≡ vec_capacity at_once.old) }
+    ensures capacity { vec_capacity passed.new ≡ vec_capacity passed.old }
+    ensures room { at_once.new.room ≡ at_once.old.room }
 {
     let count = passed_by(records, &process.part, known);
     passed[at] = count;
-    numbers::mark(at_once, process.node, is_ready_past(count, 0, process));
+    at_once.mark(process.node, is_ready_past(count, 0, process));
 }
 
 /// Counts anew for the caller of a process that has ended, if there is one.
 fn tell_caller(
     passed: &mut Vec<usize>,
-    at_once: &mut Vec<u32>,
+    at_once: &mut Window<u32>,
     records: &[ProcessRecord],
     caller: Option<u32>,
 )
     requires ascending { AreAscending 0 records.now }
     requires counted { AreCounted (is_other caller) records.now passed.old.items at_once.old.items }
     requires known { AreNotAbove records.now passed.old.items }
-    requires room { length records.now ≤ vec_capacity at_once.old }
+    requires room { length records.now ≤ at_once.old.room }
     ensures passed { passed.new.items ≡ map (passed_by records.now) records.now }
     ensures at_once { at_once.new.items ≡ ready_at records.now 0 }
-    ensures capacity { (vec_capacity passed.new ≡ vec_capacity passed.old) × (vec_capacity at_once.new ≡ vec_capacity at_once.old) }
+    ensures capacity { vec_capacity passed.new ≡ vec_capacity passed.old }
+    ensures room { at_once.new.room ≡ at_once.old.room }
 {
     match caller {
         None => {}
@@ -155,8 +158,8 @@ impl Index {
     {
         Index {
             passed: Vec::new(alloc),
-            at_once: Vec::new(alloc),
-            later: Vec::new(alloc),
+            at_once: Window::new(alloc),
+            later: Window::new(alloc),
             live: 0,
         }
     }
@@ -171,14 +174,10 @@ impl Index {
     {
         let mut passed = Vec::with_capacity(alloc, count)?;
         passed.extend_from_slice(self.passed.as_slice())?;
-        let mut at_once = Vec::with_capacity(alloc, count)?;
-        at_once.extend_from_slice(self.at_once.as_slice())?;
-        let mut later = Vec::with_capacity(alloc, count)?;
-        later.extend_from_slice(self.later.as_slice())?;
         Ok(Index {
             passed,
-            at_once,
-            later,
+            at_once: self.at_once.copy(alloc, count)?,
+            later: self.later.copy(alloc, count)?,
             live: self.live,
         })
     }
@@ -196,8 +195,8 @@ impl Index {
         ensures kept { (n : ℕ) → HasPlaces n self.old → HasPlaces n self.new }
     {
         self.passed.reserve(count - self.passed.len())?;
-        self.at_once.reserve(count - self.at_once.len())?;
-        self.later.reserve(count - self.later.len())
+        self.at_once.reserve(count)?;
+        self.later.reserve(count)
     }
 
     /// Takes up a new process, which is ready and awaits nothing, with a number above all others.
@@ -212,7 +211,7 @@ impl Index {
         ensures kept { (n : ℕ) → HasPlaces n self.old → HasPlaces n self.new }
     {
         self.passed.push_reserved(0);
-        self.at_once.push_reserved(number);
+        self.at_once.push(number);
         self.live += 1;
     }
 }

@@ -6,16 +6,16 @@
 mod awaiting;
 mod change;
 mod copies;
-mod dues;
 mod in_place;
 mod index;
-mod numbers;
+mod order;
 mod places;
 mod processes;
 mod readiness;
 mod ready;
 mod records;
 mod rounds;
+mod window;
 
 pub use change::{Kept, NewProcess, SetProcess};
 pub use processes::{has_ended, started_in};

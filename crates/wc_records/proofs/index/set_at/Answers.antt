@@ -48,7 +48,7 @@ put_due-requires-clause-room c =
     = c.take_due.ensures.items ∙ ap (λ (q : ProcessRecord). without_due q x.later.items) (same_read rs i c.index.result.now r h.within c.index.ensures c.index_mut.ensures.value) in
     let second : c.index-2.result.now ≡ s = reads rs i r s c.index-2.result.now x h c.index-2.ensures in
     let with : with_due c.index-2.result.now c.take_due.new.later.items ≡ with_due s (without_due r x.later.items) = λ j. with_due (second j) (taken j) in
-    omega (arith, dues_short rs i r s x h, ap length with, c.requires.room.later, c.take_due.ensures.capacity)
+    omega (arith, dues_short rs i r s x h, ap length with, c.requires.room.later, c.take_due.ensures.room)
 
 pub recount-requires-clause-within : goal.recount-requires-clause-within
 recount-requires-clause-within c =

@@ -12,15 +12,15 @@ use Rattle.wc_records.proofs.records.Records.next_ready.Goals as goal
 pub first_above-requires : goal.first_above-requires
 first_above-requires c =
     let rs = c.self.inside.items.items in
-    subst (IsSorted nat_lt) (sym (c.as_slice-2.ensures.value ∙ c.self.invariant.1.at_once)) (chosen_sorted (is_ready rs 0) 0 rs c.self.invariant.0)
+    subst (IsSorted nat_lt) (sym (c.as_slice-2.ensures ∙ c.self.invariant.1.at_once)) (chosen_sorted (is_ready rs 0) 0 rs c.self.invariant.0)
 
 pub returns : goal.returns
 returns c =
     let rs = c.self.inside.items.items in
     let last = c.args.last in
     let now = c.args.now in
-    let at_once = c.as_slice-2.ensures.value ∙ c.self.invariant.1.at_once in
-    let due = c.due_by-due.ensures ∙ ap (due_by now) c.as_slice.ensures.value in
+    let at_once = c.as_slice-2.ensures ∙ c.self.invariant.1.at_once in
+    let due = c.due_by-due.ensures ∙ ap (due_by now) c.as_slice.ensures in
     c.first_with.ensures
     ∙ (λ i. first_with last ((c.first_above.ensures ∙ ap (first_above last) at_once) i) (due i))
     ∙ next_is rs c.self.inside.index.later.items c.self.invariant.0 c.self.invariant.1.later last now

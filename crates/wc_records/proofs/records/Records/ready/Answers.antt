@@ -10,8 +10,8 @@ pub returns : goal.returns
 returns c =
     let rs = c.self.inside.items.items in
     let now = c.args.now in
-    let at_once = c.as_slice-2.ensures.value ∙ c.self.invariant.1.at_once in
-    let due = c.due_by-due.ensures ∙ ap (due_by now) c.as_slice.ensures.value in
+    let at_once = c.as_slice-2.ensures ∙ c.self.invariant.1.at_once in
+    let due = c.due_by-due.ensures ∙ ap (due_by now) c.as_slice.ensures in
     let both : c.as_slice-2.result.now ++ map (λ (d : ℕ × ℕ). d.1) c.due_by-due.result.now ≡ ready_at rs 0 ++ map (λ (d : ℕ × ℕ). d.1) (due_by now c.self.inside.index.later.items)
     = λ i. at_once i ++ map (λ (d : ℕ × ℕ). d.1) (due i) in
     ok_both (λ ids. IsPermutation (c.as_slice-2.result.now ++ map (λ (d : ℕ × ℕ). d.1) c.due_by-due.result.now) ids.items) (λ ids. IsNonDecreasing ids.items)

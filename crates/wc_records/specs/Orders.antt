@@ -1,10 +1,10 @@
 -- The order of numbers, and that of due moments with their processes.
-use Rattle.std.proofs.Common.{◌≡◌, ℕ, true, false, refl, arith}
-use Rattle.std.specs.Prelude.{nat_lt, ◌==◌, ◌&&◌}
-use Rattle.std.proofs.lemmas.Bool.{ltb-true, ltb-false, lt-ltb, le-ltb, eqb-true, eq-eqb, and_parts, and_from}
+use Rattle.std.proofs.Common.{◌≡◌, ℕ, true, false, arith}
+use Rattle.std.specs.Prelude.{nat_lt}
+use Rattle.std.proofs.lemmas.Bool.{ltb-true, ltb-false, lt-ltb, le-ltb}
 use Rattle.std.proofs.lemmas.Bool.Decides.{nat_tests}
 use Rattle.wc_records.specs.Readiness.{sooner}
-use Rattle.wc_records.proofs.Marks.{IsOrder, Tests}
+use Rattle.wc_records.specs.Marked.{IsOrder}
 
 pub numbers_in_order : IsOrder nat_lt
 numbers_in_order = record {
@@ -35,13 +35,4 @@ dues_in_order = record {
   one_way = sooner_one_way;
   same = λ x y one other i. (sooner_first x y one other i, sooner_second x y one other i);
   along = sooner_along;
-}
-
-pub number_tests : (n : ℕ) → Tests (λ m. m == n) n
-number_tests n = record { same = λ m is. eqb-true m n is; itself = eq-eqb n n refl }
-
-pub due_tests : (d : ℕ × ℕ) → Tests (λ e. (e.0 == d.0) && (e.1 == d.1)) d
-due_tests d = record {
-  same = λ e is i. (eqb-true e.0 d.0 ((and_parts (e.0 == d.0) (e.1 == d.1) is).0) i, eqb-true e.1 d.1 ((and_parts (e.0 == d.0) (e.1 == d.1) is).1) i);
-  itself = and_from (d.0 == d.0) (d.1 == d.1) (eq-eqb d.0 d.0 refl) (eq-eqb d.1 d.1 refl);
 }

@@ -2,6 +2,8 @@
 use Rattle.std.proofs.Common.{◌≡◌, ℕ, suc, ◌+◌, ◌<◌, ◌≤◌, Bool, true, false, not, cond, List, [], ◌∷◌, ◌++◌, map, Option, Some, None, refl, sym, ap, subst, ◌∙◌, arith, ⊎_elim}
 use Rattle.std.specs.Prelude.{if◌then◌else◌, ◌&&◌, ◌||◌, ◌==◌, nat_lt}
 use Rattle.std.proofs.lemmas.List.{append-nil}
+use Rattle.std.specs.List.Sorted.{IsPermutation}
+use Rattle.std.proofs.lemmas.List.Sorted.{list_any-IsPermutation}
 use Rattle.std.proofs.lemmas.Bool.{false≢true, cases_Bool, eq-eqb, ne_eqb, eqb-true, ltb-true, ltb-false}
 use Rattle.wc_graph.specs.declared.link.Link.{Link}
 use Rattle.wc_state.specs.declared.record.ProcessRecord.{ProcessRecord}
@@ -145,7 +147,8 @@ settled_change b t w (change.Kept k) h =
 
 -- ---- the least of those that were touched
 
-abbrev IsAtMost : Option ℕ → ℕ → Type 0
+-- there is a number, and it isn't above this one
+abbrev pub IsAtMost : Option ℕ → ℕ → Type 0
 IsAtMost None n = ⊥
 IsAtMost (Some least) n = least ≤ n
 
@@ -273,3 +276,14 @@ least_is_first links rs ts low high up h =
     by_case : (o : Option ℕ) → AreCovered links o rs → IsOpenIn links rs o → o ≡ unsettled links rs
     by_case None c live = none_left links rs c
     by_case (Some p) c live = first_left links p low high rs up c live
+
+-- ---- each process once
+
+-- the numbers may stand in another order
+pub settled_sorted : (t t' : List ℕ) (links : List Link) (rs : List ProcessRecord) → IsPermutation t t' → AreSettledBut t links rs → AreSettledBut t' links rs
+settled_sorted t t' links rs p h = settled_as t t' links links (λ r out. (list_any-IsPermutation (λ m. m == r.node) t t' p ∙ out, refl)) rs h
+
+-- the process that was looked at last, if it is unsettled, isn't below the least
+abbrev pub WasLookedAt : List Link → List ProcessRecord → Option ℕ → Option ℕ → Type 0
+WasLookedAt links rs least None = Unit {0}
+WasLookedAt links rs least (Some p) = is_unsettled links rs p ≡ true → IsAtMost least p

@@ -96,7 +96,16 @@ abbrev pub lesser : Option ℕ → ℕ → Option ℕ
 lesser None pid = Some pid
 lesser (Some least) pid = if nat_lt least pid then Some least else Some pid
 
+-- the lesser of a number, where there is one, and that of a process, where it is unsettled
+abbrev pub with_one : List Link → List ProcessRecord → Option ℕ → ℕ → Option ℕ
+with_one links records least pid = if is_unsettled links records pid then lesser least pid else least
+
 -- the least of a number, where there is one, and those of these that are of unsettled processes
 abbrev pub least_from : List Link → List ProcessRecord → Option ℕ → List ℕ → Option ℕ
 least_from links records least [] = least
-least_from links records least (pid ∷ pids) = least_from links records (if is_unsettled links records pid then lesser least pid else least) pids
+least_from links records least (pid ∷ pids) = least_from links records (with_one links records least pid) pids
+
+-- this number is the last one, where there is one
+abbrev pub is_last : Option ℕ → ℕ → Bool
+is_last None pid = false
+is_last (Some last) pid = last == pid

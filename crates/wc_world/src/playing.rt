@@ -59,8 +59,8 @@ impl Draft {
         Ok(())
     }
 
-    /// The world, if each process is settled, or else the least one that isn't.
-    fn settle(self) -> Result<World, WorldError>
+    /// The world, if each process is settled, or else the least one that isn't. Each process is looked at once.
+    fn settle(mut self) -> Result<World, WorldError>
         requires ascending { Ascends (drafted self) }
         requires others { AreSettledBut self.touched.items self.graph.links self.records.0 }
         requires reached { unsettled self.graph.links self.records.0 ≡ None → IsReached (drafted self) }
@@ -68,6 +68,7 @@ impl Draft {
         ensures settled { OnOk result (unsettled self.graph.links self.records.0 ≡ None) }
         ensures refused { IfErr result (λ e. (pid : ℕ) × (unsettled self.graph.links self.records.0 ≡ Some pid) × (e ≡ error.BadRecord pid)) }
     {
+        self.touched.sort_unstable();
         match self.find_unsettled() {
             Some(pid) => Err(WorldError::BadRecord(pid)),
             None => Ok(World {

@@ -11,8 +11,9 @@ use std::alloc::{AllocError, Global};
 use wc_meaning::find_definition;
 use wc_state::{Named, ProcessRecord};
 use wc_syntax::{Checked, Definition};
+use wc_trees::env_of;
 use wc_value::{Duplicate, Fields};
-use wc_world::{World, WorldError, env_of};
+use wc_world::{World, WorldError};
 
 /// The library with this number, if there is one.
 fn library_at(world: &World, number: u32) -> Option<&Checked>

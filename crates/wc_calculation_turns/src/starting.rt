@@ -18,8 +18,9 @@ use wc_expression::Outcome;
 use wc_job::JobStep;
 use wc_state::{JobPart, ProcessRecord, Task};
 use wc_syntax::{Definition, Job};
+use wc_trees::tree_of;
 use wc_value::{Fields, Tree};
-use wc_world::{World, WorldError, reached_worlds_are_consistent, tree_of};
+use wc_world::{World, WorldError, reached_worlds_are_consistent};
 
 /// A job that waits for its first task.
 const FIRST: JobStep = JobStep {

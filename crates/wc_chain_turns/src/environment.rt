@@ -6,7 +6,8 @@ ghost use Rattle.wc_world.specs.Trees.{environment_at};
 
 use std::alloc::{AllocError, Global};
 use wc_state::Env;
-use wc_world::{World, WorldError, env_of};
+use wc_trees::env_of;
+use wc_world::{World, WorldError};
 
 /// The environment of a process that is there.
 pub fn environment(alloc: Global, world: &World, pid: u32) -> Result<Env, AllocError>

@@ -12,8 +12,9 @@ use std::alloc::{AllocError, Global};
 use wc_cli::View;
 use wc_report::{cycle_text, list_text, tree_lines, verified_text, wrong_value_text};
 use wc_show::{graph_text, show_text};
+use wc_trees::tree_of;
 use wc_verify::{find_cycle, find_disagreement, find_wrong_value};
-use wc_world::{World, WorldError, tree_of};
+use wc_world::{World, WorldError};
 
 /// The tree of a process, or that there is no such process.
 fn tree_shown(alloc: Global, world: &World, pid: u32) -> Result<Reply, AllocError>

@@ -5,8 +5,9 @@ ghost use Rattle.wc_world.specs.Records.{find_record};
 ghost use Rattle.wc_machine.specs.Recorded.{recorded_outputs, retrieved_folder};
 
 use std::alloc::{AllocError, Global};
+use wc_trees::tree_of;
 use wc_value::{Duplicate, Fields, Files, Value};
-use wc_world::{World, WorldError, tree_of};
+use wc_world::{World, WorldError};
 
 /// The values of the outputs of a process, by label.
 pub(crate) fn recorded_outputs(alloc: Global, world: &World, pid: u32) -> Result<Fields, AllocError>

@@ -1,3 +1,5 @@
+pub use Rattle.wc_fits.proofs.FoundRecords
+pub use Rattle.wc_fits.proofs.Definitions
 pub mod Snapshot
 pub mod SnapshotForm
 pub mod SnapshotLists
@@ -10,7 +12,6 @@ pub mod ReachedSources
 pub mod ReachedCounted
 pub mod ReachedKept
 pub mod ReachedWorlds
-pub mod FoundRecords
 pub mod LabelledValues
 pub mod RecordedEnvironments
 pub mod RecordedTrees
@@ -22,11 +23,6 @@ mod Applies
 mod Awaiting
 mod LinkCorrect
 pub mod After
-pub mod Lengths
-pub mod Definitions
-pub mod Places
-pub mod LinkWalks
-pub mod Linking
 pub mod Leading
 pub mod Outcomes
 pub mod Telling
@@ -34,7 +30,3 @@ pub mod Played
 pub mod Unsettled
 pub mod OneRule
 pub mod OneAnswer
-mod LinkedValues
-mod LinkLabels
-mod TreeLaws
-mod Names

@@ -25,11 +25,6 @@ drafted d = world_of d.graph d.records d.libraries d.batches
 abbrev pub Ascends : World → Type 0
 Ascends w = Ascend 0 w.records (length w.nodes)
 
--- what a test says, which says nothing against nothing
-abbrev pub on_place : {T : Type 0} → (T → Bool) → Option T → Bool
-on_place test None = true
-on_place test (Some x) = test x
-
 -- ---- where a change stands
 
 -- The terms say of a batch what its setting says.

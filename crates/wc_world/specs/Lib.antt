@@ -1,8 +1,8 @@
-pub mod World
-pub mod Records
-pub mod Blocks
+pub use Rattle.wc_fits.specs.World
+pub use Rattle.wc_fits.specs.Records
+pub use Rattle.wc_fits.specs.Blocks
+pub use Rattle.wc_fits.specs.Fits
 pub mod Applied
-pub mod Fits
 pub mod Accepted
 pub mod Room
 pub mod Trees
@@ -11,9 +11,7 @@ pub mod Consistent
 pub mod Laws
 pub mod Applying
 pub mod After
-pub mod Levels
 pub mod Order
-pub mod TreeLaws
 pub mod Slots
 pub mod Calls
 pub mod Drafts

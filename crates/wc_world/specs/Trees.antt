@@ -3,9 +3,7 @@ use Rattle.std.specs.Prelude.{ℕ, zero, suc, if◌then◌else◌, List, [], ◌
 use Rattle.wc_value.specs.Ascending.{put}
 use Rattle.wc_value.specs.declared.process.Tree.{Tree, roll-Tree}
 use Rattle.wc_value.specs.declared.value.Value.{Value}
-use Rattle.wc_graph.specs.Rules.{node_of}
 use Rattle.wc_graph.specs.declared.node.NodeKind.{NodeKind}
-use Rattle.wc_graph.specs.declared.node.NodeKind.TheVariants as node
 use Rattle.wc_graph.specs.declared.link.Link.{Link}
 use Rattle.wc_state.specs.declared.context.CtxRef.{CtxRef}
 use Rattle.wc_state.specs.declared.context.CtxRef.TheVariants as held
@@ -19,17 +17,9 @@ use Rattle.wc_state.specs.declared.record.Part.TheVariants as part
 use Rattle.wc_state.specs.declared.record.ProcessRecord.{ProcessRecord}
 use Rattle.wc_world.specs.World.{World}
 use Rattle.wc_world.specs.Records.{find_record, is_call_from, is_input_of, is_output_of}
+pub use Rattle.wc_fits.specs.Values.{data_of, value_of}
 
 -- ---- nodes by label
-
-abbrev pub data_of : NodeKind → Option Value
-data_of (node.Data v) = Some v
-data_of node.Calculation = None
-data_of node.Workflow = None
-
--- the value of a data node
-abbrev pub value_of : List NodeKind → ℕ → Option Value
-value_of nodes id = option_and_then data_of (node_of nodes id)
 
 abbrev pub NamedValues : Type 0
 NamedValues = List (List ℕ × NodeValue)

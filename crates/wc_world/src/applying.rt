@@ -12,9 +12,9 @@ ghost use Rattle.wc_world.specs.Room.{HasRoom, needed};
 ghost use Rattle.wc_world.specs.Applying.{world_of, room_of, CanApply, Ascend, IsAtLeast};
 
 use crate::change::{Change, Changes};
-use crate::processes::{caller_of, node_of_kind};
 use crate::world::{Known, Libraries, World};
 use std::alloc::{AllocError, Global};
+use wc_fits::{caller_of, node_of_kind};
 use wc_graph::{Graph, Link, NodeKind};
 use wc_records::{NewProcess, Records, SetProcess};
 

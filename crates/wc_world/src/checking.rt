@@ -10,14 +10,12 @@ ghost use Rattle.wc_world.specs.Accepted.{Setting, HasNumber, Fits, Refuses, end
 ghost use Rattle.wc_world.specs.Calls.{SetFits};
 ghost use Rattle.wc_world.specs.Drafts.{drafted, FitsBy, RefusesBy, is_source_by, source_fits_by, kept_fits_by};
 
-use crate::checkpoints::set_fits;
+use crate::batches::{ended_before, ended_fits, started_after};
 use crate::draft::Draft;
 use crate::error::WorldError;
-use crate::fitting::{
-    ended_before, ended_fits, is_calculation, names_ascend, new_fits, started_after,
-};
 use crate::terms::Terms;
 use std::alloc::{AllocError, Global};
+use wc_fits::{is_calculation, names_ascend, new_fits, set_fits};
 use wc_graph::GraphError;
 use wc_records::{Kept, NewProcess, SetProcess};
 use wc_state::ProcessRecord;
@@ -102,7 +100,14 @@ fn process_fits(
 ) -> Result<bool, AllocError>
     ensures { IfOk result (λ fits. fits ≡ (set_fits (drafted draft.now) set.now «record».now && source_fits_by terms.now (drafted draft.now) set.now «record».now)) }
 {
-    let fits = set_fits(alloc, draft, set, record)?;
+    let fits = set_fits(
+        alloc,
+        &draft.graph,
+        &draft.records,
+        &draft.libraries,
+        set,
+        record,
+    )?;
     Ok(fits && source_fits(draft, terms, set, record))
 }
 

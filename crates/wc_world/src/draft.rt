@@ -14,11 +14,10 @@ use crate::checking::{
     check_count, check_data, check_kept, check_library, check_process, check_set,
 };
 use crate::error::WorldError;
-use crate::fitting::call_fits;
-use crate::processes::node_of_kind;
 use crate::terms::Terms;
 use crate::world::Libraries;
 use std::alloc::Global;
+use wc_fits::{call_fits, node_of_kind};
 use wc_graph::{Graph, GraphError, Link, NodeKind, is_call};
 use wc_records::{Kept, NewProcess, Records, SetProcess};
 use wc_syntax::Checked;

@@ -1,7 +1,6 @@
 //! Laws of worlds and changes. Each is the contract of a function that does nothing.
 
 ghost use Rattle.wc_world.specs.Laws.{LinksStayCorrect, NotBoth, OneRefusal, ReachedIsConsistent, SnapshotsGiveTheWorld};
-ghost use Rattle.wc_world.specs.TreeLaws.{InputsAreLinked, OutputsAreLinked, TreesUnfold};
 
 /// No changes are both accepted and refused, and they are refused in one way.
 pub fn changes_have_one_answer()
@@ -22,19 +21,4 @@ pub fn links_stay_correct()
 /// The empty world accepts a world's snapshot, and applying it gives that world.
 pub fn snapshots_give_the_world()
     ensures { SnapshotsGiveTheWorld }
-{}
-
-/// A process's recorded tree has its definition, its state, its outputs and the recorded trees of what it called.
-pub fn recorded_trees_unfold()
-    ensures { TreesUnfold }
-{}
-
-/// A process's outputs are what its links lead to.
-pub fn outputs_are_linked()
-    ensures { OutputsAreLinked }
-{}
-
-/// A process's inputs are what its links lead from.
-pub fn inputs_are_linked()
-    ensures { InputsAreLinked }
 {}

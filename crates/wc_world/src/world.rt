@@ -8,17 +8,10 @@ ghost use Rattle.wc_world.specs.Accepted.{IsReached};
 
 use std::alloc::Global;
 use std::marker::Model;
+pub use wc_fits::{Known, Libraries};
 use wc_graph::Graph;
 use wc_records::Records;
 use wc_state::ProcessRecord;
-use wc_syntax::Checked;
-use wc_value::{Roomy, Words};
-
-/// A library, with the names of its definitions that have caching on, ascending.
-pub type Known = (Checked, Words);
-
-/// The libraries, of which the first has the number 1.
-pub type Libraries = Roomy<Known>;
 
 /// Everything that a store holds. It changes by whole lists of changes alone, each of which it accepts.
 #[derive(Drop)]

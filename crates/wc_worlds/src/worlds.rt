@@ -9,8 +9,9 @@ use std::mem;
 use wc_graph::NodeKind;
 use wc_report::{state_text, tree_lines, value_text};
 use wc_state::Part;
+use wc_trees::tree_of;
 use wc_value::{Text, Value, Values, Words};
-use wc_world::{Change, Changes, World, WorldError, tree_of};
+use wc_world::{Change, Changes, World, WorldError};
 
 /// Tells whether a world takes changes, or why not.
 fn put_judged(told: &mut String, judged: Result<(), WorldError>) -> Result<(), Stop> {

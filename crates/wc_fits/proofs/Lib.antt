@@ -1,0 +1,5 @@
+pub mod FoundRecords
+pub mod Lengths
+pub mod Definitions
+pub mod Places
+pub mod LinkWalks

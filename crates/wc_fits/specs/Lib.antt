@@ -1,0 +1,6 @@
+pub mod World
+pub mod Records
+pub mod Values
+pub mod Blocks
+pub mod Levels
+pub mod Fits

@@ -1,0 +1,17 @@
+//! What one change of a world must fit: definitions, names, processes, calls and checkpoints; and what is looked up for it.
+//!
+//! Contracts see a world as lists. The tests take the graph, the records and the libraries, of which a world is made.
+#![tactic(auto)]
+
+mod blocks;
+mod checkpoints;
+mod fitting;
+mod libraries;
+mod processes;
+mod values;
+
+pub use checkpoints::set_fits;
+pub use fitting::{call_fits, is_calculation, names_ascend, new_fits};
+pub use libraries::{Known, Libraries};
+pub use processes::{caller_of, is_call_from, is_settled, node_of_kind};
+pub use values::{input_by, output_by};

@@ -1,0 +1,5 @@
+pub mod Linking
+pub mod LinkLabels
+pub mod LinkedValues
+pub mod Names
+pub mod TreeLaws

@@ -1,0 +1,2 @@
+pub use Rattle.wc_world.specs.Trees
+pub mod TreeLaws

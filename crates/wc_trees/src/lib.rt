@@ -1,0 +1,12 @@
+//! What a world records of a process: its tree, and its environment.
+#![tactic(auto)]
+
+mod environments;
+mod laws;
+mod linked;
+mod outputs;
+mod trees;
+
+pub use environments::env_of;
+pub use laws::{inputs_are_linked, outputs_are_linked, recorded_trees_unfold};
+pub use trees::tree_of;

@@ -1,7 +1,0 @@
-use Rattle.std.proofs.Common.{◌≡◌, drop}
-use Rattle.std.specs.List.{list_all}
-use Rattle.wc_world.specs.Fits.{frame_fits}
-use Rattle.wc_world.proofs.checkpoints.frames_fit.Given as goal
-
-abbrev pub invariant-loop-frame : goal.invariant-loop-frame
-invariant-loop-frame l = list_all (frame_fits l.lengths) (drop l.frame-index l.frame-items) ≡ list_all (frame_fits l.lengths) l.frame-items

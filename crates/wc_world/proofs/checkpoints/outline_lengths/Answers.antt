@@ -1,5 +1,0 @@
-use Rattle.wc_world.proofs.Lengths.{lengths_bare}
-use Rattle.wc_world.proofs.checkpoints.outline_lengths.Goals as goal
-
-pub returns-in-Some : goal.returns-in-Some
-returns-in-Some c = rw (c.in-Some.is, lengths_bare) c.lengths_of.ensures

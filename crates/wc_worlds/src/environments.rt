@@ -7,7 +7,8 @@ use std::alloc::Global;
 use wc_report::{state_text, value_text};
 use wc_state::{Child, Env, Item, Named};
 use wc_value::Duplicate;
-use wc_world::{World, env_of};
+use wc_trees::env_of;
+use wc_world::World;
 
 /// Tells labels with their nodes.
 fn put_named(named: &Named, told: &mut String) -> Result<(), Stop> {

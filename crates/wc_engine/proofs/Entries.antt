@@ -277,15 +277,15 @@ module _ {D : Type 0} (g : disk.Ghosts D) where
   refused_entry a store cs error.OutOfMemory one two one_new two_new (Ok r) stands storable refused same same_too reply = absurd (cc)
 
   -- a store that isn't as a disk failed stands for its disks
-  pub refused_durable : {E : Type 0} (e : StoreError) (new : Store) (A B : Type 0) (one_new two_new : D) (result : Result Reply E) → IfOk result (λ r. store_reply e ≡ Some r)
-      → new.live ≡ is_live_after {T = Unit {0}} (Err e) true → (new.live ≡ true → A → B → StandsFor g new one_new two_new)
+  pub refused_durable : {E : Type 0} (T : Type 0) (e : StoreError) (new : Store) (A B : Type 0) (one_new two_new : D) (result : Result Reply E) → IfOk result (λ r. store_reply e ≡ Some r)
+      → new.live ≡ is_live_after {T = T} (Err e) true → (new.live ≡ true → A → B → StandsFor g new one_new two_new)
       → IfOk result (λ r. A → B → AreDurable g one_new two_new)
-  refused_durable e new A B one_new two_new (Err x) reply live stands = reply
-  refused_durable error.DiskFault new A B one_new two_new (Ok r) reply live stands = absurd (cc)
-  refused_durable (error.Damaged disk at found) new A B one_new two_new (Ok r) reply live stands =
+  refused_durable T e new A B one_new two_new (Err x) reply live stands = reply
+  refused_durable T error.DiskFault new A B one_new two_new (Ok r) reply live stands = absurd (cc)
+  refused_durable T (error.Damaged disk at found) new A B one_new two_new (Ok r) reply live stands =
       λ told told_too. let s = stands live told told_too in record { durable_one = s.durable_one; durable_two = s.durable_two }
-  refused_durable (error.Full what count limit) new A B one_new two_new (Ok r) reply live stands =
+  refused_durable T (error.Full what count limit) new A B one_new two_new (Ok r) reply live stands =
       λ told told_too. let s = stands live told told_too in record { durable_one = s.durable_one; durable_two = s.durable_two }
-  refused_durable error.AlreadyThere new A B one_new two_new (Ok r) reply live stands =
+  refused_durable T error.AlreadyThere new A B one_new two_new (Ok r) reply live stands =
       λ told told_too. let s = stands live told told_too in record { durable_one = s.durable_one; durable_two = s.durable_two }
-  refused_durable error.OutOfMemory new A B one_new two_new (Ok r) reply live stands = absurd (cc)
+  refused_durable T error.OutOfMemory new A B one_new two_new (Ok r) reply live stands = absurd (cc)

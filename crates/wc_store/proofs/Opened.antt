@@ -1,11 +1,11 @@
 -- What is opened of two disks.
-use Rattle.std.proofs.Common.{◌≡◌, ℕ, false, List, Option, Some, None, refl, sym, ap, subst, ◌∙◌}
+use Rattle.std.proofs.Common.{◌≡◌, ℕ, true, false, List, Option, Some, None, refl, sym, ap, subst, ◌∙◌}
 use Rattle.std.specs.Prelude.{IsTrue, is_some}
 use Rattle.wc_disk.specs.declared.disk.Disk as disk
 use Rattle.wc_disk.specs.Steps.{Only}
 use Rattle.wc_journal.specs.Reading.{Placed, journal_of, batches_of}
 use Rattle.wc_journal.specs.Journals.{IsJournalOf, IsSettled}
-use Rattle.wc_world.specs.World.{empty}
+use Rattle.wc_world.specs.World.{World, empty}
 use Rattle.wc_store.specs.declared.error.StoreError.{StoreError}
 use Rattle.wc_store.specs.declared.error.StoreError.TheVariants.{DiskFault, Damaged, Full, AlreadyThere, OutOfMemory}
 use Rattle.wc_store.specs.declared.place.Place.{Place}
@@ -76,3 +76,13 @@ module _ {D : Type 0} (g : disk.Ghosts D) where
   pub opens_none : (found : Option Store) (one two : D) → is_some found ≡ false → Opens g found one two → chosen (g.seen one) (g.seen two) ≡ no_store
   opens_none None one two none opens = opens
   opens_none (Some store) one two none opens = absurd (cc)
+
+  -- what was opened is a store, whose world is held
+  pub opens_some : (found : Option Store) (one two : D) (seen seen_too : List ℕ) → g.seen one ≡ seen → g.seen two ≡ seen_too
+      → is_some found ≡ true → Opens g found one two → (w : World) × IsHeld seen seen_too (a_world w)
+  opens_some None one two seen seen_too same same_too some opens = absurd (cc)
+  opens_some (Some store) one two seen seen_too same same_too some opens = (
+    store.world.world,
+    subst (λ (image : List ℕ). IsHeld image seen_too (a_world store.world.world)) same
+        (subst (λ (image : List ℕ). IsHeld (g.seen one) image (a_world store.world.world)) same_too opens.held),
+  )

@@ -116,7 +116,7 @@ returns-clause-kept g c =
 
 pub returns-clause-durable : goal.returns-clause-durable
 returns-clause-durable g c =
-    refused_durable g.D.Disk c.in-Err.error c.commit.new.self (IsTrue (g.D.Disk.tells c.args.one.now)) (IsTrue (g.D.Disk.tells c.args.two.now)) c.commit.new.one c.commit.new.two
+    refused_durable g.D.Disk (Unit {0}) c.in-Err.error c.commit.new.self (IsTrue (g.D.Disk.tells c.args.one.now)) (IsTrue (g.D.Disk.tells c.args.two.now)) c.commit.new.one c.commit.new.two
     c.refused.result c.refused.ensures.reply c.in-Err.ensures.live c.commit.ensures.still
 
 pub returns-clause-untouched : goal.returns-clause-untouched

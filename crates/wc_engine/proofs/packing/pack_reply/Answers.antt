@@ -1,7 +1,8 @@
-use Rattle.std.proofs.Common.{inl, ℕ, ap, subst, ◌∙◌}
+use Rattle.std.proofs.Common.{inl, ℕ, IsTrue, ap, subst, ◌∙◌}
 use Rattle.wc_report.specs.Lines.{packed_text}
 use Rattle.wc_engine.specs.Replies.{prints}
 use Rattle.wc_engine.proofs.Doing.{has_packed, refused_pack}
+use Rattle.wc_engine.proofs.Entries.{refused_durable}
 use Rattle.wc_engine.proofs.Leaving.{packed}
 use Rattle.wc_engine.specs.declared.reply.Reply.{Reply}
 use Rattle.wc_engine.specs.Undone.{IsBeforePacking}
@@ -33,6 +34,11 @@ pub returns-clause-does : goal.returns-clause-does
 returns-clause-does g c =
     refused_pack g.D.Disk ℕ c.args.store c.in-Err.error c.args.one.now c.args.two.now c.pack.new.one c.pack.new.two c.refused.result c.requires.stands
     c.in-Err.ensures.refused c.in-Err.ensures.untouched_one c.in-Err.ensures.untouched_two c.refused.ensures.reply
+
+pub returns-clause-durable : goal.returns-clause-durable
+returns-clause-durable g c =
+    refused_durable g.D.Disk ℕ c.in-Err.error c.pack.new.self (IsTrue (g.D.Disk.tells c.args.one.now)) (IsTrue (g.D.Disk.tells c.args.two.now)) c.pack.new.one c.pack.new.two
+    c.refused.result c.refused.ensures.reply c.in-Err.ensures.live c.pack.ensures.still
 
 pub returns-clause-kept : goal.returns-clause-kept
 returns-clause-kept g c =

@@ -1,7 +1,13 @@
 use Rattle.std.proofs.Common.{◌∙◌, inr, refl, sym}
-use Rattle.wc_store.proofs.Opened.{opens_none}
+use Rattle.wc_store.proofs.Opened.{opens_none, opens_some}
 use Rattle.wc_store.proofs.Made.{made, made_parts, second_counts}
 use Rattle.wc_store.proofs.store.Store.init.Goals as goal
+
+pub returns-then-is_some-clause-refused : goal.returns-then-is_some-clause-refused
+returns-then-is_some-clause-refused g c =
+    λ told.
+    opens_some g.D.Disk c.in_ok-open.field-0 c.open.new.one c.open.new.two _ _ c.in_ok-open.ensures.seen_one c.in_ok-open.ensures.seen_two (sym c.if-is_some.ensures)
+    (c.in_ok-open.ensures.ok told.0 told.1)
 
 pub returns-in-Ok-clause-ok : goal.returns-in-Ok-clause-ok
 returns-in-Ok-clause-ok g c =

@@ -1,4 +1,4 @@
-"""Packed stores written without the program, and commands timed on them, for the measurements beside this file."""
+"""Stores written without the program, and commands timed on them, for the measurements beside this file."""
 import os
 import struct
 import tempfile
@@ -57,6 +57,20 @@ def write_store(folder, changes, batches):
         image.write(b"WCJNL\0\0\x02" + struct.pack(">Q", 2) + b"\x01\x02" + struct.pack(">Q", len(payload)) + payload + b"\x00")
     open(os.path.join(folder, "wc.store", "one"), "wb").close()
     return len(payload)
+
+
+def write_journal(folder, batches):
+    """Writes the store that was committed batch by batch, each a list of changes. Answers its length."""
+    os.mkdir(os.path.join(folder, "wc.store"))
+    with open(os.path.join(folder, "wc.store", "one"), "wb") as image:
+        image.write(b"WCJNL\0\0\x02" + struct.pack(">Q", 1))
+        for changes in batches:
+            payload = struct.pack(">I", len(changes)) + b"".join(changes)
+            image.write(b"\x01\x01" + struct.pack(">Q", len(payload)) + payload)
+        image.write(b"\x00")
+        size = image.tell()
+    open(os.path.join(folder, "wc.store", "two"), "wb").close()
+    return size
 
 
 def timed(program, folder, words):

@@ -2,23 +2,23 @@
 use Rattle.std.proofs.Common.{◌≡◌, ℕ, List, Option, Result, Ok, Err, refl, sym, ap, subst}
 use Rattle.std.specs.Result.{IsErr, IsErrAnd}
 use Rattle.wc_cli.specs.Words.{command_of}
-use Rattle.wc_engine.specs.declared.deed.Deed.{Deed}
-use Rattle.wc_engine.specs.declared.deed.Plan.TheVariants as plan
+use Rattle.wc_plan.specs.declared.deed.Deed.{Deed}
+use Rattle.wc_plan.specs.declared.deed.Plan.TheVariants as plan
 use Rattle.wc_engine.specs.declared.error.ActError.{ActError}
 use Rattle.wc_engine.specs.declared.error.ActError.TheVariants as act_error
-use Rattle.wc_engine.specs.declared.error.PlanError.{PlanError}
-use Rattle.wc_engine.specs.declared.error.PlanError.TheVariants as plan_error
+use Rattle.wc_plan.specs.declared.error.PlanError.{PlanError}
+use Rattle.wc_plan.specs.declared.error.PlanError.TheVariants as plan_error
 use Rattle.wc_engine.specs.declared.error.ReplyError.{ReplyError}
-use Rattle.wc_engine.specs.declared.reply.Reply.{Reply}
-use Rattle.wc_engine.specs.declared.status.Cause.{Cause}
-use Rattle.wc_engine.specs.declared.status.Status.TheVariants as status
-use Rattle.wc_engine.specs.Calls.{CountsShelf, CountsDisks, CountsReply, of_plan, of_act, status_of}
+use Rattle.wc_plan.specs.declared.reply.Reply.{Reply}
+use Rattle.wc_plan.specs.declared.status.Cause.{Cause}
+use Rattle.wc_plan.specs.declared.status.Status.TheVariants as status
+use Rattle.wc_plan.specs.Calls.{CountsShelf}
+use Rattle.wc_engine.specs.Calls.{CountsDisks, CountsReply, of_plan, of_act, status_of}
 use Rattle.wc_engine.specs.Owed.{LeaveUndone}
-use Rattle.wc_engine.specs.Plans.{Plans}
+use Rattle.wc_plan.specs.Plans.{Plans}
 use Rattle.wc_engine.specs.Rows.{row}
 use Rattle.wc_engine.specs.Undone.{EndsWith, ended_by}
-use Rattle.wc_engine.proofs.Replied.{told_replied}
-use Rattle.wc_engine.proofs.Viewing.{IsDoneOrRefused}
+use Rattle.wc_plan.proofs.Replied.{told_replied, IsDoneOrRefused}
 
 -- a call that ends with this error
 abbrev FailsWith : Result Reply ReplyError → ReplyError → Type 0

@@ -12,9 +12,9 @@ use Rattle.wc_machine.specs.Machine.{Event, Leads, submit, turn, pause, play, ki
 use Rattle.wc_machine.specs.Submitting.{Submits, submission}
 use Rattle.wc_core.proofs.Happening.{batch_more}
 use Rattle.wc_lists.proofs.NoChanges.{only_marks_change_nothing}
-use Rattle.wc_engine.specs.declared.deed.Asked.{Asked}
-use Rattle.wc_engine.specs.declared.deed.Asked.TheVariants as asked
-use Rattle.wc_engine.specs.declared.submission.Submission.{Submission}
+use Rattle.wc_plan.specs.declared.deed.Asked.{Asked}
+use Rattle.wc_plan.specs.declared.deed.Asked.TheVariants as asked
+use Rattle.wc_plan.specs.declared.submission.Submission.{Submission}
 use Rattle.wc_engine.specs.Events.{Changes, event_of, limits_of}
 use Rattle.wc_engine.specs.Stored.{greatest_limits}
 

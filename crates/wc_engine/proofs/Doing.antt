@@ -17,12 +17,12 @@ use Rattle.wc_store.specs.Preparing.{HasGeneration}
 use Rattle.wc_store.specs.Refusals.{RefusesPack, RefusesInit, IsUnchanged}
 use Rattle.wc_store.specs.Stores.{StandsFor, other}
 use Rattle.wc_report.specs.Lines.{initialised_text, packed_text}
-use Rattle.wc_engine.specs.declared.deed.Begin.TheVariants as begin
-use Rattle.wc_engine.specs.declared.deed.Deed.TheVariants as deed
-use Rattle.wc_engine.specs.declared.reply.Reply.{Reply}
-use Rattle.wc_engine.specs.declared.status.Cause.TheVariants as cause
+use Rattle.wc_plan.specs.declared.deed.Begin.TheVariants as begin
+use Rattle.wc_plan.specs.declared.deed.Deed.TheVariants as deed
+use Rattle.wc_plan.specs.declared.reply.Reply.{Reply}
+use Rattle.wc_plan.specs.declared.status.Cause.TheVariants as cause
 use Rattle.wc_engine.specs.Owed.{visit, Does, OwedDeed}
-use Rattle.wc_engine.specs.Replies.{refuses, prints}
+use Rattle.wc_plan.specs.Replies.{refuses, prints}
 use Rattle.wc_engine.specs.Stored.{Images, Hold, HasJournal, GoesOn, is_damaged, is_full, Inits, AtStore, OnStore, Packs}
 use Rattle.wc_engine.specs.Opening.{store_reply, NoWorld, TellsAt, HasNoWorld, HasOpened}
 

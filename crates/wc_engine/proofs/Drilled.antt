@@ -1,11 +1,11 @@
 -- What a drill does, and what it leaves.
-use Rattle.std.proofs.Common.{◌≡◌, ◌⊎◌, inl, inr, ⊎_elim, ◌≤◌, ◌+◌, ◌*◌, ℕ, List, Some, Result, Ok, Err, IfOk, IsTrue, refl, sym, ap, subst, ◌∙◌, arith}
+use Rattle.std.proofs.Common.{◌≡◌, ◌⊎◌, inl, inr, ⊎_elim, ◌≤◌, ℕ, List, Some, Result, Ok, Err, IfOk, IsTrue, refl, sym, ap, subst, ◌∙◌, arith}
 use Rattle.wc_disk.specs.declared.disk.Disk as disk
 use Rattle.wc_disk.specs.Images.{LeavesOnly}
 use Rattle.wc_disk.proofs.Runs.{weaker_run}
 use Rattle.wc_journal.specs.declared.journal.Journal.{Journal}
 use Rattle.wc_world.specs.World.{World, empty}
-use Rattle.wc_store.specs.Held.{Standing, IsHeld, nothing, damage, a_world}
+use Rattle.wc_store.specs.Held.{IsHeld, nothing, damage, a_world}
 use Rattle.wc_store.specs.declared.place.Place.TheVariants.{One}
 use Rattle.wc_runner.specs.Leaves.{SomeTurns}
 use Rattle.wc_runner.specs.Trips as trips
@@ -14,23 +14,23 @@ use Rattle.wc_generated.specs.Draws.{sum_of_squares}
 use Rattle.wc_generated.specs.Texts.{drilled_text}
 use Rattle.wc_drill.specs.Drilled as drilled
 use Rattle.wc_drill.specs.Drilled.{Drills, HasDrilled, outside, turns_of}
-use Rattle.wc_drill.specs.Leaves.{DrilledBeside, HoldsOnOne, HoldsNow, IsBegun, IsOfDrill, RefusedLeaves}
-use Rattle.wc_drill.specs.Leaves.{AreDurable as AreNow}
+use Rattle.wc_drill.specs.Leaves.{DrilledBeside, HoldsOnOne, HoldsNow, IsBegun, IsOfDrill, RefusedLeaves, AreDurable as AreNow}
 use Rattle.wc_drill.specs.Refusals.{RefusesDrill}
 use Rattle.wc_drill.specs.Sound.{DrillsAreSound}
 use Rattle.wc_drill.specs.declared.error.DrillError.{DrillError}
 use Rattle.wc_drill.specs.declared.error.DrillError.TheVariants as error
-use Rattle.wc_engine.specs.declared.deed.Begin.TheVariants as begin
-use Rattle.wc_engine.specs.declared.deed.Deed.TheVariants as deed
+use Rattle.wc_plan.specs.declared.deed.Begin.TheVariants as begin
+use Rattle.wc_plan.specs.declared.deed.Deed.TheVariants as deed
 use Rattle.wc_engine.specs.declared.error.ActError.{ActError}
 use Rattle.wc_engine.specs.declared.error.ActError.TheVariants as act
-use Rattle.wc_engine.specs.declared.reply.Reply.{Reply}
-use Rattle.wc_engine.specs.declared.status.Cause.TheVariants as cause
-use Rattle.wc_engine.specs.declared.status.Status.TheVariants as status
+use Rattle.wc_plan.specs.declared.reply.Reply.{Reply}
+use Rattle.wc_plan.specs.declared.status.Cause.TheVariants as cause
+use Rattle.wc_plan.specs.declared.status.Status.TheVariants as status
 use Rattle.wc_engine.specs.Crashes.{AreDurable, ComesOfNothing, Kept, LeavesKept}
 use Rattle.wc_engine.specs.Drilling.{HasEnded, FillsUp, IsDrilled, broken_reply, stopped}
 use Rattle.wc_engine.specs.Owed.{visit, OwedDeed}
-use Rattle.wc_engine.specs.Replies.{refuses, prints, IsDoneOrFull}
+use Rattle.wc_plan.specs.Replies.{refuses, prints}
+use Rattle.wc_engine.specs.Statuses.{IsDoneOrFull}
 use Rattle.wc_engine.specs.Rows.{Stays}
 use Rattle.wc_engine.specs.Stored.{is_damaged, is_full}
 use Rattle.wc_engine.specs.Undone.{EndsWith, IsBeforeTurns, LeavesUnwritten}

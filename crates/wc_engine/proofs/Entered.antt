@@ -21,12 +21,12 @@ use Rattle.wc_machine.proofs.Frames.{records_below}
 use Rattle.wc_machine.proofs.Submitted.{at_length, new_nodes, new_record, submitted_world, submission_gives}
 use Rattle.wc_machine.proofs.SubmittedAccepted.{inputs_are}
 use Rattle.wc_machine.proofs.SubmittedInputs.{inputs_gathered}
-use Rattle.wc_engine.specs.declared.submission.Submission.{Submission}
+use Rattle.wc_plan.specs.declared.submission.Submission.{Submission}
 use Rattle.wc_engine.specs.Acknowledged.{HasProcess}
 use Rattle.wc_engine.specs.Events.{Changes}
-use Rattle.wc_engine.specs.declared.deed.Asked.TheVariants as asked
+use Rattle.wc_plan.specs.declared.deed.Asked.TheVariants as asked
 use Rattle.wc_engine.proofs.Asking.{submits_of}
-use Rattle.wc_engine.specs.Submits.{IsReady}
+use Rattle.wc_plan.specs.Submits.{IsReady}
 
 -- no record has a number that each stands below
 free_beyond : (pid n : ℕ) (rs : List ProcessRecord) → n ≤ pid → All (λ r. r.node < n) rs → IsFree pid rs

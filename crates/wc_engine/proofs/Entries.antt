@@ -36,20 +36,20 @@ use Rattle.wc_core.specs.Refusals.{RefusesMark}
 use Rattle.wc_machine.proofs.Submitted.{data_node, new_nodes, submission_gives}
 use Rattle.wc_engine.proofs.Asking.{submission_some, submits_of}
 use Rattle.wc_world.specs.Records.{kind_of_definition, process_node}
-use Rattle.wc_engine.specs.declared.deed.Asked.{Asked}
-use Rattle.wc_engine.specs.declared.deed.Asked.TheVariants as asked
-use Rattle.wc_engine.specs.declared.reply.Reply.{Reply}
-use Rattle.wc_engine.specs.declared.status.Cause.{Cause}
-use Rattle.wc_engine.specs.declared.status.Cause.TheVariants as cause
-use Rattle.wc_engine.specs.declared.submission.Submission.{Submission}
+use Rattle.wc_plan.specs.declared.deed.Asked.{Asked}
+use Rattle.wc_plan.specs.declared.deed.Asked.TheVariants as asked
+use Rattle.wc_plan.specs.declared.reply.Reply.{Reply}
+use Rattle.wc_plan.specs.declared.status.Cause.{Cause}
+use Rattle.wc_plan.specs.declared.status.Cause.TheVariants as cause
+use Rattle.wc_plan.specs.declared.submission.Submission.{Submission}
 use Rattle.wc_engine.specs.Crashes.{AreDurable, Keeps}
 use Rattle.wc_engine.specs.Entries.{IsStorable}
 use Rattle.wc_engine.specs.Events.{Changes, RefusesAsked, IsRefusedFor, IsMadeBy, TellsAlone, Enters, IsLine, line_of, limits_of, process_of}
-use Rattle.wc_engine.specs.Replies.{prints, refuses}
+use Rattle.wc_plan.specs.Replies.{prints, refuses}
 use Rattle.wc_engine.specs.Stored.{Hold, greatest_limits, is_full}
 use Rattle.wc_engine.specs.Opening.{IsTold, process_reply, store_reply, turn_reply}
-use Rattle.wc_engine.specs.Plans.{IsReadyAsked}
-use Rattle.wc_engine.specs.Submits.{IsReady, IsWithinLimits}
+use Rattle.wc_plan.specs.Plans.{IsReadyAsked}
+use Rattle.wc_plan.specs.Submits.{IsReady, IsWithinLimits}
 use Rattle.wc_engine.proofs.Doing.{journal_held, goes_on_journal, some_is}
 
 -- ---- limits

@@ -19,19 +19,20 @@ use Rattle.wc_runner.specs.Refusals.{IsFullAt}
 use Rattle.wc_runner.specs.Running.{EndsAs, TakesAll, TakesFewer, TakesUpTo}
 use Rattle.wc_cli.specs.declared.command.Command.{Command}
 use Rattle.wc_cli.specs.declared.command.Command.TheVariants.{Dry, Check, Init, Submit, Run, View, Pause, Play, Kill, Pack, Drill}
-use Rattle.wc_engine.specs.declared.deed.Deed.{Deed}
-use Rattle.wc_engine.specs.declared.deed.Deed.TheVariants as deed
-use Rattle.wc_engine.specs.declared.deed.Plan.TheVariants as plan
-use Rattle.wc_engine.specs.declared.deed.RunOptions.{RunOptions}
-use Rattle.wc_engine.specs.declared.deed.Work.{Work}
-use Rattle.wc_engine.specs.declared.deed.Work.TheVariants as work
-use Rattle.wc_engine.specs.declared.reply.Reply.{Reply}
-use Rattle.wc_engine.specs.declared.status.Cause.{Cause}
-use Rattle.wc_engine.specs.declared.status.Status.{Status}
-use Rattle.wc_engine.specs.declared.status.Status.TheVariants as status
-use Rattle.wc_engine.specs.Outside.{Exchange, AsksByTurns, FillsOutside, RunsOutside, WorksOutside, turns_of}
-use Rattle.wc_engine.specs.Plans.{Plans, TakesNoTurns, IsIdle, IsNoRun, plan_of_run, seed_of}
-use Rattle.wc_engine.specs.Replies.{IsDoneOrFull, OwesStatus}
+use Rattle.wc_plan.specs.declared.deed.Deed.{Deed}
+use Rattle.wc_plan.specs.declared.deed.Deed.TheVariants as deed
+use Rattle.wc_plan.specs.declared.deed.Plan.TheVariants as plan
+use Rattle.wc_plan.specs.declared.deed.RunOptions.{RunOptions}
+use Rattle.wc_plan.specs.declared.deed.Work.{Work}
+use Rattle.wc_plan.specs.declared.deed.Work.TheVariants as work
+use Rattle.wc_plan.specs.declared.reply.Reply.{Reply}
+use Rattle.wc_plan.specs.declared.status.Cause.{Cause}
+use Rattle.wc_plan.specs.declared.status.Status.{Status}
+use Rattle.wc_plan.specs.declared.status.Status.TheVariants as status
+use Rattle.wc_engine.specs.Outside.{Exchange, AsksByTurns, FillsOutside, RunsOutside, WorksOutside, turns_of, TakesNoTurns, IsIdle, IsNoRun}
+use Rattle.wc_plan.specs.Plans.{Plans, plan_of_run, seed_of}
+use Rattle.wc_plan.specs.Replies.{OwesStatus}
+use Rattle.wc_engine.specs.Statuses.{IsDoneOrFull}
 use Rattle.wc_engine.specs.Running.{status_of, has_run}
 use Rattle.wc_engine.specs.Stored.{Images, is_full}
 use Rattle.wc_engine.proofs.Doing.{journal_held}

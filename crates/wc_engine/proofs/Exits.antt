@@ -5,9 +5,9 @@ use Rattle.wc_world.specs.World.{World}
 use Rattle.wc_machine.specs.Sound.{IsSound}
 use Rattle.wc_store.specs.Held.{IsHeld, nothing, a_world}
 use Rattle.wc_store.specs.Laws.{HeldIsOne}
-use Rattle.wc_engine.specs.declared.status.Fault.{Fault}
-use Rattle.wc_engine.specs.declared.status.Status.{Status}
-use Rattle.wc_engine.specs.declared.status.Status.TheVariants as status
+use Rattle.wc_plan.specs.declared.status.Fault.{Fault}
+use Rattle.wc_plan.specs.declared.status.Status.{Status}
+use Rattle.wc_plan.specs.declared.status.Status.TheVariants as status
 use Rattle.wc_engine.specs.Crashes.{EachPair, HoldsSound, HoldsTheSame, AreDurable, HoldsKeeping, Kept, BegunBy, MadeBy, LeavesMade, StaySound}
 use Rattle.wc_engine.specs.Stored.{Images}
 use Rattle.wc_engine.proofs.Moments.{weaker_moments, exit_moments}

@@ -18,11 +18,11 @@ use Rattle.wc_machine.specs.Machine.{after_changes, marked, renewed}
 use Rattle.wc_machine.specs.Submitting.{submitted_number}
 use Rattle.wc_kills.proofs.KillOrder.{changes_are}
 use Rattle.wc_core.proofs.Happening.{after_some}
-use Rattle.wc_engine.specs.declared.deed.Asked.{Asked}
-use Rattle.wc_engine.specs.declared.deed.Asked.TheVariants as asked
+use Rattle.wc_plan.specs.declared.deed.Asked.{Asked}
+use Rattle.wc_plan.specs.declared.deed.Asked.TheVariants as asked
 use Rattle.wc_engine.specs.Acknowledged.{HasMark, HasProcess, IsKilled}
 use Rattle.wc_engine.specs.Events.{Changes, line_of}
-use Rattle.wc_engine.specs.Plans.{IsReadyAsked}
+use Rattle.wc_plan.specs.Plans.{IsReadyAsked}
 use Rattle.wc_engine.specs.Rows.{HasHappened}
 use Rattle.wc_engine.proofs.Asking.{kill_some, kills_of, pauses_of, plays_of, submission_some}
 use Rattle.wc_engine.proofs.Entered.{has_process}

@@ -3,12 +3,13 @@ use Rattle.std.proofs.Common.{◌≡◌, ℕ, List, Option, Some, None, Result, 
 use Rattle.wc_config.specs.declared.settings.Settings.{Settings}
 use Rattle.wc_cli.specs.declared.command.Command.{Command}
 use Rattle.wc_cli.specs.declared.command.Command.TheVariants.{Dry, Check, Init, Submit, Run, View, Pause, Play, Kill, Pack, Drill}
-use Rattle.wc_engine.specs.declared.deed.Plan.{Plan}
-use Rattle.wc_engine.specs.declared.deed.Plan.TheVariants as plan
-use Rattle.wc_engine.specs.declared.status.Cause.{Cause}
-use Rattle.wc_engine.specs.declared.submission.Prepared.{Prepared}
-use Rattle.wc_engine.specs.declared.submission.Prepared.TheVariants as prepared
-use Rattle.wc_engine.specs.Plans.{Plans, PlansSubmission, TakesNoTurns, IsIdle, plan_of_prepared}
+use Rattle.wc_plan.specs.declared.deed.Plan.{Plan}
+use Rattle.wc_plan.specs.declared.deed.Plan.TheVariants as plan
+use Rattle.wc_plan.specs.declared.status.Cause.{Cause}
+use Rattle.wc_plan.specs.declared.submission.Prepared.{Prepared}
+use Rattle.wc_plan.specs.declared.submission.Prepared.TheVariants as prepared
+use Rattle.wc_plan.specs.Plans.{Plans, PlansSubmission, plan_of_prepared}
+use Rattle.wc_engine.specs.Outside.{TakesNoTurns, IsIdle}
 
 abbrev pub IsIdlePlan : Plan → Type 0
 IsIdlePlan (plan.Told r) = Unit {0}

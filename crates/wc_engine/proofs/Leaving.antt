@@ -17,7 +17,7 @@ use Rattle.wc_store.specs.declared.place.Place.{Place}
 use Rattle.wc_store.specs.declared.place.Place.TheVariants.{One, Two}
 use Rattle.wc_store.specs.Places.{its}
 use Rattle.wc_store.specs.Stores.{other, StandsFor, CommitLeaves, HoldsBy, PackLeaves, InTwoParts, AreImages, HoldsOneOf, BeginsFrom, InitLeaves}
-use Rattle.wc_store.proofs.Parts.{then_none, then_commit, then_pack, then_worlds, weaker_parts, one_part, OfInit, init_parts}
+use Rattle.wc_store.proofs.Parts.{then_none, then_commit, then_pack, then_worlds, weaker_parts, OfInit, init_parts}
 use Rattle.wc_store.specs.Laws.{HeldIsReached}
 use Rattle.wc_runner.specs.Laws.{StaysSound, TurnsKeepSound, WorldsContinueThemselves}
 use Rattle.wc_runner.proofs.Continuing.{continues_itself}
@@ -25,7 +25,7 @@ use Rattle.wc_runner.specs.Leaves.{LeavesHeld}
 use Rattle.wc_runner.specs.Outside.{Outside}
 use Rattle.wc_runner.specs.Running.{FitsIn, TakesTurns, TakesWithin}
 use Rattle.wc_engine.specs.Crashes.{Keeps, HoldsKeeping, ComesOfNothing, Kept, WritesOne, LeavesPairs, LeavesKept}
-use Rattle.wc_engine.specs.declared.deed.RunOptions.{RunOptions}
+use Rattle.wc_plan.specs.declared.deed.RunOptions.{RunOptions}
 use Rattle.wc_engine.specs.Running.{widest}
 use Rattle.wc_engine.proofs.Moments.{at_moments}
 use Rattle.wc_engine.proofs.Widening.{some_turns}

@@ -1,8 +1,3 @@
-pub mod Valid
-pub mod Furthers
-pub mod Filed
-pub mod Bares
-pub mod Means
 pub mod Doing
 pub mod Asking
 pub mod Entries
@@ -10,8 +5,6 @@ pub mod Entered
 pub mod Marks
 pub mod Killed
 pub mod Happened
-pub mod Submitted
-pub mod Configured
 pub mod Widening
 pub mod Turns
 pub mod Undone

@@ -14,8 +14,8 @@ use Rattle.wc_kills.proofs.KillOrder.{all_below, change_of, changes_are}
 use Rattle.wc_core.specs.Refusals.{AreChangesOf}
 use Rattle.wc_core.proofs.Happening.{after_some}
 use Rattle.wc_store.specs.Held.{is_plain}
-use Rattle.wc_engine.specs.declared.deed.Asked.{Asked}
-use Rattle.wc_engine.specs.declared.deed.Asked.TheVariants as asked
+use Rattle.wc_plan.specs.declared.deed.Asked.{Asked}
+use Rattle.wc_plan.specs.declared.deed.Asked.TheVariants as asked
 use Rattle.wc_engine.specs.Entries.{IsStorable}
 use Rattle.wc_engine.specs.Events.{Changes, event_of, limits_of}
 use Rattle.wc_engine.proofs.Asking.{one_batch, pauses_of, plays_of, kills_of}

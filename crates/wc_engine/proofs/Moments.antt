@@ -5,10 +5,10 @@ use Rattle.wc_disk.specs.Images.{LeavesOnly}
 use Rattle.wc_disk.proofs.Runs.{no_call, weaker_run}
 use Rattle.wc_store.specs.Stores.{InTwoParts}
 use Rattle.wc_cli.specs.Words.{command_of}
-use Rattle.wc_engine.specs.declared.deed.Deed.{Deed}
-use Rattle.wc_engine.specs.declared.deed.Plan.TheVariants as plan
+use Rattle.wc_plan.specs.declared.deed.Deed.{Deed}
+use Rattle.wc_plan.specs.declared.deed.Plan.TheVariants as plan
 use Rattle.wc_engine.specs.Crashes.{EachPair, LeavesPairs, LeavesKept, ComesOfNothing, Kept, OneSide, AtAnyMoment, BegunBy, MadeBy, LeavesMade}
-use Rattle.wc_engine.specs.Plans.{Plans}
+use Rattle.wc_plan.specs.Plans.{Plans}
 use Rattle.wc_engine.specs.Rows.{row}
 
 -- the two disks in the other order

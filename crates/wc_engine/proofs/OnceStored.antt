@@ -26,14 +26,14 @@ use Rattle.wc_store.specs.declared.place.Place.{Place}
 use Rattle.wc_store.specs.Places.{number_of}
 use Rattle.wc_store.specs.Refusals.{byte_limit, RefusesCommit, RefusesPack}
 use Rattle.wc_report.specs.Lines.{packed_text}
-use Rattle.wc_engine.specs.declared.deed.Asked.{Asked}
-use Rattle.wc_engine.specs.declared.deed.Asked.TheVariants as asked
-use Rattle.wc_engine.specs.declared.reply.Reply.{Reply}
-use Rattle.wc_engine.specs.declared.submission.Submission.{Submission}
-use Rattle.wc_engine.specs.declared.status.Cause.{Cause}
-use Rattle.wc_engine.specs.declared.status.Cause.TheVariants as cause
+use Rattle.wc_plan.specs.declared.deed.Asked.{Asked}
+use Rattle.wc_plan.specs.declared.deed.Asked.TheVariants as asked
+use Rattle.wc_plan.specs.declared.reply.Reply.{Reply}
+use Rattle.wc_plan.specs.declared.submission.Submission.{Submission}
+use Rattle.wc_plan.specs.declared.status.Cause.{Cause}
+use Rattle.wc_plan.specs.declared.status.Cause.TheVariants as cause
 use Rattle.wc_engine.specs.Events.{Changes, Enters, IsCrowded, IsEntered, IsNotLive, IsRefusedFor, IsUnstored, OverlongIn, TellsAlone, TellsFull, event_of, limits_of}
-use Rattle.wc_engine.specs.Replies.{prints, refuses}
+use Rattle.wc_plan.specs.Replies.{prints, refuses}
 use Rattle.wc_engine.proofs.Asking.{IsOfLive, kills_of, one_batch, one_change, pauses_of, plays_of, some_process, submission_some}
 use Rattle.wc_engine.specs.Stored.{Images, Hold, HasJournal, is_full, InitAt, Inits, AtStore, OnStore, IsPacked, IsTooFull, Packs}
 

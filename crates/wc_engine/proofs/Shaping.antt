@@ -9,15 +9,15 @@ use Rattle.wc_store.specs.declared.error.StoreError.{StoreError}
 use Rattle.wc_store.specs.declared.error.StoreError.TheVariants as error
 use Rattle.wc_store.specs.Held.{Standing}
 use Rattle.wc_store.specs.Refusals.{RefusesLoad, RefusesPack, RefusesCommit}
-use Rattle.wc_engine.specs.declared.deed.Asked.{Asked}
-use Rattle.wc_engine.specs.declared.deed.Begin.TheVariants as begin
-use Rattle.wc_engine.specs.declared.deed.Deed.{Deed}
-use Rattle.wc_engine.specs.declared.deed.Deed.TheVariants as deed
-use Rattle.wc_engine.specs.declared.deed.Work.{Work}
-use Rattle.wc_engine.specs.declared.deed.Work.TheVariants as work
-use Rattle.wc_engine.specs.declared.reply.Reply.{Reply}
+use Rattle.wc_plan.specs.declared.deed.Asked.{Asked}
+use Rattle.wc_plan.specs.declared.deed.Begin.TheVariants as begin
+use Rattle.wc_plan.specs.declared.deed.Deed.{Deed}
+use Rattle.wc_plan.specs.declared.deed.Deed.TheVariants as deed
+use Rattle.wc_plan.specs.declared.deed.Work.{Work}
+use Rattle.wc_plan.specs.declared.deed.Work.TheVariants as work
+use Rattle.wc_plan.specs.declared.reply.Reply.{Reply}
 use Rattle.wc_engine.specs.Opening.{NoWorld, TellsDamage, store_reply}
-use Rattle.wc_engine.specs.Replies.{IsReplied}
+use Rattle.wc_plan.specs.Replies.{IsReplied}
 use Rattle.wc_engine.specs.Entries.{IsStorable}
 use Rattle.wc_engine.specs.Drilling.{has_drilled}
 use Rattle.wc_engine.specs.Events.{TellsAlone, limits_of}

@@ -12,9 +12,9 @@ use Rattle.wc_runner.specs.declared.running.RunEnd.TheVariants.{AllEnded, Spent,
 use Rattle.wc_runner.specs.Outside.{Outside}
 use Rattle.wc_runner.specs.Refusals.{IsFullAt, RefusesStep}
 use Rattle.wc_runner.specs.Running.{TakesTurns, TakesFewer, FitsAfter}
-use Rattle.wc_engine.specs.declared.deed.RunOptions.{RunOptions}
-use Rattle.wc_engine.specs.declared.reply.Reply.{Reply}
-use Rattle.wc_engine.specs.Replies.{IsReplied}
+use Rattle.wc_plan.specs.declared.deed.RunOptions.{RunOptions}
+use Rattle.wc_plan.specs.declared.reply.Reply.{Reply}
+use Rattle.wc_plan.specs.Replies.{IsReplied}
 use Rattle.wc_engine.specs.Running.{status_of, widest, has_run, EndsSo, FillsAt, Runs, TakesFewer as FewerTaken}
 use Rattle.wc_engine.specs.Undone.{IsBeforeTurns}
 use Rattle.wc_engine.proofs.Doing.{journal_held}

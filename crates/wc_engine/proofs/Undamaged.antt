@@ -8,29 +8,29 @@ use Rattle.wc_world.specs.World.{World}
 use Rattle.wc_store.specs.Held.{Standing, nothing, damage, a_world}
 use Rattle.wc_store.specs.Laws.{HeldIsOne}
 use Rattle.wc_cli.specs.declared.command.Command.{Command}
-use Rattle.wc_engine.specs.declared.deed.Asked.{Asked}
-use Rattle.wc_engine.specs.declared.deed.Begin.TheVariants as begin
-use Rattle.wc_engine.specs.declared.deed.Deed.{Deed}
-use Rattle.wc_engine.specs.declared.deed.Deed.TheVariants as deed
-use Rattle.wc_engine.specs.declared.deed.Work.{Work}
-use Rattle.wc_engine.specs.declared.deed.Work.TheVariants as work
-use Rattle.wc_engine.specs.declared.deed.Plan.{Plan}
-use Rattle.wc_engine.specs.declared.deed.Plan.TheVariants as plan
-use Rattle.wc_engine.specs.declared.reply.Reply.{Reply}
-use Rattle.wc_engine.specs.declared.status.Fault.{Fault}
-use Rattle.wc_engine.specs.declared.status.Status.{Status}
-use Rattle.wc_engine.specs.declared.status.Status.TheVariants as status
+use Rattle.wc_plan.specs.declared.deed.Asked.{Asked}
+use Rattle.wc_plan.specs.declared.deed.Begin.TheVariants as begin
+use Rattle.wc_plan.specs.declared.deed.Deed.{Deed}
+use Rattle.wc_plan.specs.declared.deed.Deed.TheVariants as deed
+use Rattle.wc_plan.specs.declared.deed.Work.{Work}
+use Rattle.wc_plan.specs.declared.deed.Work.TheVariants as work
+use Rattle.wc_plan.specs.declared.deed.Plan.{Plan}
+use Rattle.wc_plan.specs.declared.deed.Plan.TheVariants as plan
+use Rattle.wc_plan.specs.declared.reply.Reply.{Reply}
+use Rattle.wc_plan.specs.declared.status.Fault.{Fault}
+use Rattle.wc_plan.specs.declared.status.Status.{Status}
+use Rattle.wc_plan.specs.declared.status.Status.TheVariants as status
 use Rattle.wc_engine.specs.Crashes.{HoldsSound}
 use Rattle.wc_engine.specs.Drilling.{has_drilled}
 use Rattle.wc_engine.specs.Events.{TellsAlone}
 use Rattle.wc_engine.specs.Owed.{Visit, OwedPlan}
-use Rattle.wc_engine.specs.Plans.{Plans}
-use Rattle.wc_engine.specs.Replies.{OwesStatus}
+use Rattle.wc_plan.specs.Plans.{Plans}
+use Rattle.wc_plan.specs.Replies.{OwesStatus}
 use Rattle.wc_engine.specs.Rows.{row, work_row}
 use Rattle.wc_engine.specs.Running.{has_run}
 use Rattle.wc_engine.specs.Stored.{Images, Hold}
-use Rattle.wc_engine.proofs.Replied.{told_replied}
-use Rattle.wc_engine.proofs.Viewing.{IsDoneOrRefused, IsFaultless, view_faultless}
+use Rattle.wc_plan.proofs.Replied.{told_replied, IsDoneOrRefused}
+use Rattle.wc_engine.proofs.Viewing.{IsFaultless, view_faultless}
 
 -- the reply tells neither damage nor an unsound world
 abbrev pub TellsWhole : Reply → Type 0

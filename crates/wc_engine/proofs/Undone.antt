@@ -4,9 +4,10 @@ use Rattle.wc_store.specs.declared.error.StoreError.{StoreError}
 use Rattle.wc_store.specs.declared.error.StoreError.TheVariants as error
 use Rattle.wc_store.specs.Held.{Standing}
 use Rattle.wc_store.specs.Refusals.{RefusesLoad, RefusesInit}
-use Rattle.wc_engine.specs.declared.reply.Reply.{Reply}
-use Rattle.wc_engine.specs.declared.status.Cause.TheVariants as cause
-use Rattle.wc_engine.specs.Replies.{refuses, IsDoneOrFull}
+use Rattle.wc_plan.specs.declared.reply.Reply.{Reply}
+use Rattle.wc_plan.specs.declared.status.Cause.TheVariants as cause
+use Rattle.wc_plan.specs.Replies.{refuses}
+use Rattle.wc_engine.specs.Statuses.{IsDoneOrFull}
 use Rattle.wc_engine.specs.Stored.{is_damaged}
 use Rattle.wc_engine.specs.Opening.{store_reply}
 use Rattle.wc_engine.proofs.Doing.{some_is}

@@ -8,16 +8,16 @@ use Rattle.wc_store.specs.declared.error.StoreError.TheVariants as error
 use Rattle.wc_store.specs.declared.store.Store.{Store}
 use Rattle.wc_store.specs.Refusals.{IsUnchanged}
 use Rattle.wc_store.specs.Stores.{InOnePart, InTwoParts, AreImages, InitLeaves}
-use Rattle.wc_engine.specs.declared.deed.Begin.TheVariants as begin
-use Rattle.wc_engine.specs.declared.deed.Deed.{Deed}
-use Rattle.wc_engine.specs.declared.deed.Deed.TheVariants as deed
-use Rattle.wc_engine.specs.declared.deed.Work.{Work}
-use Rattle.wc_engine.specs.declared.deed.Work.TheVariants as work
-use Rattle.wc_engine.specs.declared.reply.Reply.{Reply}
-use Rattle.wc_engine.specs.declared.status.Status.{Status}
-use Rattle.wc_engine.specs.declared.status.Status.TheVariants as status
+use Rattle.wc_plan.specs.declared.deed.Begin.TheVariants as begin
+use Rattle.wc_plan.specs.declared.deed.Deed.{Deed}
+use Rattle.wc_plan.specs.declared.deed.Deed.TheVariants as deed
+use Rattle.wc_plan.specs.declared.deed.Work.{Work}
+use Rattle.wc_plan.specs.declared.deed.Work.TheVariants as work
+use Rattle.wc_plan.specs.declared.reply.Reply.{Reply}
+use Rattle.wc_plan.specs.declared.status.Status.{Status}
+use Rattle.wc_plan.specs.declared.status.Status.TheVariants as status
 use Rattle.wc_engine.specs.declared.error.ActError.{ActError}
-use Rattle.wc_engine.specs.Replies.{OwesStatus}
+use Rattle.wc_plan.specs.Replies.{OwesStatus}
 use Rattle.wc_engine.specs.Opening.{TellsFault}
 use Rattle.wc_engine.specs.Rows.{row, work_row}
 use Rattle.wc_engine.specs.Undone.{LeavesUnwritten, IsBeforeTurns, IsBeforePacking, IsBeforeStoring, EndsWith}

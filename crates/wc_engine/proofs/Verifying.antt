@@ -2,7 +2,7 @@
 use Rattle.std.proofs.Common.{◌≡◌, sym, subst}
 use Rattle.std.specs.Prelude.{Result, Ok, Err, IfOk}
 use Rattle.wc_world.specs.World.{World}
-use Rattle.wc_engine.specs.declared.reply.Reply.{Reply}
+use Rattle.wc_plan.specs.declared.reply.Reply.{Reply}
 use Rattle.wc_engine.specs.Views.{Verifies}
 
 pub replied : {E : Type 0} (w : World) (r : Result Reply E) (x : Reply) → IfOk r (λ y. y ≡ x) → Verifies w x → IfOk r (Verifies w)

@@ -10,34 +10,15 @@ use Rattle.wc_report.specs.Lines.{verified_text}
 use Rattle.wc_report.specs.Trees.{tree_text}
 use Rattle.wc_cli.specs.declared.command.View.{View}
 use Rattle.wc_cli.specs.declared.command.View.TheVariants as view
-use Rattle.wc_engine.specs.declared.reply.Reply.{Reply}
-use Rattle.wc_engine.specs.declared.status.Fault.TheVariants as fault
-use Rattle.wc_engine.specs.declared.status.Status.{Status}
-use Rattle.wc_engine.specs.declared.status.Status.TheVariants as status
-use Rattle.wc_engine.specs.Replies.{prints, IsReplied}
+use Rattle.wc_plan.specs.declared.reply.Reply.{Reply}
+use Rattle.wc_plan.specs.declared.status.Fault.TheVariants as fault
+use Rattle.wc_plan.specs.declared.status.Status.{Status}
+use Rattle.wc_plan.specs.declared.status.Status.TheVariants as status
+use Rattle.wc_plan.specs.Replies.{prints, IsReplied}
 use Rattle.wc_engine.specs.Views.{Shows, ShowsTree, Verifies, cycle, value, verified, finds, node_reply}
 use Rattle.wc_show.specs.Shows.{show_text}
 
 -- ---- statuses
-
--- the work was done, or refused
-abbrev pub IsDoneOrRefused : Status → Type 0
-IsDoneOrRefused status.Ok = Unit {0}
-IsDoneOrRefused (status.Refused c) = Unit {0}
-IsDoneOrRefused _ = ⊥
-
-pub is_replied : (s : Status) → IsDoneOrRefused s → IsReplied s
-is_replied status.Ok h = tt
-is_replied (status.Refused c) h = tt
-is_replied status.OutOfMemory h = h
-is_replied status.Spent h = absurd h
-is_replied status.Resting h = absurd h
-is_replied status.DiskFault h = h
-is_replied (status.Damaged disk at found) h = absurd h
-is_replied status.ReadFault h = h
-is_replied status.WriteFault h = h
-is_replied (status.Full what count limit) h = absurd h
-is_replied (status.Unsound f) h = absurd h
 
 -- the world was shown, or that was refused, or the world isn't sound
 abbrev pub IsShown : Status → Type 0

@@ -9,7 +9,7 @@ use Rattle.wc_world.specs.Records.{find_record, has_ended, kind_of_definition, l
 use Rattle.wc_lists.specs.Killed.{IsAtOrBelow}
 use Rattle.wc_machine.specs.Calling.{caching_in}
 use Rattle.wc_machine.specs.Recorded.{recorded_inputs}
-use Rattle.wc_engine.specs.declared.submission.Submission.{Submission}
+use Rattle.wc_plan.specs.declared.submission.Submission.{Submission}
 
 -- The process of this number runs the submission's definition, of its library and with its inputs, at depth 1. Its library is kept with the
 -- submission's names with caching on, and its caching is on where its definition's name is among them.

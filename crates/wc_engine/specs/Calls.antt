@@ -1,21 +1,15 @@
--- What is counted in a call that makes a plan, does a deed, or both.
+-- What is counted in a call that does a deed, or makes a plan and does a deed.
 use Rattle.std.specs.Prelude.{◌≡◌, ℕ, Result, Ok, Err}
 use Rattle.wc_io.specs.Counts.{RisesByOne, EitherRisesByOne}
-use Rattle.wc_engine.specs.declared.error.PlanError.{PlanError}
-use Rattle.wc_engine.specs.declared.error.PlanError.TheVariants as plan_error
+use Rattle.wc_plan.specs.declared.error.PlanError.{PlanError}
+use Rattle.wc_plan.specs.declared.error.PlanError.TheVariants as plan_error
 use Rattle.wc_engine.specs.declared.error.ActError.{ActError}
 use Rattle.wc_engine.specs.declared.error.ActError.TheVariants as act_error
 use Rattle.wc_engine.specs.declared.error.ReplyError.{ReplyError}
 use Rattle.wc_engine.specs.declared.error.ReplyError.TheVariants as reply_error
-use Rattle.wc_engine.specs.declared.reply.Reply.{Reply}
-use Rattle.wc_engine.specs.declared.status.Status.{Status}
-use Rattle.wc_engine.specs.declared.status.Status.TheVariants as status
-
--- `ReadFault` comes only where the shelf's count rose by one, and each other answer leaves it
-abbrev pub CountsShelf : {T : Type 0} → Result T PlanError → ℕ → ℕ → Type 0
-CountsShelf (Ok answer) old new = new ≡ old
-CountsShelf (Err plan_error.OutOfMemory) old new = new ≡ old
-CountsShelf (Err plan_error.ReadFault) old new = RisesByOne old new
+use Rattle.wc_plan.specs.declared.reply.Reply.{Reply}
+use Rattle.wc_plan.specs.declared.status.Status.{Status}
+use Rattle.wc_plan.specs.declared.status.Status.TheVariants as status
 
 -- `DiskFault` comes only where the count of one of the disks rose by one and the other stayed, and each other answer leaves both counts
 abbrev pub CountsDisks : {T : Type 0} → Result T ActError → (one one' two two' : ℕ) → Type 0
@@ -23,7 +17,7 @@ CountsDisks (Ok answer) one one' two two' = (one' ≡ one) × (two' ≡ two)
 CountsDisks (Err act_error.OutOfMemory) one one' two two' = (one' ≡ one) × (two' ≡ two)
 CountsDisks (Err act_error.DiskFault) one one' two two' = EitherRisesByOne one one' two two'
 
--- ---- both
+-- ---- a plan and a deed
 
 abbrev pub of_plan : PlanError → ReplyError
 of_plan plan_error.OutOfMemory = reply_error.OutOfMemory

@@ -9,14 +9,14 @@ use Rattle.wc_runner.specs.Laws.{StaysSound}
 use Rattle.wc_store.specs.Held.{Standing, IsHeld, nothing, a_world}
 use Rattle.wc_store.specs.Stores.{InTwoParts}
 use Rattle.wc_cli.specs.Words.{command_of}
-use Rattle.wc_engine.specs.declared.deed.Deed.{Deed}
-use Rattle.wc_engine.specs.declared.deed.Plan.TheVariants as plan
-use Rattle.wc_engine.specs.declared.status.Fault.{Fault}
-use Rattle.wc_engine.specs.declared.status.Status.{Status}
-use Rattle.wc_engine.specs.declared.status.Status.TheVariants as status
+use Rattle.wc_plan.specs.declared.deed.Deed.{Deed}
+use Rattle.wc_plan.specs.declared.deed.Plan.TheVariants as plan
+use Rattle.wc_plan.specs.declared.status.Fault.{Fault}
+use Rattle.wc_plan.specs.declared.status.Status.{Status}
+use Rattle.wc_plan.specs.declared.status.Status.TheVariants as status
 use Rattle.wc_engine.specs.Owed.{OfSome}
-use Rattle.wc_engine.specs.Plans.{Plans}
-use Rattle.wc_engine.specs.Replies.{Writes}
+use Rattle.wc_plan.specs.Plans.{Plans}
+use Rattle.wc_plan.specs.Replies.{Writes}
 use Rattle.wc_engine.specs.Rows.{row}
 use Rattle.wc_engine.specs.Stored.{Images}
 

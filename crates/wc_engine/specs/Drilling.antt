@@ -14,11 +14,11 @@ use Rattle.wc_drill.specs.Drilled.{Drills, HasDrilled}
 use Rattle.wc_drill.specs.Refusals.{IsHeldUp, IsSpent, IsTooFullFor}
 use Rattle.wc_drill.specs.declared.error.DrillError.{DrillError}
 use Rattle.wc_drill.specs.declared.error.DrillError.TheVariants as drill_error
-use Rattle.wc_engine.specs.declared.reply.Reply.{Reply}
-use Rattle.wc_engine.specs.declared.status.Cause.TheVariants as cause
-use Rattle.wc_engine.specs.declared.status.Status.{Status}
-use Rattle.wc_engine.specs.declared.status.Status.TheVariants as status
-use Rattle.wc_engine.specs.Replies.{refuses, prints}
+use Rattle.wc_plan.specs.declared.reply.Reply.{Reply}
+use Rattle.wc_plan.specs.declared.status.Cause.TheVariants as cause
+use Rattle.wc_plan.specs.declared.status.Status.{Status}
+use Rattle.wc_plan.specs.declared.status.Status.TheVariants as status
+use Rattle.wc_plan.specs.Replies.{refuses, prints}
 use Rattle.wc_engine.specs.Stored.{Images, Hold, HasJournal, is_damaged, is_full}
 
 -- ---- how it ends

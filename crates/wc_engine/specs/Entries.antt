@@ -6,7 +6,7 @@ use Rattle.wc_world.specs.Accepted.{IsAccepted}
 use Rattle.wc_world.specs.Applied.{applied}
 use Rattle.wc_refusal.specs.Refusals.{HasRoom}
 use Rattle.wc_store.specs.Held.{is_plain}
-use Rattle.wc_engine.specs.declared.deed.Asked.{Asked}
+use Rattle.wc_plan.specs.declared.deed.Asked.{Asked}
 use Rattle.wc_engine.specs.declared.events.Entry.{Entry}
 use Rattle.wc_engine.specs.declared.events.Entry.TheVariants as entry
 use Rattle.wc_engine.specs.Crashes.{Keeps}

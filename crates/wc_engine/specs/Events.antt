@@ -19,12 +19,12 @@ use Rattle.wc_store.specs.declared.error.StoreError.TheVariants as store_error
 use Rattle.wc_store.specs.Held.{a_world}
 use Rattle.wc_store.specs.Refusals.{committed_bytes, RefusesCommit}
 use Rattle.wc_report.specs.Lines.{submitted_text, paused_text, playing_text, killed_text}
-use Rattle.wc_engine.specs.declared.deed.Asked.{Asked}
-use Rattle.wc_engine.specs.declared.deed.Asked.TheVariants as asked
-use Rattle.wc_engine.specs.declared.reply.Reply.{Reply}
-use Rattle.wc_engine.specs.declared.status.Cause.{Cause}
-use Rattle.wc_engine.specs.declared.status.Cause.TheVariants as cause
-use Rattle.wc_engine.specs.Replies.{prints, refuses}
+use Rattle.wc_plan.specs.declared.deed.Asked.{Asked}
+use Rattle.wc_plan.specs.declared.deed.Asked.TheVariants as asked
+use Rattle.wc_plan.specs.declared.reply.Reply.{Reply}
+use Rattle.wc_plan.specs.declared.status.Cause.{Cause}
+use Rattle.wc_plan.specs.declared.status.Cause.TheVariants as cause
+use Rattle.wc_plan.specs.Replies.{prints, refuses}
 use Rattle.wc_engine.specs.Stored.{Images, Hold, HasJournal, GoesOn, greatest_limits, Fits, is_full}
 
 -- the event of the machine: a process is submitted, or one that is there is paused, plays, or is killed

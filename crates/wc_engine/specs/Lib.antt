@@ -1,11 +1,4 @@
-pub mod Given
-pub mod Further
-pub mod Texts
-pub mod Files
-pub mod Replies
-pub mod Dry
-pub mod Submits
-pub mod Settings
+pub mod Statuses
 pub mod Calls
 pub mod Stored
 pub mod Opening
@@ -15,7 +8,6 @@ pub mod Running
 pub mod Drilling
 pub mod Undone
 pub mod Acknowledged
-pub mod Plans
 pub mod Rows
 pub mod Owed
 pub mod Crashes

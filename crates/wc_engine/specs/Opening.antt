@@ -9,14 +9,15 @@ use Rattle.wc_store.specs.declared.error.StoreError.TheVariants as store_error
 use Rattle.wc_store.specs.Held.{Standing, nothing, damage, a_world}
 use Rattle.wc_store.specs.declared.store.Store.{Store}
 use Rattle.wc_store.specs.Stores.{StandsFor}
-use Rattle.wc_engine.specs.declared.reply.Reply.{Reply}
-use Rattle.wc_engine.specs.declared.status.Cause.{Cause}
-use Rattle.wc_engine.specs.declared.status.Cause.TheVariants as cause
+use Rattle.wc_plan.specs.declared.reply.Reply.{Reply}
+use Rattle.wc_plan.specs.declared.status.Cause.{Cause}
+use Rattle.wc_plan.specs.declared.status.Cause.TheVariants as cause
 use Rattle.wc_engine.specs.declared.opening.Opened.{Opened}
 use Rattle.wc_engine.specs.declared.opening.Opened.TheVariants as opened
 use Rattle.wc_engine.specs.declared.error.ActError.{ActError}
 use Rattle.wc_engine.specs.declared.error.ActError.TheVariants.{DiskFault}
-use Rattle.wc_engine.specs.Replies.{refuses, IsRefused}
+use Rattle.wc_plan.specs.Replies.{refuses}
+use Rattle.wc_engine.specs.Statuses.{IsRefused}
 use Rattle.wc_engine.specs.Stored.{Images, Hold, is_damaged, is_full}
 
 -- what is told of a refusal, if anything is
@@ -105,3 +106,8 @@ IsToldReplied (opened.Held store) = Unit {0}
 abbrev pub IsToldNoWorld : Opened → Type 0
 IsToldNoWorld (opened.Told r) = NoWorld r
 IsToldNoWorld (opened.Held store) = Unit {0}
+
+-- what is told where no store was opened says neither that the work was done nor that the store is too full
+abbrev pub IsToldUndone : Opened → Type 0
+IsToldUndone (opened.Told r) = IsDoneOrFull r.status → ⊥
+IsToldUndone (opened.Held store) = Unit {0}

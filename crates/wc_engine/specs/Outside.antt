@@ -19,16 +19,16 @@ use Rattle.wc_runner.specs.Running.{TakesAll, TakesFewer, TakesUpTo}
 use Rattle.wc_cli.specs.declared.command.Command.{Command}
 use Rattle.wc_cli.specs.declared.command.Command.TheVariants.{Run}
 use Rattle.wc_cli.specs.Words.{command_of}
-use Rattle.wc_engine.specs.declared.deed.Deed.{Deed}
-use Rattle.wc_engine.specs.declared.deed.Deed.TheVariants as deed
-use Rattle.wc_engine.specs.declared.deed.Plan.TheVariants as plan
-use Rattle.wc_engine.specs.declared.deed.RunOptions.{RunOptions}
-use Rattle.wc_engine.specs.declared.deed.Work.{Work}
-use Rattle.wc_engine.specs.declared.deed.Work.TheVariants as work
-use Rattle.wc_engine.specs.declared.status.Status.{Status}
-use Rattle.wc_engine.specs.declared.status.Status.TheVariants as status
+use Rattle.wc_plan.specs.declared.deed.Deed.{Deed}
+use Rattle.wc_plan.specs.declared.deed.Deed.TheVariants as deed
+use Rattle.wc_plan.specs.declared.deed.Plan.TheVariants as plan
+use Rattle.wc_plan.specs.declared.deed.RunOptions.{RunOptions}
+use Rattle.wc_plan.specs.declared.deed.Work.{Work}
+use Rattle.wc_plan.specs.declared.deed.Work.TheVariants as work
+use Rattle.wc_plan.specs.declared.status.Status.{Status}
+use Rattle.wc_plan.specs.declared.status.Status.TheVariants as status
 use Rattle.wc_engine.specs.Owed.{Visit}
-use Rattle.wc_engine.specs.Plans.{Plans}
+use Rattle.wc_plan.specs.Plans.{Plans}
 use Rattle.wc_engine.specs.Stored.{Images, Hold, HasJournal}
 
 -- ---- how often the transport is asked
@@ -43,6 +43,26 @@ turns_of (Some _) = 0
 abbrev pub AsksByTurns : {T : Type 0} → transport.Ghosts T → Deed → (old new : T) → Type 0
 AsksByTurns g (deed.Work (work.Run o)) old new = IsAskedFor g o.turns old new
 AsksByTurns g _ old new = Unit {0}
+
+-- ---- where it has nothing to do
+
+-- the command takes no turns
+abbrev pub TakesNoTurns : Option Command → Type 0
+TakesNoTurns None = Unit {0}
+TakesNoTurns (Some (Run turns seed settings)) = ⊥
+TakesNoTurns (Some _) = Unit {0}
+
+-- what is done on a store takes no turns there
+abbrev pub IsNoRun : Work → Type 0
+IsNoRun (work.View v) = Unit {0}
+IsNoRun (work.Event a) = Unit {0}
+IsNoRun (work.Run o) = ⊥
+IsNoRun work.Pack = Unit {0}
+
+-- the deed takes no turns with a transport and a clock that are handed in
+abbrev pub IsIdle : Deed → Type 0
+IsIdle (deed.Begin b) = Unit {0}
+IsIdle (deed.Work w) = IsNoRun w
 
 -- ---- what it gave
 

@@ -3,15 +3,15 @@ use Rattle.std.specs.Prelude.{◌≡◌, ℕ, Bool, IsSome, IsTrue, List, Option
 use Rattle.wc_disk.specs.declared.disk.Disk as disk
 use Rattle.wc_store.specs.Held.{Standing}
 use Rattle.wc_cli.specs.Words.{command_of}
-use Rattle.wc_engine.specs.declared.deed.Deed.{Deed}
-use Rattle.wc_engine.specs.declared.deed.Plan.{Plan}
-use Rattle.wc_engine.specs.declared.deed.Plan.TheVariants as plan
-use Rattle.wc_engine.specs.declared.reply.Reply.{Reply}
-use Rattle.wc_engine.specs.declared.status.Cause.{Cause}
-use Rattle.wc_engine.specs.declared.status.Status.{Status}
-use Rattle.wc_engine.specs.declared.status.Status.TheVariants as status
-use Rattle.wc_engine.specs.Plans.{Plans}
-use Rattle.wc_engine.specs.Replies.{IsDoneOrFull}
+use Rattle.wc_plan.specs.declared.deed.Deed.{Deed}
+use Rattle.wc_plan.specs.declared.deed.Plan.{Plan}
+use Rattle.wc_plan.specs.declared.deed.Plan.TheVariants as plan
+use Rattle.wc_plan.specs.declared.reply.Reply.{Reply}
+use Rattle.wc_plan.specs.declared.status.Cause.{Cause}
+use Rattle.wc_plan.specs.declared.status.Status.{Status}
+use Rattle.wc_plan.specs.declared.status.Status.TheVariants as status
+use Rattle.wc_plan.specs.Plans.{Plans}
+use Rattle.wc_engine.specs.Statuses.{IsDoneOrFull}
 use Rattle.wc_engine.specs.Rows.{Row, row}
 use Rattle.wc_engine.specs.Stored.{Images, Hold}
 

@@ -8,25 +8,25 @@ use Rattle.wc_store.specs.Preparing.{HasGeneration}
 use Rattle.wc_store.specs.Refusals.{RefusesPack}
 use Rattle.wc_store.specs.declared.error.StoreError.TheVariants.{Full}
 use Rattle.wc_report.specs.Lines.{initialised_text, submitted_text, paused_text, playing_text, killed_text, packed_text}
-use Rattle.wc_engine.specs.declared.deed.Asked.{Asked}
-use Rattle.wc_engine.specs.declared.deed.Asked.TheVariants as asked
-use Rattle.wc_engine.specs.declared.deed.Begin.{Begin}
-use Rattle.wc_engine.specs.declared.deed.Begin.TheVariants as begin
-use Rattle.wc_engine.specs.declared.deed.Deed.{Deed}
-use Rattle.wc_engine.specs.declared.deed.Deed.TheVariants as deed
+use Rattle.wc_plan.specs.declared.deed.Asked.{Asked}
+use Rattle.wc_plan.specs.declared.deed.Asked.TheVariants as asked
+use Rattle.wc_plan.specs.declared.deed.Begin.{Begin}
+use Rattle.wc_plan.specs.declared.deed.Begin.TheVariants as begin
+use Rattle.wc_plan.specs.declared.deed.Deed.{Deed}
+use Rattle.wc_plan.specs.declared.deed.Deed.TheVariants as deed
 use Rattle.wc_cli.specs.declared.command.View.{View}
-use Rattle.wc_engine.specs.declared.deed.RunOptions.{RunOptions}
-use Rattle.wc_engine.specs.declared.deed.Work.{Work}
-use Rattle.wc_engine.specs.declared.deed.Work.TheVariants as work
-use Rattle.wc_engine.specs.declared.reply.Reply.{Reply}
-use Rattle.wc_engine.specs.declared.status.Cause.TheVariants as cause
-use Rattle.wc_engine.specs.declared.status.Status.{Status}
+use Rattle.wc_plan.specs.declared.deed.RunOptions.{RunOptions}
+use Rattle.wc_plan.specs.declared.deed.Work.{Work}
+use Rattle.wc_plan.specs.declared.deed.Work.TheVariants as work
+use Rattle.wc_plan.specs.declared.reply.Reply.{Reply}
+use Rattle.wc_plan.specs.declared.status.Cause.TheVariants as cause
+use Rattle.wc_plan.specs.declared.status.Status.{Status}
 use Rattle.wc_drill.specs.Drilled.{Drills}
 use Rattle.wc_engine.specs.Acknowledged.{HasProcess, HasMark, IsKilled}
 use Rattle.wc_engine.specs.Drilling.{DrillAt, IsToldDrilled, MayDrill}
 use Rattle.wc_engine.specs.Events.{MayHappen, MayEnter, Enters}
 use Rattle.wc_engine.specs.Opening.{NoWorld, TellsDamage}
-use Rattle.wc_engine.specs.Replies.{refuses, prints}
+use Rattle.wc_plan.specs.Replies.{refuses, prints}
 use Rattle.wc_engine.specs.Running.{widest, MayRun, Runs}
 use Rattle.wc_engine.specs.Stored.{Fits, Images, is_full, InitAt, AtStore, Packs}
 use Rattle.wc_engine.specs.Undone.{IsBeforeStoring, IsBeforeTurns, IsBeforePacking}

@@ -14,10 +14,10 @@ use Rattle.wc_runner.specs.Refusals.{RefusesStep}
 use Rattle.wc_runner.specs.Running.{TakesTurns}
 use Rattle.wc_runner.specs.Trips.{Turns}
 use Rattle.wc_report.specs.Lines.{committed_text, live_count, paused_count}
-use Rattle.wc_engine.specs.declared.deed.RunOptions.{RunOptions}
-use Rattle.wc_engine.specs.declared.reply.Reply.{Reply}
-use Rattle.wc_engine.specs.declared.status.Status.{Status}
-use Rattle.wc_engine.specs.declared.status.Status.TheVariants as status
+use Rattle.wc_plan.specs.declared.deed.RunOptions.{RunOptions}
+use Rattle.wc_plan.specs.declared.reply.Reply.{Reply}
+use Rattle.wc_plan.specs.declared.status.Status.{Status}
+use Rattle.wc_plan.specs.declared.status.Status.TheVariants as status
 use Rattle.wc_engine.specs.Stored.{Images, Hold, GoesOn, Fits, is_full}
 
 abbrev pub status_of : RunEnd → Status

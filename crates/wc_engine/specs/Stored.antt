@@ -19,10 +19,10 @@ use Rattle.wc_store.specs.Held.{Standing, IsHeld, nothing, damage, a_world}
 use Rattle.wc_store.specs.Preparing.{HasGeneration}
 use Rattle.wc_store.specs.Refusals.{RefusesPack, byte_limit}
 use Rattle.wc_report.specs.Lines.{initialised_text, packed_text, damaged_text, full_text}
-use Rattle.wc_engine.specs.declared.reply.Reply.{Reply}
-use Rattle.wc_engine.specs.declared.status.Cause.TheVariants as cause
-use Rattle.wc_engine.specs.declared.status.Status.TheVariants as status
-use Rattle.wc_engine.specs.Replies.{refuses, prints}
+use Rattle.wc_plan.specs.declared.reply.Reply.{Reply}
+use Rattle.wc_plan.specs.declared.status.Cause.TheVariants as cause
+use Rattle.wc_plan.specs.declared.status.Status.TheVariants as status
+use Rattle.wc_plan.specs.Replies.{refuses, prints}
 
 -- ---- what two disks read as
 
@@ -41,10 +41,6 @@ pub record HasJournal (images : Images) (journal : Journal) : Type 0 where
   pub end : journal.end ≡ end_of batches
 
 -- ---- limits
-
--- the limits where none are set
-abbrev pub usual_limits : Limits
-usual_limits = record { max_nodes = 1000000; max_bytes = 268435456; poll_ms = 1000 }
 
 -- the greatest limits that may be set
 abbrev pub greatest_limits : Limits

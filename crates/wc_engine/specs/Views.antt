@@ -13,12 +13,12 @@ use Rattle.wc_report.specs.Trees.{tree_text}
 use Rattle.wc_show.specs.Shows.{show_text, graph_text}
 use Rattle.wc_cli.specs.declared.command.View.{View}
 use Rattle.wc_cli.specs.declared.command.View.TheVariants as view
-use Rattle.wc_engine.specs.declared.reply.Reply.{Reply}
-use Rattle.wc_engine.specs.declared.status.Cause.TheVariants as cause
-use Rattle.wc_engine.specs.declared.status.Fault.{Fault}
-use Rattle.wc_engine.specs.declared.status.Fault.TheVariants as fault
-use Rattle.wc_engine.specs.declared.status.Status.TheVariants as status
-use Rattle.wc_engine.specs.Replies.{refuses, prints}
+use Rattle.wc_plan.specs.declared.reply.Reply.{Reply}
+use Rattle.wc_plan.specs.declared.status.Cause.TheVariants as cause
+use Rattle.wc_plan.specs.declared.status.Fault.{Fault}
+use Rattle.wc_plan.specs.declared.status.Fault.TheVariants as fault
+use Rattle.wc_plan.specs.declared.status.Status.TheVariants as status
+use Rattle.wc_plan.specs.Replies.{refuses, prints}
 use Rattle.wc_engine.specs.Stored.{Images}
 
 -- a process is shown by its recorded tree, if there is such a process

@@ -4,17 +4,17 @@ ghost use Rattle.std.specs.Prelude.{◌≡◌, IsTrue, IfOk};
 ghost use Rattle.wc_engine.specs.Calls.{CountsDisks};
 ghost use Rattle.wc_engine.specs.Crashes.{AreDurable, LeavesKept};
 ghost use Rattle.wc_engine.specs.Owed.{visit, OwedDeed};
-ghost use Rattle.wc_engine.specs.Replies.{IsDoneOrFull};
+ghost use Rattle.wc_engine.specs.Statuses.{IsDoneOrFull};
 ghost use Rattle.wc_engine.specs.Rows.{IsEmpty, Stays};
 ghost use Rattle.wc_engine.specs.Undone.{EndsWith, IsBeforeStoring, LeavesUnwritten};
-ghost use Rattle.wc_engine.specs.declared.deed.Begin.TheVariants.{Init};
-ghost use Rattle.wc_engine.specs.declared.deed.Deed.TheVariants.{Begin};
+ghost use Rattle.wc_plan.specs.declared.deed.Begin.TheVariants.{Init};
+ghost use Rattle.wc_plan.specs.declared.deed.Deed.TheVariants.{Begin};
 
 use crate::error::ActError;
 use crate::opening::refused;
-use crate::reply::{Reply, print};
 use std::alloc::Global;
 use wc_disk::Disk;
+use wc_plan::{Reply, print};
 use wc_report::initialised_text;
 use wc_store::Store;
 

@@ -7,20 +7,19 @@ ghost use Rattle.wc_engine.specs.Calls.{CountsDisks};
 ghost use Rattle.wc_engine.specs.Crashes.{AreDurable, LeavesKept};
 ghost use Rattle.wc_engine.specs.Drilling.{broken_reply, stopped};
 ghost use Rattle.wc_engine.specs.Owed.{visit, OwedDeed};
-ghost use Rattle.wc_engine.specs.Replies.{IsDoneOrFull};
+ghost use Rattle.wc_engine.specs.Statuses.{IsDoneOrFull};
 ghost use Rattle.wc_engine.specs.Rows.{Stays};
 ghost use Rattle.wc_engine.specs.Undone.{EndsWith, IsBeforeTurns, LeavesUnwritten};
-ghost use Rattle.wc_engine.specs.declared.deed.Begin.TheVariants.{Drill};
-ghost use Rattle.wc_engine.specs.declared.deed.Deed.TheVariants.{Begin};
+ghost use Rattle.wc_plan.specs.declared.deed.Begin.TheVariants.{Drill};
+ghost use Rattle.wc_plan.specs.declared.deed.Deed.TheVariants.{Begin};
 
 use crate::error::ActError;
 use crate::opening::{damaged, full};
-use crate::reply::{Reply, print, refuse};
-use crate::status::{Cause, Status};
 use std::alloc::{AllocError, Global};
 use wc_disk::Disk;
 use wc_drill::{DrillError, drill, drills_are_sound};
 use wc_generated::{drilled_text, sum_of_squares};
+use wc_plan::{Cause, Reply, Status, print, refuse};
 use wc_value::Text;
 
 /// A status beside which nothing is written.

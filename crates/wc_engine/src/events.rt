@@ -1,6 +1,6 @@
 //! Events that are asked for.
 
-ghost use Rattle.std.specs.Prelude.{◌≡◌, ◌≢◌, ◌≤◌, ℕ, [], true, None, Some, IsSome, IsTrue, IfOk, IfErr, IfSome};
+ghost use Rattle.std.specs.Prelude.{◌≡◌, ◌≢◌, ◌≤◌, [], true, None, Some, IsSome, IsTrue, IfOk, IfErr, IfSome};
 ghost use Rattle.wc_machine.specs.Submitting.{submitted_number};
 ghost use Rattle.wc_state.specs.Ranges.{AreLimits};
 ghost use Rattle.wc_store.specs.Stores.{StandsFor};
@@ -9,23 +9,20 @@ ghost use Rattle.wc_engine.specs.Crashes.{AreDurable, LeavesPairs, HoldsKeeping}
 ghost use Rattle.wc_engine.specs.Entries.{IsEntryOf, IsStorable};
 ghost use Rattle.wc_engine.specs.Events.{Changes, IsLine, RefusesAsked, limits_of, line_of, process_of};
 ghost use Rattle.wc_engine.specs.Opening.{IsTold, turn_reply};
-ghost use Rattle.wc_engine.specs.Plans.{IsReadyAsked};
+ghost use Rattle.wc_plan.specs.Plans.{IsReadyAsked};
 ghost use Rattle.wc_engine.specs.Rows.{event_row};
 ghost use Rattle.wc_engine.specs.Stored.{greatest_limits};
-ghost use Rattle.wc_engine.specs.Submits.{IsReady};
+ghost use Rattle.wc_plan.specs.Submits.{IsReady};
 ghost use Rattle.wc_engine.specs.Undone.{EndsWith};
-ghost use Rattle.wc_engine.specs.declared.deed.Asked.TheVariants.{Submit, Pause, Play, Kill};
+ghost use Rattle.wc_plan.specs.declared.deed.Asked.TheVariants.{Submit, Pause, Play, Kill};
 
-use crate::deed::Asked;
 use crate::error::ActError;
 use crate::laws::worlds_are_kept;
 use crate::opening::{full, refused};
-use crate::reply::{Reply, print, refuse};
-use crate::status::Cause;
-use crate::submission::Submission;
 use std::alloc::{AllocError, Global};
 use wc_core::{TurnError, kill_changes, pause_changes, play_changes, submit_changes};
 use wc_disk::Disk;
+use wc_plan::{Asked, Cause, Reply, Submission, print, refuse};
 use wc_report::{killed_text, paused_text, playing_text, submitted_text};
 use wc_state::Limits;
 use wc_store::Store;

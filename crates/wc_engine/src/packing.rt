@@ -10,9 +10,9 @@ ghost use Rattle.wc_engine.specs.Undone.{EndsWith};
 use crate::error::ActError;
 use crate::laws::worlds_are_kept;
 use crate::opening::refused;
-use crate::reply::{Reply, print};
 use std::alloc::Global;
 use wc_disk::Disk;
+use wc_plan::{Reply, print};
 use wc_report::packed_text;
 use wc_store::Store;
 

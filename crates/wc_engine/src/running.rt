@@ -12,15 +12,13 @@ ghost use Rattle.wc_engine.specs.Running.{status_of, has_run};
 ghost use Rattle.wc_engine.specs.Undone.{EndsWith};
 ghost use Rattle.wc_world.specs.World.{World as AWorld};
 
-use crate::deed::RunOptions;
 use crate::error::ActError;
 use crate::laws::worlds_are_kept;
 use crate::opening::full;
-use crate::reply::Reply;
-use crate::status::Status;
 use std::alloc::{AllocError, Global};
 use wc_disk::Disk;
 use wc_io::Pacer;
+use wc_plan::{Reply, RunOptions, Status};
 use wc_report::{committed_text, live_count, paused_count};
 use wc_runner::{RunEnd, RunError, run, turns_keep_sound};
 use wc_store::Store;

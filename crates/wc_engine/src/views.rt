@@ -6,10 +6,9 @@ ghost use Rattle.wc_machine.specs.Created.{IsCreatedByInputs};
 ghost use Rattle.wc_engine.specs.Views.{Shows, ShowsTree, Verifies, finds, node_reply};
 ghost use Rattle.wc_show.specs.Shows.{show_text};
 
-use crate::reply::{Reply, print, refuse};
-use crate::status::{Cause, Fault, Status};
 use std::alloc::{AllocError, Global};
 use wc_cli::View;
+use wc_plan::{Cause, Fault, Reply, Status, print, refuse};
 use wc_report::{cycle_text, list_text, tree_lines, verified_text, wrong_value_text};
 use wc_show::{graph_text, show_text};
 use wc_trees::tree_of;

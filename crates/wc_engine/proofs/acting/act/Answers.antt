@@ -1,8 +1,8 @@
 use Rattle.std.proofs.Common.{IfOk, IsTrue, sym, subst}
-use Rattle.wc_engine.specs.declared.deed.Deed.{Deed}
-use Rattle.wc_engine.specs.declared.reply.Reply.{Reply}
+use Rattle.wc_plan.specs.declared.deed.Deed.{Deed}
+use Rattle.wc_plan.specs.declared.reply.Reply.{Reply}
 use Rattle.wc_engine.specs.Outside.{exchange, ActsOutside}
-use Rattle.wc_engine.specs.Replies.{IsDoneOrFull}
+use Rattle.wc_engine.specs.Statuses.{IsDoneOrFull}
 use Rattle.wc_engine.specs.Stored.{Images}
 use Rattle.wc_engine.proofs.acting.act.Goals as goal
 

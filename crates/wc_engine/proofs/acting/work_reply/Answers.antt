@@ -1,13 +1,13 @@
 use Rattle.std.proofs.Common.{Bool, IsTrue, sym, subst}
 use Rattle.std.proofs.lemmas.Result.{IfOk-weaker}
-use Rattle.wc_engine.specs.Opening.{Opens}
+use Rattle.wc_engine.specs.Opening.{Opens, IsToldUndone}
 use Rattle.wc_engine.specs.Outside.{exchange, ActsOutside, WorksOutside}
-use Rattle.wc_engine.specs.Replies.{IsDoneOrFull, IsToldUndone}
+use Rattle.wc_engine.specs.Statuses.{IsDoneOrFull}
 use Rattle.wc_engine.specs.Rows.{work_row}
 use Rattle.wc_engine.specs.Stored.{Images}
-use Rattle.wc_engine.specs.declared.deed.Deed.TheVariants as deed
+use Rattle.wc_plan.specs.declared.deed.Deed.TheVariants as deed
 use Rattle.wc_engine.specs.declared.opening.Opened.{Opened}
-use Rattle.wc_engine.specs.declared.reply.Reply.{Reply}
+use Rattle.wc_plan.specs.declared.reply.Reply.{Reply}
 use Rattle.wc_engine.proofs.Doing.{held_before, goes_does}
 use Rattle.wc_engine.proofs.Exchanged.{work_unasked}
 use Rattle.wc_engine.proofs.Leaving.{goes_on, unwritten}

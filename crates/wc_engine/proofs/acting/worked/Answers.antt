@@ -1,11 +1,10 @@
 use Rattle.std.proofs.Common.{refl, sym, subst, IfOk, IsTrue}
 use Rattle.wc_world.specs.World.{World}
-use Rattle.wc_engine.specs.declared.deed.Deed.TheVariants as deed
-use Rattle.wc_engine.specs.declared.deed.Work.{Work}
-use Rattle.wc_engine.specs.declared.reply.Reply.{Reply}
+use Rattle.wc_plan.specs.declared.deed.Deed.TheVariants as deed
+use Rattle.wc_plan.specs.declared.deed.Work.{Work}
+use Rattle.wc_plan.specs.declared.reply.Reply.{Reply}
 use Rattle.wc_engine.specs.Crashes.{HoldsKeeping, LeavesPairs}
-use Rattle.wc_engine.specs.Outside.{exchange, AsksByTurns, WorksOutside}
-use Rattle.wc_engine.specs.Plans.{IsNoRun}
+use Rattle.wc_engine.specs.Outside.{exchange, AsksByTurns, WorksOutside, IsNoRun}
 use Rattle.wc_engine.specs.Rows.{Stays, work_row}
 use Rattle.wc_engine.specs.Stored.{Images}
 use Rattle.wc_engine.specs.Views.{Shows}

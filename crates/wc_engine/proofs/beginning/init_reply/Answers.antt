@@ -2,10 +2,10 @@ use Rattle.std.proofs.Common.{inl, Bool, Result, IsTrue, ap, sym, subst, ◌∙�
 use Rattle.wc_store.specs.declared.error.StoreError.{StoreError}
 use Rattle.wc_store.specs.declared.store.Store.{Store}
 use Rattle.wc_store.specs.Stores.{InitLeaves}
-use Rattle.wc_engine.specs.declared.reply.Reply.{Reply}
+use Rattle.wc_plan.specs.declared.reply.Reply.{Reply}
 use Rattle.wc_store.specs.Held.{IsHeld}
 use Rattle.wc_engine.specs.Crashes.{AreDurable}
-use Rattle.wc_engine.specs.Replies.{prints}
+use Rattle.wc_plan.specs.Replies.{prints}
 use Rattle.wc_engine.proofs.Doing.{has_begun, refused_init}
 use Rattle.wc_engine.proofs.Leaving.{begun, unasked}
 use Rattle.wc_engine.specs.Rows.{IsEmpty, Stays}

@@ -3,8 +3,8 @@ use Rattle.wc_store.specs.Held.{IsHeld, nothing}
 use Rattle.wc_generated.specs.Texts.{drilled_text}
 use Rattle.wc_drill.specs.Leaves.{AreDurable, IsBegun, RefusedLeaves}
 use Rattle.wc_drill.specs.declared.error.DrillError.{DrillError}
-use Rattle.wc_engine.specs.declared.reply.Reply.{Reply}
-use Rattle.wc_engine.specs.Replies.{prints}
+use Rattle.wc_plan.specs.declared.reply.Reply.{Reply}
+use Rattle.wc_plan.specs.Replies.{prints}
 use Rattle.wc_engine.specs.Undone.{IsBeforeTurns}
 use Rattle.wc_engine.proofs.Drilled.{drill_leaves, durable, has_drilled, refused_drill, refused_durable, refused_unwritten}
 use Rattle.wc_engine.proofs.drilling.drill_reply.Goals as goal

@@ -4,10 +4,10 @@ use Rattle.wc_world.specs.World.{World}
 use Rattle.wc_world.specs.Applied.{applied}
 use Rattle.wc_store.specs.Refusals.{byte_limit, committed_bytes, RefusesCommit}
 use Rattle.wc_engine.specs.declared.events.Entry.TheVariants as entry
-use Rattle.wc_engine.specs.declared.reply.Reply.{Reply}
+use Rattle.wc_plan.specs.declared.reply.Reply.{Reply}
 use Rattle.wc_engine.specs.Entries.{IsEntryOf}
 use Rattle.wc_engine.specs.Events.{MayHappen, TellsAlone}
-use Rattle.wc_engine.specs.Replies.{prints}
+use Rattle.wc_plan.specs.Replies.{prints}
 use Rattle.wc_engine.specs.Undone.{IsBeforeStoring}
 use Rattle.wc_engine.proofs.Entries.{has_entered, made_by, refused_durable, refused_entry, stays_alone}
 use Rattle.wc_engine.proofs.Leaving.{standing, committed}

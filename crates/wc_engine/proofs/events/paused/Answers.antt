@@ -1,5 +1,5 @@
 use Rattle.std.proofs.Common.{refl}
-use Rattle.wc_engine.specs.declared.deed.Asked.TheVariants as asked
+use Rattle.wc_plan.specs.declared.deed.Asked.TheVariants as asked
 use Rattle.wc_engine.proofs.Marks.{plain_paused, result_changes, result_storable}
 use Rattle.wc_engine.proofs.events.paused.Goals as goal
 

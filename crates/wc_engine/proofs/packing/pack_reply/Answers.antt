@@ -1,10 +1,10 @@
 use Rattle.std.proofs.Common.{inl, ℕ, IsTrue, ap, subst, ◌∙◌}
 use Rattle.wc_report.specs.Lines.{packed_text}
-use Rattle.wc_engine.specs.Replies.{prints}
+use Rattle.wc_plan.specs.Replies.{prints}
 use Rattle.wc_engine.proofs.Doing.{has_packed, refused_pack}
 use Rattle.wc_engine.proofs.Entries.{refused_durable}
 use Rattle.wc_engine.proofs.Leaving.{packed}
-use Rattle.wc_engine.specs.declared.reply.Reply.{Reply}
+use Rattle.wc_plan.specs.declared.reply.Reply.{Reply}
 use Rattle.wc_engine.specs.Undone.{IsBeforePacking}
 use Rattle.wc_engine.proofs.Shaping.{refused_packing}
 use Rattle.wc_engine.proofs.Unwriting.{refused_untouched}

@@ -1,9 +1,9 @@
-use Rattle.std.proofs.Common.{◌≡◌, inl, inr, Err, IsTrue, refl, sym, subst, ◌∙◌}
+use Rattle.std.proofs.Common.{◌≡◌, inl, inr, Err, refl, sym, subst, ◌∙◌}
 use Rattle.wc_runner.specs.declared.error.RunError.{RunError}
 use Rattle.wc_runner.specs.declared.running.RunEnd.{RunEnd}
 use Rattle.wc_runner.specs.Outside.{in_run}
 use Rattle.wc_runner.specs.Refusals.{RefusesRun, is_live_after}
-use Rattle.wc_engine.specs.declared.reply.Reply.{Reply}
+use Rattle.wc_plan.specs.declared.reply.Reply.{Reply}
 use Rattle.wc_engine.specs.Outside.{exchange}
 use Rattle.wc_engine.specs.Running.{has_run}
 use Rattle.wc_engine.specs.Undone.{IsBeforeTurns}

@@ -2,10 +2,11 @@ use Rattle.std.proofs.Common.{◌≡◌, sym, subst, ◌∙◌}
 use Rattle.wc_cli.specs.Words.{command_of}
 use Rattle.wc_engine.specs.Outside.{exchange, ServesOutside}
 use Rattle.wc_engine.specs.Owed.{visit}
-use Rattle.wc_engine.specs.Replies.{OwesStatus, IsDoneOrFull}
-use Rattle.wc_engine.specs.declared.reply.Reply.{Reply}
-use Rattle.wc_engine.specs.declared.status.Status.{Status}
-use Rattle.wc_engine.specs.declared.status.Status.TheVariants as status
+use Rattle.wc_plan.specs.Replies.{OwesStatus}
+use Rattle.wc_engine.specs.Statuses.{IsDoneOrFull}
+use Rattle.wc_plan.specs.declared.reply.Reply.{Reply}
+use Rattle.wc_plan.specs.declared.status.Status.{Status}
+use Rattle.wc_plan.specs.declared.status.Status.TheVariants as status
 use Rattle.wc_engine.proofs.Acknowledging.{owed_ok, stands_done}
 use Rattle.wc_engine.proofs.Exchanged.{owed_done}
 use Rattle.wc_engine.proofs.Exits.{durable_same, stay_sound}

@@ -1,6 +1,6 @@
 use Rattle.std.proofs.Common.{◌≡◌, length, sym, ap, subst, ◌∙◌}
 use Rattle.wc_report.specs.Lines.{verified_text}
-use Rattle.wc_engine.specs.Replies.{prints}
+use Rattle.wc_plan.specs.Replies.{prints}
 use Rattle.wc_engine.specs.Views.{Verifies, verified}
 use Rattle.wc_engine.proofs.views.counted.Goals as goal
 

@@ -1,0 +1,10 @@
+pub mod Valid
+pub mod Furthers
+pub mod Filed
+pub mod Bares
+pub mod Means
+pub mod Submitted
+pub mod Configured
+pub mod Once
+pub mod Planned
+pub mod Replied

@@ -1,0 +1,10 @@
+pub mod Given
+pub mod Further
+pub mod Texts
+pub mod Files
+pub mod Replies
+pub mod Dry
+pub mod Submits
+pub mod Settings
+pub mod Calls
+pub mod Plans

@@ -1,0 +1,211 @@
+//! The tree that a definition has, with no store.
+
+ghost use Rattle.std.specs.Prelude.{◌≡◌, IfOk};
+ghost use Rattle.wc_syntax.specs.Findings.{definition_named};
+ghost use Rattle.wc_plan.specs.Calls.{CountsShelf};
+ghost use Rattle.wc_plan.specs.Given.{bad_given, fields_of};
+ghost use Rattle.wc_plan.specs.Dry.{owed_answer, owed_inputs, owed_rows, OwesDefinition, OwesDry, OwesRows};
+ghost use Rattle.wc_semantics.specs.Tables.{plain, no_kills};
+ghost use Rattle.wc_semantics.specs.Meaning.{meaning};
+
+use crate::error::PlanError;
+use crate::further::{inputs_from, table_from};
+use crate::given::{find_bad_given, read_given};
+use crate::reading::Read;
+use crate::reply::{Reply, print, refuse};
+use crate::status::Cause;
+use std::alloc::{AllocError, Global};
+use wc_cli::Givens;
+use wc_io::Shelf;
+use wc_meaning::{find_definition, head, mean};
+use wc_report::tree_lines;
+use wc_semantics::{Answer, Kills};
+use wc_syntax::{Checked, Library, Port};
+use wc_value::{Duplicate, Fields, Table, Text};
+
+/// What `dry` is asked for, beside the file of the library.
+#[derive(Drop)]
+pub struct Trial {
+    /// The name of the definition.
+    pub name: Text,
+    /// The inputs in words.
+    pub given: Givens,
+    /// The file with further inputs, if one is named.
+    pub inputs: Option<Text>,
+    /// The file with the results of jobs, if one is named.
+    pub table: Option<Text>,
+    /// How many turns of loops and calls there may be.
+    pub fuel: u64,
+}
+
+/// The reply for what a definition means.
+fn reply_for_answer(alloc: Global, answer: Answer) -> Result<Reply, AllocError>
+    ensures { IfOk result (λ r. r ≡ owed_answer answer) }
+{
+    match answer {
+        Answer::Gave(replayed, _) => Ok(print(tree_lines(alloc, &replayed.tree)?)),
+        Answer::Without(request) => refuse(alloc, Cause::NoAnswer(request)),
+        Answer::TooLittle => refuse(alloc, Cause::Fuel),
+        Answer::Astray => refuse(alloc, Cause::Fuel),
+    }
+}
+
+/// The meaning of a definition at depth 1, with this table and without kills.
+fn meaning_alone(
+    alloc: Global,
+    library: &Library,
+    trial: &Trial,
+    inputs: &Fields,
+    table: &Table,
+) -> Result<Answer, AllocError>
+    ensures { IfOk result (λ a. a ≡ meaning 15 library.now (plain table.now) no_kills trial.now.fuel trial.now.name inputs.now) }
+{
+    let kills = Kills::new(alloc);
+    mean(
+        alloc,
+        library,
+        15,
+        table,
+        &kills,
+        trial.fuel,
+        &trial.name,
+        inputs,
+    )
+}
+
+/// The reply of `dry` for these inputs and this table.
+fn reply_for_inputs(
+    alloc: Global,
+    library: &Library,
+    trial: &Trial,
+    inputs: &Fields,
+    table: &Table,
+) -> Result<Reply, AllocError>
+    ensures { IfOk result (λ r. r ≡ owed_answer (meaning 15 library.now (plain table.now) no_kills trial.now.fuel trial.now.name inputs.now)) }
+{
+    let answer = meaning_alone(alloc, library, trial, inputs, table)?;
+    reply_for_answer(alloc, answer)
+}
+
+/// The reply of `dry` for these ports, where nothing is given badly in words beside what a file gives.
+fn reply_for_given(
+    alloc: Global,
+    library: &Library,
+    ports: &[Port],
+    trial: &Trial,
+    file: Fields,
+    table: &Table,
+) -> Result<Reply, AllocError>
+    ensures { IfOk result (λ r. r ≡ owed_answer (meaning 15 library.now (plain table.now) no_kills trial.now.fuel trial.now.name (fields_of ports.now trial.now.given file))) }
+{
+    let inputs = read_given(ports, trial.given.as_slice(), file)?;
+    reply_for_inputs(alloc, library, trial, &inputs, table)
+}
+
+/// The reply of `dry` for a definition with these ports, where a file gives these inputs, with this table.
+fn reply_for_table(
+    alloc: Global,
+    library: &Library,
+    ports: &[Port],
+    trial: &Trial,
+    file: Fields,
+    table: &Table,
+) -> Result<Reply, AllocError>
+    ensures { IfOk result (λ r. r ≡ owed_inputs (bad_given ports.now trial.now.given file) ports.now library.now trial.now.name trial.now.given file table.now trial.now.fuel) }
+{
+    match find_bad_given(ports, trial.given.as_slice(), &file)? {
+        Some(port) => refuse(alloc, Cause::BadInput(port.copy()?)),
+        None => reply_for_given(alloc, library, ports, trial, file, table),
+    }
+}
+
+/// The reply of `dry` for what a table file is read as.
+fn reply_for_rows(
+    alloc: Global,
+    library: &Library,
+    ports: &[Port],
+    trial: &Trial,
+    file: Fields,
+    table: Result<Table, Cause>,
+) -> Result<Reply, AllocError>
+    ensures { IfOk result (λ r. r ≡ owed_rows table ports.now library.now trial.now.name trial.now.given file trial.now.fuel) }
+{
+    match table {
+        Ok(table) => reply_for_table(alloc, library, ports, trial, file, &table),
+        Err(cause) => refuse(alloc, cause),
+    }
+}
+
+/// The reply of `dry` for what a file of inputs is read as. The table file is read then, if one is named.
+fn reply_for_file<R: Shelf>(
+    alloc: Global,
+    shelf: &mut R,
+    library: &Library,
+    ports: &[Port],
+    trial: &Trial,
+    file: Result<Fields, Cause>,
+) -> Result<Reply, PlanError>
+    ensures owes { IfOk result (λ r. OwesRows (R.contents shelf.old) trial.now file ports.now library.now r) }
+    ensures counts { CountsShelf result (R.faults shelf.old) (R.faults shelf.new) }
+    ensures kept { R.contents shelf.new ≡ R.contents shelf.old }
+{
+    match file {
+        Ok(file) => {
+            let table = table_from(alloc, shelf, &trial.table)?;
+            Ok(reply_for_rows(alloc, library, ports, trial, file, table)?)
+        }
+        Err(cause) => Ok(refuse(alloc, cause)?),
+    }
+}
+
+/// The reply of `dry` for a name in a library. The file of inputs is read then, if one is named.
+fn reply_for_name<R: Shelf>(
+    alloc: Global,
+    shelf: &mut R,
+    library: &Library,
+    trial: &Trial,
+) -> Result<Reply, PlanError>
+    ensures owes { IfOk result (λ r. OwesDefinition (R.contents shelf.old) trial.now (definition_named trial.now.name library.now) library.now r) }
+    ensures counts { CountsShelf result (R.faults shelf.old) (R.faults shelf.new) }
+    ensures kept { R.contents shelf.new ≡ R.contents shelf.old }
+{
+    match find_definition(library, &trial.name) {
+        None => Ok(refuse(alloc, Cause::Name(trial.name.copy()?))?),
+        Some(definition) => {
+            let ports = head(definition).inputs.as_slice();
+            let file = inputs_from(alloc, shelf, &trial.inputs, ports)?;
+            reply_for_file(alloc, shelf, library, ports, trial, file)
+        }
+    }
+}
+
+/// The reply of `dry` for a checked library.
+fn reply_for_library<R: Shelf>(
+    alloc: Global,
+    shelf: &mut R,
+    library: &Checked,
+    trial: &Trial,
+) -> Result<Reply, PlanError>
+    ensures owes { IfOk result (λ r. OwesDefinition (R.contents shelf.old) trial.now (definition_named trial.now.name library.now) library.now r) }
+    ensures counts { CountsShelf result (R.faults shelf.old) (R.faults shelf.new) }
+    ensures kept { R.contents shelf.new ≡ R.contents shelf.old }
+{
+    reply_for_name(alloc, shelf, library.library(), trial)
+}
+
+/// The reply of `dry` for a file that is read as this.
+pub(crate) fn reply_to_dry<R: Shelf>(
+    alloc: Global,
+    shelf: &mut R,
+    read: Read,
+    trial: &Trial,
+) -> Result<Reply, PlanError>
+    ensures owes { IfOk result (λ r. OwesDry (R.contents shelf.old) trial.now read r) }
+    ensures counts { CountsShelf result (R.faults shelf.old) (R.faults shelf.new) }
+    ensures kept { R.contents shelf.new ≡ R.contents shelf.old }
+{
+    match read {
+        Read::Refused(cause) => Ok(refuse(alloc, cause)?),
+        Read::Library(library) => reply_for_library(alloc, shelf, &library, trial),
+    }
+}

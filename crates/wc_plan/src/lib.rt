@@ -1,0 +1,29 @@
+//! What words ask for, by what the files of a shelf say, before a disk is touched: a reply, or a deed. And how a reply is written.
+#![tactic(auto)]
+
+mod commands;
+mod deed;
+mod error;
+mod further;
+mod given;
+mod laws;
+mod planning;
+mod reading;
+mod reply;
+mod settings;
+mod status;
+mod submission;
+mod text;
+
+pub use commands::Trial;
+pub use deed::{Asked, Begin, Deed, Plan, RunOptions, Work};
+pub use error::PlanError;
+pub use given::{find_bad_given, read_given};
+pub use laws::{files_are_read_as_one_thing, names_on_are_as_settings_say};
+pub use planning::plan;
+pub use reading::{Read, read_content};
+pub use reply::{Reply, finish, print, refuse};
+pub use settings::{names_on, read_settings_content};
+pub use status::{Cause, Fault, Status};
+pub use submission::{Invocation, Prepared, Submission, prepare};
+pub use text::refusal_line;

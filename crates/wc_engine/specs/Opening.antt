@@ -17,7 +17,7 @@ use Rattle.wc_engine.specs.declared.opening.Opened.TheVariants as opened
 use Rattle.wc_engine.specs.declared.error.ActError.{ActError}
 use Rattle.wc_engine.specs.declared.error.ActError.TheVariants.{DiskFault}
 use Rattle.wc_plan.specs.Replies.{refuses}
-use Rattle.wc_engine.specs.Statuses.{IsRefused}
+use Rattle.wc_engine.specs.Statuses.{IsDoneOrFull, IsRefused}
 use Rattle.wc_engine.specs.Stored.{Images, Hold, is_damaged, is_full}
 
 -- what is told of a refusal, if anything is

@@ -3,4 +3,3 @@ mod Valued
 mod Parts
 mod Valid
 mod Lowest
-mod Named

@@ -1,120 +1,151 @@
 -- The lowest source is the first one in the order of the records.
-use Rattle.std.proofs.Common.{◌≡◌, ℕ, zero, suc, ◌+◌, ◌<◌, ◌≤◌, true, false, List, [], ◌∷◌, length, map, take, drop, get_or, Option, Some, None, refl, ap, sym, subst, ◌∙◌, arith}
-use Rattle.std.specs.Prelude.{All, IsSome}
-use Rattle.std.proofs.lemmas.List.{take-append-drop, take_all}
-use Rattle.std.proofs.lemmas.List.Elements.{All-append, All-cons, All-more, All-nil, All-weaker}
-use Rattle.wc_graph.specs.declared.node.NodeKind.{NodeKind}
-use Rattle.wc_graph.specs.declared.node.NodeKind.TheVariants as node
+use Rattle.std.proofs.Common.{◌≡◌, ℕ, zero, suc, ◌+◌, ◌<◌, ◌≤◌, Bool, true, false, List, [], ◌∷◌, length, take, get_or, Option, Some, None, inl, inr, refl, ap, sym, subst, ◌∙◌, arith}
+use Rattle.std.specs.Prelude.{All, IsSome, if◌then◌else◌, ◌==◌, ◌||◌, ◌⊎◌, option_map, option_and_then}
+use Rattle.std.specs.Borrow.{Bor}
+use Rattle.std.specs.Option.{option_copied}
+use Rattle.std.specs.Str.{bytes_eq}
+use Rattle.std.proofs.lemmas.Bool.{eqb-true, and_parts, and_from}
+use Rattle.std.proofs.lemmas.List.{get_or_default, get_or-take, length-take}
+use Rattle.std.proofs.lemmas.List.Elements.{All-more, All-weaker}
+use Rattle.std.proofs.lemmas.Slice.Eq.{bytes_eq-Decides}
+use Rattle.sha2.specs.Sha256.{sha256}
+use Rattle.wc_value.specs.Spelling.{spelling}
+use Rattle.wc_value.proofs.Puts.{same_name}
+use Rattle.wc_syntax.specs.Printing.{printed_definition}
+use Rattle.wc_seals.specs.declared.marking.Sealed.{Sealed}
+use Rattle.wc_seals.specs.Keys.{key_value}
+use Rattle.wc_seals.specs.Order.{is_seal, is_in, has_digest, IsPartOf}
+use Rattle.wc_seals.proofs.Exact.{places_rise}
+use Rattle.wc_seals.proofs.Orders.{seal_tests}
 use Rattle.wc_state.specs.declared.record.ProcessRecord.{ProcessRecord}
 use Rattle.wc_world.specs.World.{World}
-use Rattle.wc_world.specs.Consistent.{IsConsistent, process_of, processes_from}
-use Rattle.wc_world.specs.Records.{find_record}
-use Rattle.wc_world.proofs.ReachedLists.{heads, unique}
+use Rattle.wc_world.specs.Consistent.{IsConsistent}
+use Rattle.wc_world.specs.Records.{find_record, is_calculation}
+use Rattle.wc_world.specs.Keys.{recorded_inputs, has_finished, is_finished_calculation, key_in, digest_in, digest_at}
+use Rattle.wc_world.proofs.ReachedLists.{unique}
 use Rattle.wc_machine.specs.Ending.{TakesSource}
 use Rattle.wc_machine.specs.Sources.{IsLowestSource, IsSourceFor}
 use Rattle.wc_cache.specs.Finding.{IsLowestWith, IsSourceWith}
 use Rattle.wc_cache.specs.Keys.{IsKeyOf}
 use Rattle.wc_cache.proofs.Parts.{key_over, same_key}
 
--- ---- records in order
+-- what is there behind a reference is there
+pub copied_there : {T : Type 0} (o : Option (Bor T)) → IsSome (option_copied o) → IsSome o
+copied_there None h = h
+copied_there (Some x) h = refl
 
-abbrev AreAbove : ℕ → List ProcessRecord → Type 0
-AreAbove n rs = All (λ r. n ≤ r.node) rs
+-- ---- an entry for each source
 
-lower : (n : ℕ) (rs : List ProcessRecord) → AreAbove (suc n) rs → AreAbove n rs
-lower n rs h = All-weaker (λ x. suc n ≤ x.node) (λ x. n ≤ x.node) (λ x le. omega arith) rs h
+-- an entry stands at a place
+abbrev StandsAt : List Sealed → ℕ → Type 0
+StandsAt seals pid = (k : ℕ) × (s : Sealed) × (k < length seals) × (get_or seals k s ≡ s) × (s.pid ≡ pid)
 
-first_above : (n : ℕ) (k : NodeKind) (r : ProcessRecord) (rs : List ProcessRecord) → process_of r ≡ (n, k) → AreAbove (suc n) rs → AreAbove n (r ∷ rs)
-first_above n k r rs h rest =
-    let e : r.node ≡ n = ap (λ (p : ℕ × NodeKind). p.0) h in
-    All-cons (λ x. n ≤ x.node) r rs (omega arith) (lower n rs rest)
+stands_at : (digest : List ℕ) (pid : ℕ) (seals : List Sealed) → is_in digest pid seals ≡ true → StandsAt seals pid
+stands_at digest pid [] h = absurd (cc)
+stands_at digest pid (x ∷ xs) h = told (is_seal digest pid x) refl h (λ rest. stands_at digest pid xs rest)
+  where
+    told : (b : Bool) → is_seal digest pid x ≡ b → (b || is_in digest pid xs) ≡ true → (is_in digest pid xs ≡ true → StandsAt xs pid) → StandsAt (x ∷ xs) pid
+    told true is _ _ = (zero, x, omega arith, refl, eqb-true x.pid pid (and_parts (bytes_eq x.digest digest) (x.pid == pid) is).1)
+    told false _ rest later = let more = later rest in let lt = more.2 in (suc more.0, more.1, omega (arith, lt), more.3, more.4)
 
-above : (n : ℕ) (nodes : List NodeKind) (rs : List ProcessRecord) → map process_of rs ≡ processes_from n nodes → AreAbove n rs
-above n [] [] h = All-nil (λ r. n ≤ r.node)
-above n [] (r ∷ rs) h = absurd (cc)
-above n (node.Data v ∷ ns) rs h = lower n rs (above (suc n) ns rs h)
-above n (node.Calculation ∷ ns) [] h = All-nil (λ r. n ≤ r.node)
-above n (node.Calculation ∷ ns) (r ∷ rs) h =
-    let p = heads (process_of r) (n, node.Calculation) (map process_of rs) (processes_from (suc n) ns) h in
-    first_above n node.Calculation r rs p.0 (above (suc n) ns rs p.1)
-above n (node.Workflow ∷ ns) [] h = All-nil (λ r. n ≤ r.node)
-above n (node.Workflow ∷ ns) (r ∷ rs) h =
-    let p = heads (process_of r) (n, node.Workflow) (map process_of rs) (processes_from (suc n) ns) h in
-    first_above n node.Workflow r rs p.0 (above (suc n) ns rs p.1)
+is_there_at : (seals : List Sealed) (i : ℕ) (s : Sealed) → i < length seals → s ≡ get_or seals i s → is_in s.digest s.pid seals ≡ true
+is_there_at [] i s lt is = absurd (omega (arith, lt))
+is_there_at (x ∷ xs) zero s lt is = ap (λ (b : Bool). b || is_in s.digest s.pid xs) (ap (is_seal s.digest s.pid) (sym is) ∙ (seal_tests s).itself)
+is_there_at (x ∷ xs) (suc i) s lt is = or_right (is_seal s.digest s.pid x) (is_in s.digest s.pid xs) (is_there_at xs i s (omega arith) is)
+  where
+    or_right : (a b : Bool) → b ≡ true → (a || b) ≡ true
+    or_right true b h = refl
+    or_right false b h = h
 
-abbrev GoOn : ℕ → ProcessRecord → List ProcessRecord → Type 0
-GoOn i d rs = AreAbove (get_or rs i d).node (drop i rs)
+some_digest : (digest : List ℕ) (o : Option (List ℕ)) → has_digest digest o ≡ true → o ≡ Some digest
+some_digest digest None h = absurd (cc)
+some_digest digest (Some d) h = ap (λ (x : List ℕ). Some x) (same_name d digest h)
 
-first_goes : (n : ℕ) (k : NodeKind) (ns : List NodeKind) (r : ProcessRecord) (rs : List ProcessRecord) (d : ProcessRecord) → process_of r ≡ (n, k)
-    → map process_of rs ≡ processes_from (suc n) ns → GoOn 0 d (r ∷ rs)
-first_goes n k ns r rs d h rest =
-    let e : r.node ≡ n = ap (λ (p : ℕ × NodeKind). p.0) h in
-    subst (λ (m : ℕ). AreAbove m (r ∷ rs)) (sym e) (first_above n k r rs h (above (suc n) ns rs rest))
+ordered : (a b : ℕ) → (a < b) ⊎ ((a ≡ b) ⊎ (b < a))
+ordered a b = grind arith
 
--- none from a place on is lower than the one there
-go_on : (n : ℕ) (nodes : List NodeKind) (rs : List ProcessRecord) (i : ℕ) (d : ProcessRecord) → map process_of rs ≡ processes_from n nodes → i < length rs → GoOn i d rs
-go_on n [] [] i d h lt = absurd (omega (arith, lt))
-go_on n [] (r ∷ rs) i d h lt = absurd (cc)
-go_on n (node.Data v ∷ ns) rs i d h lt = go_on (suc n) ns rs i d h lt
-go_on n (node.Calculation ∷ ns) [] i d h lt = absurd (omega (arith, lt))
-go_on n (node.Calculation ∷ ns) (r ∷ rs) zero d h lt =
-    let p = heads (process_of r) (n, node.Calculation) (map process_of rs) (processes_from (suc n) ns) h in
-    first_goes n node.Calculation ns r rs d p.0 p.1
-go_on n (node.Calculation ∷ ns) (r ∷ rs) (suc i) d h lt =
-    let p = heads (process_of r) (n, node.Calculation) (map process_of rs) (processes_from (suc n) ns) h in
-    go_on (suc n) ns rs i d p.1 (omega arith)
-go_on n (node.Workflow ∷ ns) [] i d h lt = absurd (omega (arith, lt))
-go_on n (node.Workflow ∷ ns) (r ∷ rs) zero d h lt =
-    let p = heads (process_of r) (n, node.Workflow) (map process_of rs) (processes_from (suc n) ns) h in
-    first_goes n node.Workflow ns r rs d p.0 p.1
-go_on n (node.Workflow ∷ ns) (r ∷ rs) (suc i) d h lt =
-    let p = heads (process_of r) (n, node.Workflow) (map process_of rs) (processes_from (suc n) ns) h in
-    go_on (suc n) ns rs i d p.1 (omega arith)
+found_one : {X : Type 0} (f : ProcessRecord → Option X) (o : Option ProcessRecord) (x : X) → option_and_then f o ≡ Some x → IsSome o
+found_one f None x h = absurd (cc)
+found_one f (Some r) x h = refl
 
--- ---- the lowest
+module _ (w : World) (batch : ℕ) (key : List ℕ) (part : List Sealed) (h : IsPartOf (digest_at w) (sha256 key) part) where
+  -- the process of each entry is there
+  pub process_there : (i : ℕ) (d : Sealed) → i < length part → IsSome (find_record (get_or part i d).pid w.records)
+  process_there i d lt =
+      let s = get_or part i d in
+      let there = is_there_at part i s lt (get_or_default part i d s lt) in
+      let both = and_parts (bytes_eq s.digest (sha256 key)) (has_digest s.digest (digest_at w s.pid)) (sym (h.exact s.digest s.pid) ∙ there) in
+      found_one (digest_in w) (find_record s.pid w.records) s.digest (some_digest s.digest (digest_at w s.pid) both.1)
 
-module _ (w : World) (batch : ℕ) (key : List ℕ) (consistent : IsConsistent w) where
   abbrev NoSource : ProcessRecord → Type 0
   NoSource q = IsSourceWith w batch key q → ⊥
 
-  abbrev NotBelow : ℕ → ProcessRecord → Type 0
-  NotBelow n q = q.node < n → IsSourceWith w batch key q → ⊥
+  -- the process of an entry is no source
+  abbrev NoneAt : Sealed → Type 0
+  NoneAt s = (q : ProcessRecord) → find_record s.pid w.records ≡ Some q → NoSource q
 
-  pub first_is_lowest : (i : ℕ) (d r : ProcessRecord) → i < length w.records → r ≡ get_or w.records i d → All NoSource (take i w.records) → IsSourceWith w batch key r
-      → IsLowestWith w batch key (Some r.node)
-  first_is_lowest i d r lt e none is =
-      let front = All-weaker NoSource (NotBelow r.node) (λ q never small. never) (take i w.records) none in
-      let on : AreAbove r.node (drop i w.records)
-      = subst (λ (x : ProcessRecord). AreAbove x.node (drop i w.records)) (sym e) (go_on 1 w.nodes w.records i d consistent.numbered lt) in
-      let back = All-weaker (λ q. r.node ≤ q.node) (NotBelow r.node) (λ q le small. absurd (omega (arith, le, small))) (drop i w.records) on in
-      let found : find_record r.node w.records ≡ Some r
-      = subst (λ (x : ProcessRecord). find_record x.node w.records ≡ Some x) (sym e) (unique 1 w.nodes w.records consistent.numbered i d lt) in (
-        (r, found, is),
-        subst (All (NotBelow r.node)) (take-append-drop i w.records)
-            (All-append (NotBelow r.node) (take i w.records) (drop i w.records) front back),
-      )
+  -- a source has an entry
+  source_stands : (q : ProcessRecord) → find_record q.node w.records ≡ Some q → IsSourceWith w batch key q → StandsAt part q.node
+  source_stands q found source =
+      let k = source.1 in
+      let text : key_in w q ≡ Some key
+      = ap (option_map (λ d. spelling (key_value (printed_definition d) (recorded_inputs w q.node)))) k.is_definition ∙ ap (λ (b : List ℕ). Some b) (sym k.spelled.is) in
+      let done : is_finished_calculation q ≡ true
+      = and_from (is_calculation q.kind) (has_finished q.state) source.0.calculates (ap has_finished source.0.finished) in
+      let digest : digest_at w q.node ≡ Some (sha256 key)
+      = ap (option_and_then (digest_in w)) found ∙ ap (λ (b : Bool). if b then option_map sha256 (key_in w q) else None) done ∙ ap (option_map sha256) text in
+      let itself : bytes_eq (sha256 key) (sha256 key) ≡ true = (bytes_eq-Decides (sha256 key) (sha256 key)).1 refl in
+      stands_at (sha256 key) q.node part
+      (h.exact (sha256 key) q.node
+      ∙ and_from (bytes_eq (sha256 key) (sha256 key)) (has_digest (sha256 key) (digest_at w q.node)) itself (ap (has_digest (sha256 key)) digest ∙ itself))
 
-  -- the same over the items of a slice
-  module _ (items : List ProcessRecord) (e : items ≡ w.records) (i : ℕ) where
-    pub first_found : (d r : ProcessRecord) → i < length items → r ≡ get_or items i d → All NoSource (take i items) → IsSourceWith w batch key r
-        → IsLowestWith w batch key (Some r.node)
-    first_found d r lt is none source =
-        first_is_lowest i d r (subst (λ (xs : List ProcessRecord). i < length xs) e lt) (is ∙ ap (λ (xs : List ProcessRecord). get_or xs i d) e)
-        (subst (λ (xs : List ProcessRecord). All NoSource (take i xs)) e none) source
+  -- a source isn't among entries that aren't
+  not_before : (i : ℕ) (q : ProcessRecord) → find_record q.node w.records ≡ Some q → IsSourceWith w batch key q → All NoneAt (take i part) → (at : StandsAt part q.node) → at.0 < i → ⊥
+  not_before i q found source none at lt =
+      let within = at.2 in
+      let here : get_or (take i part) at.0 at.1 ≡ at.1 = get_or-take i part at.0 at.1 lt ∙ at.3 in
+      let short : at.0 < length (take i part) = omega (arith, length-take i part, lt, within) in
+      let never : NoneAt at.1 = subst NoneAt here (none at.0 at.1 short) in
+      never q (ap (λ (n : ℕ). find_record n w.records) at.4 ∙ found) source
 
-    pub is_there : (d r : ProcessRecord) → i < length items → r ≡ get_or items i d → IsSome (find_record r.node w.records)
-    is_there d r lt is =
-        let same : r ≡ get_or w.records i d = is ∙ ap (λ (xs : List ProcessRecord). get_or xs i d) e in
-        let found : find_record r.node w.records ≡ Some r
-        = subst (λ (x : ProcessRecord). find_record x.node w.records ≡ Some x) (sym same)
-        (unique 1 w.nodes w.records consistent.numbered i d (subst (λ (xs : List ProcessRecord). i < length xs) e lt)) in
-        subst (λ (o : Option ProcessRecord). IsSome o) (sym found) refl
+  pub none_yet : (i : ℕ) (d : Sealed) (q : ProcessRecord) → i < length part → All NoneAt (take i part) → find_record (get_or part i d).pid w.records ≡ Some q → NoSource q
+      → All NoneAt (take (i + 1) part)
+  none_yet i d q lt none found never = All-more NoneAt part i d lt none (λ p e. let same : q ≡ p = cc in subst NoSource same never)
 
-    pub none_yet : (d r : ProcessRecord) → i < length items → r ≡ get_or items i d → All NoSource (take i items) → NoSource r → All NoSource (take (i + 1) items)
-    none_yet d r lt is none never = All-more NoSource items i d lt none (subst NoSource is never)
+  module _ (consistent : IsConsistent w) where
+    -- each record is found by its number
+    each_found : (k : ℕ) (d : ProcessRecord) → k < length w.records → find_record (get_or w.records k d).node w.records ≡ Some (get_or w.records k d)
+    each_found k d lt = unique 1 w.nodes w.records consistent.numbered k d lt
 
-    pub none_found : length items ≤ i → All NoSource (take i items) → IsLowestWith w batch key None
-    none_found le none = subst (All NoSource) e (subst (All NoSource) (take_all i items le) none)
+    pub none_found : (i : ℕ) → length part ≤ i → All NoneAt (take i part) → IsLowestWith w batch key None
+    none_found i le none = λ k d lt source.
+        let q = get_or w.records k d in
+        let at = source_stands q (each_found k d lt) source in
+        let within = at.2 in
+        not_before i q (each_found k d lt) source none at (omega (arith, within, le))
+
+    pub first_found : (i : ℕ) (d : Sealed) (q : ProcessRecord) → i < length part → All NoneAt (take i part) → find_record (get_or part i d).pid w.records ≡ Some q
+        → IsSourceWith w batch key q → IsLowestWith w batch key (Some (get_or part i d).pid)
+    first_found i d q lt none found source = (
+      (q, found, source),
+      λ k e within small other.
+          let p = get_or w.records k e in
+          let at = source_stands p (each_found k e within) other in
+          not_before i p (each_found k e within) other none at (before_it p at small),
+    )
+      where
+        before_it : (p : ProcessRecord) → (at : StandsAt part p.node) → p.node < (get_or part i d).pid → at.0 < i
+        before_it p at small =
+            let within = at.2 in
+            let there : (get_or part at.0 d).pid ≡ p.node = ap (λ (x : Sealed). x.pid) (get_or_default part at.0 d at.1 within ∙ at.3) ∙ at.4 in
+            elim (ordered at.0 i) [
+              | inl lt ↦ lt
+              | inr other ↦
+                  elim other [
+                    | inl same ↦ absurd (let e : (get_or part at.0 d).pid ≡ (get_or part i d).pid = ap (λ (n : ℕ). (get_or part n d).pid) same in omega (arith, e, there, small))
+                    | inr behind ↦ absurd (omega (arith, places_rise part i at.0 d h.ascending behind within, there, small))
+                  ]
+            ]
 
 -- ---- the lowest source of a process with the key
 

@@ -1,5 +1,6 @@
 -- The parts of a key: keys are equal only where texts and inputs are.
-use Rattle.std.proofs.Common.{◌≡◌, ℕ, List, [], Some, get_or, refl, ap, sym, subst, ◌∙◌}
+use Rattle.std.proofs.Common.{◌≡◌, ℕ, List, [], Option, Some, None, get_or, refl, ap, sym, subst, ◌∙◌}
+use Rattle.std.specs.Prelude.{option_map}
 use Rattle.wc_value.specs.declared.value.Value.{Value, out-Value, out-roll-Value}
 use Rattle.wc_value.specs.declared.value.Value.TheVariants as value
 use Rattle.wc_value.specs.declared.value.Value.TheVariants.{rolls-Text, rolls-Dict}
@@ -7,9 +8,7 @@ use Rattle.wc_value.specs.declared.value.Value.TheOpen.{Value-F}
 use Rattle.wc_value.specs.Spelling.{spelling}
 use Rattle.wc_value.proofs.Readback.{one_front}
 use Rattle.wc_syntax.specs.declared.definition.Definition.{Definition}
-use Rattle.wc_syntax.specs.Bare.{bare_definition}
 use Rattle.wc_syntax.specs.Printing.{printed_definition}
-use Rattle.wc_syntax.proofs.Bared.{definition_bare}
 use Rattle.wc_calculation.specs.Rules.{Values}
 use Rattle.wc_state.specs.declared.record.ProcessRecord.{ProcessRecord}
 use Rattle.wc_world.specs.World.{World}
@@ -94,22 +93,20 @@ key_over w p q key h a =
           (subst (λ (t : List ℕ). IsKey t (recorded_inputs w p.node) key) text a.spelled);
     }
 
--- the key that is made of a definition with its offsets
-pub key_kept : (w : World) (p : ProcessRecord) (d : Definition) (inputs : Values) (key : List ℕ) → Some (bare_definition d) ≡ its_definition w p
-    → inputs ≡ recorded_inputs w p.node → IsKey (printed_definition d) inputs key → IsKeyOf w p key
-key_kept w p d inputs key is same h = record {
-  definition = bare_definition d;
-  is_definition = sym is;
-  spelled = subst (λ (i : Values). IsKey (printed_definition (bare_definition d)) i key) same
-      (subst (λ (t : List ℕ). IsKey t inputs key) (sym (definition_bare d)) h);
-}
-
--- what the key of a process is, by its definition with offsets
-pub key_named : (w : World) (p : ProcessRecord) (d : Definition) (key : List ℕ) → Some (bare_definition d) ≡ its_definition w p → IsKeyOf w p key
-    → key ≡ spelling (key_value (printed_definition d) (recorded_inputs w p.node))
-key_named w p d key is k =
-    let same = same_definition k.definition (bare_definition d) (sym k.is_definition ∙ sym is) in
-    k.spelled.is ∙ ap (λ (t : List ℕ). spelling (key_value t (recorded_inputs w p.node))) (ap printed_definition same ∙ definition_bare d)
+-- the key that is made of the text of the definition
+pub key_kept : (w : World) (p : ProcessRecord) (text : List ℕ) (inputs : Values) (key : List ℕ) → Some text ≡ option_map printed_definition (its_definition w p)
+    → inputs ≡ recorded_inputs w p.node → IsKey text inputs key → IsKeyOf w p key
+key_kept w p text inputs key is same h = told (its_definition w p) refl is
+  where
+    told : (o : Option Definition) → its_definition w p ≡ o → Some text ≡ option_map printed_definition o → IsKeyOf w p key
+    told None there e = absurd (cc)
+    told (Some d) there e =
+        let printed : text ≡ printed_definition d = cc in
+        record {
+          definition = d;
+          is_definition = there;
+          spelled = subst (λ (i : Values). IsKey (printed_definition d) i key) same (subst (λ (t : List ℕ). IsKey t inputs key) printed h);
+        }
 
 -- ---- laws
 

@@ -1,20 +1,14 @@
 -- The key of a calculation.
-use Rattle.std.specs.Prelude.{◌≡◌, ℕ, codes, List, [], ◌∷◌, Some}
-use Rattle.wc_value.specs.declared.value.Value.{Value}
-use Rattle.wc_value.specs.declared.value.Value.TheVariants as value
+use Rattle.std.specs.Prelude.{◌≡◌, ℕ, List, Some}
 use Rattle.wc_value.specs.Spelling.{spelling}
 use Rattle.wc_value.specs.Spells.{Spells}
 use Rattle.wc_syntax.specs.declared.definition.Definition.{Definition}
-use Rattle.wc_syntax.specs.declared.definition.Definition.TheVariants as definition
 use Rattle.wc_syntax.specs.Printing.{printed_definition}
 use Rattle.wc_calculation.specs.Rules.{Values}
 use Rattle.wc_state.specs.declared.record.ProcessRecord.{ProcessRecord}
 use Rattle.wc_world.specs.World.{World}
 use Rattle.wc_machine.specs.Recorded.{its_definition, recorded_inputs}
-
--- the dictionary with the text of a definition at `definition`, and the dictionary of inputs at `inputs`
-abbrev pub key_value : List ℕ → Values → Value
-key_value text inputs = value.Dict ((codes "definition", value.Text text) ∷ (codes "inputs", value.Dict inputs) ∷ [])
+pub use Rattle.wc_seals.specs.Keys.{key_value}
 
 -- these bytes are the canonical bytes of that dictionary
 pub record IsKey (text : List ℕ) (inputs : Values) (key : List ℕ) : Type 0 where
@@ -26,9 +20,3 @@ pub record IsKeyOf (w : World) (p : ProcessRecord) (key : List ℕ) : Type 0 whe
   pub definition : Definition
   pub is_definition : its_definition w p ≡ Some definition
   pub spelled : IsKey (printed_definition definition) (recorded_inputs w p.node) key
-
--- Before the name of its definition a key has 24 bytes of its dictionary, and the word of the definition's kind with a blank.
-abbrev pub name_place : Definition → ℕ
-name_place (definition.Function f) = 37
-name_place (definition.Job j) = 32
-name_place (definition.Chain c) = 34

@@ -10,10 +10,9 @@ ghost use Rattle.wc_cache.specs.Finding.{IsLowestWith, IsSourceWith};
 ghost use Rattle.wc_cache.specs.Keys.{IsKeyOf};
 
 use crate::keys::key_of_process;
-use crate::names::has_name;
-use crate::recorded::definition_of;
 use crate::sources::is_valid;
 use std::alloc::{AllocError, Global};
+use wc_seals::digest_of;
 use wc_state::ProcessRecord;
 use wc_world::{World, reached_worlds_are_consistent};
 
@@ -32,16 +31,6 @@ fn has_key(
     Ok(own.bytes() == key)
 }
 
-/// Whether a process may have this key, by the name of its definition alone.
-fn may_have(world: &World, process: &ProcessRecord, key: &[u8]) -> bool
-    ensures { IsKeyOf world.now.world process.now key.now → IsTrue result }
-{
-    match definition_of(world, process) {
-        Some(definition) => has_name(definition, key),
-        None => false,
-    }
-}
-
 /// Whether a process of the world is a valid source with this key for a start in the next batch.
 fn is_source(
     alloc: Global,
@@ -52,26 +41,28 @@ fn is_source(
     requires { IsSome (find_record process.now.node world.now.world.records) }
     ensures { IfOk result (λ is. IsTrue is ↔ IsSourceWith world.now.world (world.now.world.batches + 1) key.now process.now) }
 {
-    if !is_valid(world, process) || !may_have(world, process, key) {
+    if !is_valid(world, process) {
         return Ok(false);
     }
     has_key(alloc, world, process, key)
 }
 
 /// The lowest valid source with this key for a start in the next batch, if there is one. So it is the source of each
-/// process that has the key.
+/// process that has the key. Of the calculations that have finished, those with the digest of the key alone are looked at.
 pub fn find(alloc: Global, world: &World, key: &[u8]) -> Result<Option<u32>, AllocError>
     ensures lowest { IfOk result (IsLowestWith world.now.world (world.now.world.batches + 1) key.now) }
     ensures source { IfOk result (λ source. (r : ProcessRecord) → IsKeyOf world.now.world r key.now
         → IsLowestSource world.now.world (world.now.world.batches + 1) r source) }
 {
-    // A reached world is consistent, so that its records ascend by their numbers.
+    // A reached world is consistent, so that each of its processes is found by its number.
     let _ = world.graph();
     reached_worlds_are_consistent();
-    for process in world.records().as_slice() {
+    let digest = digest_of(key);
+    for seal in world.with_digest(digest.as_slice()) {
+        let process = world.record_of(seal.pid).unwrap();
         let is = is_source(alloc, world, process, key)?;
         if is {
-            return Ok(Some(process.node));
+            return Ok(Some(seal.pid));
         }
     }
     Ok(None)

@@ -1,16 +1,14 @@
 //! Keys: the canonical bytes of a definition's text and of input values.
 
 ghost use Rattle.std.specs.Prelude.{◌≡◌, true, Some, IfOk, IfSome, IsSome, option_map};
-ghost use Rattle.wc_syntax.specs.Printing.{printed_definition};
 ghost use Rattle.wc_world.specs.Records.{find_record, is_calculation};
 ghost use Rattle.wc_machine.specs.Recorded.{its_definition};
 ghost use Rattle.wc_cache.specs.Keys.{IsKey, IsKeyOf, key_value};
 
-use crate::recorded::{definition_of, recorded_inputs};
+use crate::recorded::{recorded_inputs, text_of};
 use std::alloc::{AllocError, Global};
 use wc_state::ProcessRecord;
-use wc_syntax::{Definition, print_definition};
-use wc_value::{Bytes, Fields, Text, Value, encode};
+use wc_value::{Bytes, Duplicate, Fields, Text, Value, encode};
 use wc_world::{World, reached_worlds_are_consistent};
 
 /// The dictionary of a definition's text and of inputs.
@@ -23,16 +21,11 @@ fn dictionary_of(alloc: Global, text: Text, inputs: Fields) -> Result<Value, All
     Ok(Value::Dict(fields))
 }
 
-/// The key of a definition and of inputs: the canonical bytes of their dictionary.
-pub(crate) fn key_with(
-    alloc: Global,
-    definition: &Definition,
-    inputs: Fields,
-) -> Result<Bytes, AllocError>
-    ensures { IfOk result (IsKey (printed_definition definition.now) inputs) }
+/// The key of a definition's text and of inputs: the canonical bytes of their dictionary.
+pub(crate) fn key_with(alloc: Global, text: &Text, inputs: Fields) -> Result<Bytes, AllocError>
+    ensures { IfOk result (IsKey text.now inputs) }
 {
-    let text = print_definition(alloc, definition)?;
-    let value = dictionary_of(alloc, text, inputs)?;
+    let value = dictionary_of(alloc, text.copy()?, inputs)?;
     encode(alloc, &value)
 }
 
@@ -46,9 +39,9 @@ pub(crate) fn key_of_process(
     requires defined { IsSome (its_definition world.now.world process.now) }
     ensures { IfOk result (IsKeyOf world.now.world process.now) }
 {
-    let definition = definition_of(world, process).unwrap();
+    let text = text_of(world, process).unwrap();
     let inputs = recorded_inputs(alloc, world, process.node)?;
-    key_with(alloc, definition, inputs)
+    key_with(alloc, text, inputs)
 }
 
 /// The key of a calculation: the canonical bytes of the dictionary with the printed text of its definition at

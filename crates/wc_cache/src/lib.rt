@@ -1,15 +1,12 @@
 //! Caching: the key of a calculation, and the lowest calculation whose outcome a start with that key takes.
 #![tactic(auto)]
 
-mod digests;
 mod finding;
 mod keys;
 mod laws;
-mod names;
 mod recorded;
 mod sources;
 
-pub use digests::digest_of;
 pub use finding::{find, source_of};
 pub use keys::key_of;
 pub use laws::{equal_keys_are_equal, keys_are_of_one};

@@ -1,8 +1,9 @@
-//! What a world records of a calculation: its definition and its inputs.
+//! What a world records of a calculation: its definition, with its text, and its inputs.
 
 ghost use Rattle.std.specs.Prelude.{◌≡◌, IfOk, IsSome, option_map};
 ghost use Rattle.std.specs.Option.{option_copied};
 ghost use Rattle.wc_syntax.specs.Bare.{bare_definition};
+ghost use Rattle.wc_syntax.specs.Printing.{printed_definition};
 ghost use Rattle.wc_world.specs.Records.{find_record, library_at};
 ghost use Rattle.wc_world.specs.Trees.{values_alone};
 ghost use Rattle.wc_machine.specs.Recorded.{its_definition, recorded_inputs};
@@ -12,7 +13,7 @@ use wc_meaning::find_definition;
 use wc_state::{Named, ProcessRecord};
 use wc_syntax::{Checked, Definition};
 use wc_trees::env_of;
-use wc_value::{Duplicate, Fields};
+use wc_value::{Duplicate, Fields, Text};
 use wc_world::{World, WorldError};
 
 /// The library with this number, if there is one.
@@ -34,6 +35,14 @@ pub fn definition_of<'a>(world: &'a World, process: &ProcessRecord) -> Option<&'
 {
     let library = library_at(world, process.library)?;
     find_definition(library.library(), &process.definition)
+}
+
+/// The printed text of the definition that a process runs, if it is there. It was made with the library.
+pub(crate) fn text_of<'a>(world: &'a World, process: &ProcessRecord) -> Option<&'a Text>
+    ensures { option_copied result ≡ option_map printed_definition (its_definition world.now.world process.now) }
+{
+    let library = library_at(world, process.library)?;
+    library.text_of(&process.definition)
 }
 
 /// The values of named nodes, without the nodes.

@@ -20,7 +20,7 @@ use crate::rules::{bad_exits, bad_outputs, over_counts, over_definitions};
 use crate::scopes::unknown_names;
 use std::alloc::{AllocError, Global};
 use std::rc::Rc;
-use wc_syntax::{Checked, Definition, Library};
+use wc_syntax::{Checked, Definition, Library, Printed};
 
 /// Finds what stands twice among the ports, statuses and files of a definition.
 #[tactic(auto, using(crate::proofs::Leasts::least_joined))]
@@ -121,7 +121,7 @@ pub fn share(alloc: Global, library: Library) -> Result<Checked, AllocError>
     requires { IsChecked library }
     ensures { IfOk result (λ checked. checked ≡ bare_library library) }
 {
-    Ok(Checked::of(Rc::new(alloc, library)?))
+    Ok(Checked::of(Rc::new(alloc, Printed::of(alloc, library)?)?))
 }
 
 /// Takes a library, as `parse` gives it, that meets the rules of checked libraries.

@@ -183,6 +183,8 @@ pub fn submit_changes(
     ensures refused { IfErr result (RefusesSubmission world.now.world library caching name.now inputs limits.now.max_nodes) }
 {
     let _graph = world.graph();
+    // A library that is kept is a checked one.
+    let _checked = library.library();
     let kind = kind_named(&library, name, &inputs)?;
     match check_room(world, limits, inputs.len() as u64 + 1) {
         Ok(()) => Ok(submission(alloc, world, library, caching, name, &inputs, kind)?),

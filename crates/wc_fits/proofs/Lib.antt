@@ -3,3 +3,5 @@ pub mod Lengths
 pub mod Definitions
 pub mod Places
 pub mod LinkWalks
+pub mod LinkedValues
+pub mod LinkLabels

@@ -1,5 +1,5 @@
 -- Looking up processes and definitions.
-use Rattle.std.specs.Prelude.{ℕ, zero, suc, Bool, true, false, ◌==◌, ◌&&◌, List, Option, None, slice_get, option_map, option_and_then}
+use Rattle.std.specs.Prelude.{ℕ, zero, suc, ◌<◌, ◌≤◌, Bool, true, false, ◌==◌, ◌&&◌, List, [], ◌∷◌, Option, None, slice_get, option_map, option_and_then}
 use Rattle.std.specs.List.{list_any}
 use Rattle.wc_syntax.specs.declared.definition.Definition.{Definition}
 use Rattle.wc_syntax.specs.declared.definition.Definition.TheVariants as definition
@@ -11,6 +11,7 @@ use Rattle.wc_graph.specs.declared.link.LinkType.TheVariants as link
 use Rattle.wc_graph.specs.declared.link.Link.{Link}
 use Rattle.wc_state.specs.declared.record.ProcessKind.{ProcessKind}
 use Rattle.wc_state.specs.declared.record.ProcessKind.TheVariants as kind
+use Rattle.wc_state.specs.declared.record.ProcessRecord.{ProcessRecord}
 use Rattle.wc_fits.specs.World.{Known}
 pub use Rattle.wc_records.specs.Records.{find_record, at_process, has_ended}
 
@@ -25,6 +26,11 @@ abbrev pub is_calculation : ProcessKind → Bool
 is_calculation kind.Function = true
 is_calculation kind.Job = true
 is_calculation kind.Chain = false
+
+-- The numbers of records ascend, above the first bound and up to the second.
+abbrev pub Ascend : ℕ → List ProcessRecord → ℕ → Type 0
+Ascend low [] high = Unit {0}
+Ascend low (r ∷ rs) high = (low < r.node) × (r.node ≤ high) × Ascend r.node rs high
 
 -- ---- links
 

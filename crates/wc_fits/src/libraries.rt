@@ -40,7 +40,7 @@ fn find_definition<'a>(library: &'a Library, name: &Text) -> Option<&'a Definiti
 }
 
 /// The library with this number.
-fn library_at(libraries: &[Known], number: u32) -> Option<&Checked>
+pub fn library_at(libraries: &[Known], number: u32) -> Option<&Checked>
     ensures { option_copied result ≡ library_at libraries.now number }
 {
     if number == 0 {

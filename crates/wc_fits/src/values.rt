@@ -10,7 +10,7 @@ use wc_graph::{Link, LinkType, NodeKind};
 use wc_value::Value;
 
 /// The value of the data node with this number, if there is one.
-fn value_of(nodes: &[NodeKind], id: u32) -> Option<&Value>
+pub fn value_of(nodes: &[NodeKind], id: u32) -> Option<&Value>
     ensures { option_copied result ≡ value_of nodes.now id }
 {
     if id == 0 {

@@ -14,16 +14,9 @@ use Rattle.wc_calculation.specs.Requests.{request}
 use Rattle.wc_state.specs.declared.record.ProcessKind.TheVariants as kind
 use Rattle.wc_state.specs.declared.record.ProcessRecord.{ProcessRecord}
 use Rattle.wc_world.specs.World.{World}
-use Rattle.wc_world.specs.Records.{find_record, definition_in}
-use Rattle.wc_world.specs.Trees.{inputs_of, outputs_of, values_alone}
-
--- the definition that a process runs
-abbrev pub its_definition : World → ProcessRecord → Option Definition
-its_definition w r = definition_in w.libraries r.library r.definition
-
--- the values of its inputs, by port
-abbrev pub recorded_inputs : World → ℕ → Values
-recorded_inputs w pid = values_alone (inputs_of w pid)
+use Rattle.wc_world.specs.Records.{find_record}
+use Rattle.wc_world.specs.Trees.{outputs_of, values_alone}
+pub use Rattle.wc_world.specs.Keys.{its_definition, recorded_inputs}
 
 -- the values of its outputs, by label
 abbrev pub recorded_outputs : World → ℕ → Values

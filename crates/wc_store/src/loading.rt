@@ -15,7 +15,7 @@ use std::alloc::Global;
 use wc_disk::Disk;
 use wc_journal::Batches;
 use wc_record::{LastLibrary, RecordError, read_changes};
-use wc_world::{Change, Changes, World, WorldError};
+use wc_world::{Change, Changes, Played, World, WorldError};
 
 /// Why a payload isn't played.
 enum Unplayed {
@@ -105,35 +105,35 @@ fn changes_of(alloc: Global, payload: &[u8], last: &mut LastLibrary) -> Result<C
     }
 }
 
-/// The world after changes that it accepts.
-fn take(alloc: Global, world: World, changes: Changes) -> Result<World, Unplayed>
-    ensures accepted { OnOk result (IsAccepted world.world changes) }
-    ensures after { IfOk result (λ after. after.world ≡ applied world.world changes) }
-    ensures refused { IfErr result (RefusesChanges world.world changes) }
+/// What changes make of what was played, where it accepts them.
+fn take(alloc: Global, played: Played, changes: Changes) -> Result<Played, Unplayed>
+    ensures accepted { OnOk result (IsAccepted played changes) }
+    ensures after { IfOk result (λ after. after ≡ applied played changes) }
+    ensures refused { IfErr result (RefusesChanges played changes) }
 {
-    match World::play(alloc, world, changes) {
+    match Played::play(alloc, played, changes) {
         Ok(after) => Ok(after),
         Err(WorldError::OutOfMemory) => Err(Unplayed::OutOfMemory),
         Err(_) => Err(Unplayed::Unfit),
     }
 }
 
-/// The world after one payload.
+/// What one payload makes of what was played.
 fn play_one(
     alloc: Global,
-    world: World,
+    played: Played,
     snapshot: bool,
     payload: &[u8],
     last: &mut LastLibrary,
-) -> Result<World, Unplayed>
-    ensures ok { IfOk result (λ after. IsPlayed snapshot payload.now world.world after.world) }
-    ensures refused { IfErr result (RefusesPayload snapshot payload.now world.world) }
+) -> Result<Played, Unplayed>
+    ensures ok { IfOk result (λ after. IsPlayed snapshot payload.now played after) }
+    ensures refused { IfErr result (RefusesPayload snapshot payload.now played) }
 {
     let changes = changes_of(alloc, payload, last)?;
     if !suits(snapshot, changes.as_slice()) {
         return Err(Unplayed::Unfit);
     }
-    take(alloc, world, changes)
+    take(alloc, played, changes)
 }
 
 /// Whether the batch of this number is a snapshot.
@@ -154,22 +154,22 @@ fn stop_of(at: u64, unplayed: Unplayed) -> Stop
     }
 }
 
-/// Plays all batches on the empty world.
-fn play_all(alloc: Global, generation: u64, batches: &Batches) -> Result<World, Stop>
-    ensures ok { IfOk result (λ world. Makes generation batches.now world.world) }
+/// What all batches make of the empty world.
+fn play_all(alloc: Global, generation: u64, batches: &Batches) -> Result<Played, Stop>
+    ensures ok { IfOk result (λ played. Makes generation batches.now played) }
     ensures refused { IfErr result (RefusesBatches generation batches.now) }
 {
-    let mut world = World::new(alloc);
+    let mut played = Played::new(alloc);
     let mut last = LastLibrary::none();
     for number in 0..batches.len() {
         let (at, payload) = batches.payload(number);
         let snapshot = is_snapshot(generation, number);
-        match play_one(alloc, world, snapshot, payload, &mut last) {
-            Ok(after) => world = after,
+        match play_one(alloc, played, snapshot, payload, &mut last) {
+            Ok(after) => played = after,
             Err(unplayed) => return Err(stop_of(at, unplayed)),
         }
     }
-    Ok(world)
+    Ok(played)
 }
 
 /// The world that the batches of the disk of this number make of the empty one.
@@ -189,7 +189,7 @@ pub fn play<D: Disk>(
     ensures cause { CountsOne result (D.faults disk.old) (D.faults disk.new) }
 {
     match play_all(alloc, generation, batches) {
-        Ok(world) => Ok(world),
+        Ok(played) => Ok(World::of(alloc, played)?),
         Err(Stop::At(at)) => Err(damaged_at(disk, number, at)),
         Err(Stop::OutOfMemory) => Err(StoreError::OutOfMemory),
     }

@@ -1,3 +1,4 @@
 pub mod Bared
 pub mod Escapes
-pub mod Printed
+pub mod ListTexts
+pub mod Named

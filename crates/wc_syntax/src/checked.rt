@@ -1,23 +1,31 @@
-ghost use Rattle.std.specs.Prelude.{◌≡◌};
+//! Checked libraries, with the printed texts of their definitions.
+
+ghost use Rattle.std.specs.Prelude.{◌≡◌, map, IfOk};
+ghost use Rattle.std.specs.Option.{option_copied, option_map};
 ghost use Rattle.wc_syntax.specs.Bare.{bare_library};
 ghost use Rattle.wc_syntax.specs.Checked.{IsChecked};
+ghost use Rattle.wc_syntax.specs.Findings.{head_of, definition_named};
+ghost use Rattle.wc_syntax.specs.Printing.{printed_definition};
 
-use crate::definition::Library;
-use std::alloc::AllocError;
+use crate::definition::{Definition, Head, Library};
+use crate::printing::print_definition;
+use std::alloc::{AllocError, Global};
 use std::marker::Model;
 use std::rc::Rc;
+use wc_value::{Text, Words};
 
-/// A library that meets the rules of a checked library. Contracts see it as its bare form. Its clones share one library.
+/// A checked library with the printed text of each of its definitions. Contracts see it as the library, with its offsets.
 #[derive(Drop)]
-pub struct Checked {
-    library: Rc<Library>,
+pub struct Printed {
+    library: Library,
+    texts: Words,
 }
 
-impl Model for Checked {
-    ghost use Rattle.std.specs.Prelude.{List};
+impl Model for Printed {
+    ghost use Rattle.std.specs.Prelude.{◌≡◌, List, map};
     ghost use Rattle.wc_syntax.specs.declared.definition.Definition.{Definition};
-    ghost use Rattle.wc_syntax.specs.Bare.{bare_library};
     ghost use Rattle.wc_syntax.specs.Checked.{IsChecked};
+    ghost use Rattle.wc_syntax.specs.Printing.{printed_definition};
 
     ghost Value = { List Definition };
 
@@ -26,18 +34,101 @@ impl Model for Checked {
 
     ghost coded = { coded_list row.the_row.coded };
 
-    ghost view = { λ c. bare_library c.library.value };
+    ghost view = { λ p. p.library };
 
-    ghost invariant = { λ c. IsChecked c.library.value };
+    ghost invariant = { λ p. IsChecked p.library × (p.texts ≡ map printed_definition p.library) };
+}
+
+/// The printed text of each definition.
+fn texts_of(alloc: Global, library: &Library) -> Result<Words, AllocError>
+    ensures { IfOk result (λ texts. texts ≡ map printed_definition library.now) }
+{
+    let mut texts = Words::new(alloc);
+    for definition in library.as_slice() {
+        texts.push(print_definition(alloc, definition)?)?;
+    }
+    Ok(texts)
+}
+
+/// What a definition begins with.
+fn head(definition: &Definition) -> &Head
+    ensures { result.now ≡ head_of definition.now }
+{
+    match definition {
+        Definition::Function(function) => &function.head,
+        Definition::Job(job) => &job.head,
+        Definition::Chain(chain) => &chain.head,
+    }
+}
+
+/// The text of the definition with this name, where the texts are those of the definitions.
+#[tactic(auto, using(crate::proofs::Named::text_at, crate::proofs::Named::text_next))]
+fn text_named<'a>(library: &[Definition], texts: &'a Words, name: &Text) -> Option<&'a Text>
+    requires { texts.now ≡ map printed_definition library.now }
+    ensures { option_copied result ≡ option_map printed_definition (definition_named name.now library.now) }
+{
+    for (at, definition) in library.iter().enumerate() {
+        if head(definition).name.text.bytes() == name.bytes() {
+            return texts.get(at);
+        }
+    }
+    None
+}
+
+impl Printed {
+    /// A library that is known to be checked. Its definitions are printed.
+    pub fn of(alloc: Global, library: Library) -> Result<Printed, AllocError>
+        requires { IsChecked library }
+        ensures { IfOk result (λ printed. printed ≡ library) }
+    {
+        let texts = texts_of(alloc, &library)?;
+        Ok(Printed { library, texts })
+    }
+
+    /// The library, with its offsets.
+    fn library(&self) -> &Library
+        ensures same { result.now ≡ self.now }
+        ensures checked { IsChecked self.now }
+    {
+        &self.library
+    }
+
+    /// The printed text of the definition with this name, if there is one.
+    fn text_of(&self, name: &Text) -> Option<&Text>
+        ensures { option_copied result ≡ option_map printed_definition (definition_named name.now self.now) }
+    {
+        text_named(self.library.as_slice(), &self.texts, name)
+    }
+}
+
+/// A library that meets the rules of a checked library. Contracts see it as its bare form. Its clones share one library,
+/// and the printed texts of its definitions.
+#[derive(Drop)]
+pub struct Checked {
+    printed: Rc<Printed>,
+}
+
+impl Model for Checked {
+    ghost use Rattle.std.specs.Prelude.{List};
+    ghost use Rattle.wc_syntax.specs.declared.definition.Definition.{Definition};
+    ghost use Rattle.wc_syntax.specs.Bare.{bare_library};
+
+    ghost Value = { List Definition };
+
+    ghost use Rattle.std.specs.Coded.{coded_list};
+    ghost use Rattle.wc_syntax.specs.contracts.definition.Definition as row;
+
+    ghost coded = { coded_list row.the_row.coded };
+
+    ghost view = { λ c. bare_library c.printed.value };
 }
 
 impl Checked {
-    /// A library that is known to be checked.
-    pub fn of(library: Rc<Library>) -> Checked
-        requires { IsChecked library.value }
-        ensures { result ≡ bare_library library.value }
+    /// A library that is known to be checked, whose definitions are printed. It takes no memory.
+    pub fn of(printed: Rc<Printed>) -> Checked
+        ensures { result ≡ bare_library printed.value }
     {
-        Checked { library }
+        Checked { printed }
     }
 
     /// The library, with its offsets.
@@ -45,7 +136,15 @@ impl Checked {
         ensures same { bare_library result.now ≡ self.now }
         ensures checked { IsChecked result.now }
     {
-        &self.library
+        self.printed.library()
+    }
+
+    /// The printed text of the definition with this name, if there is one. It takes no memory.
+    #[tactic(auto, using(crate::proofs::Named::text_bare))]
+    pub fn text_of(&self, name: &Text) -> Option<&Text>
+        ensures { option_copied result ≡ option_map printed_definition (definition_named name.now self.now) }
+    {
+        self.printed.text_of(name)
     }
 }
 
@@ -56,7 +155,7 @@ impl Clone for Checked {
 
     fn clone(&self) -> Result<Checked, AllocError> {
         Ok(Checked {
-            library: self.library.clone()?,
+            printed: self.printed.clone()?,
         })
     }
 }

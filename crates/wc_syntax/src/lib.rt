@@ -11,7 +11,7 @@ mod expression;
 mod outline;
 mod printing;
 
-pub use checked::Checked;
+pub use checked::{Checked, Printed};
 pub use definition::{
     Chain, Definition, Exit, ExitCode, ExitCodes, Fetch, Fetches, Function, Head, Job, JobFile,
     JobFiles, JobLine, JobLines, Library, Port, PortList, Rule, RuleList,

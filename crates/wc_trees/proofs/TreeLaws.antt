@@ -14,7 +14,7 @@ use Rattle.wc_world.specs.Consistent.{Stands, IsConsistent}
 use Rattle.wc_world.specs.Trees.{Branch, and_branch, branches, tree_with, tree_within, values_alone, outputs_of}
 use Rattle.wc_trees.specs.TreeLaws.{TreesUnfold, OutputsAreLinked, InputsAreLinked}
 use Rattle.wc_world.proofs.FoundRecords.{found_holds, IsDeeper, call_is_deeper}
-use Rattle.wc_trees.proofs.LinkLabels.{outputs_told, inputs_told}
+use Rattle.wc_fits.proofs.LinkLabels.{outputs_told, inputs_told}
 use Rattle.wc_world.proofs.ReachedWorlds.{reached_is_consistent}
 
 -- ---- trees one level apart

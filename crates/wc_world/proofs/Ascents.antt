@@ -23,6 +23,14 @@ pub ascend_below : (low high n : ℕ) (rs : List ProcessRecord) → high < n →
 ascend_below low high n [] lt up = All-nil (λ r. r.node < n)
 ascend_below low high n (r ∷ rs) lt up = All-cons (λ q. q.node < n) r rs (omega (arith, up.1)) (ascend_below r.node high n rs lt up.2)
 
+-- there are no more of them than numbers up to the bound
+pub ascend_few : (low : ℕ) (rs : List ProcessRecord) (high : ℕ) → Ascend low rs high → low ≤ high → low + length rs ≤ high
+ascend_few low [] high up le = omega (arith, le)
+ascend_few low (r ∷ rs) high up le =
+    let above = up.0 in
+    let rest = ascend_few r.node rs high up.2 up.1 in
+    omega (arith, above, rest)
+
 -- ---- changes keep the numbers ascending
 
 ascend_map : (g : ProcessRecord → ProcessRecord) → ((r : ProcessRecord) → (g r).node ≡ r.node) → (low high : ℕ) (rs : List ProcessRecord)

@@ -22,11 +22,12 @@ mod Needs
 mod Applies
 mod Awaiting
 mod LinkCorrect
+mod ChangedDigests
 pub mod After
 pub mod Leading
 pub mod Outcomes
 pub mod Telling
-pub mod Played
+pub mod Taken
 pub mod Unsettled
 pub mod OneRule
 pub mod OneAnswer

@@ -72,7 +72,7 @@ grows_begun w = record {
 fits_in : (w : World) (r : ProcessRecord) → Stands w r → FitsIn w r
 fits_in w r h = record { defined = h.defined; not_below = h.not_below; not_above = h.not_above; part = h.part; fails = h.fails; standing = h.standing }
 
-sound_begun : (w : World) → IsConsistent w → IsSound (begun w)
+pub sound_begun : (w : World) → IsConsistent w → IsSound (begun w)
 sound_begun w h = record {
   few = h.few;
   shallow = h.shallow;

@@ -1,11 +1,13 @@
 -- The parts of a world, which change one at a time while changes apply.
-use Rattle.std.specs.Prelude.{ℕ, ◌<◌, ◌≤◌, List, [], ◌∷◌}
+use Rattle.std.specs.Prelude.{ℕ, ◌-◌, ◌≤◌, List, length}
 use Rattle.wc_graph.specs.Provenance.{Provenance}
 use Rattle.wc_state.specs.declared.record.ProcessRecord.{ProcessRecord}
+use Rattle.wc_seals.specs.declared.marking.Sealed.{Sealed}
 use Rattle.wc_world.specs.declared.change.Change.{Change}
 use Rattle.wc_world.specs.World.{World, Known}
 use Rattle.wc_world.specs.Accepted.{Setting, Fits}
 use Rattle.wc_world.specs.Room.{Room}
+pub use Rattle.wc_fits.specs.Records.{Ascend}
 
 -- records, with how many further ones take no memory
 abbrev pub RoomyRecords : Type 0
@@ -14,6 +16,10 @@ RoomyRecords = List ProcessRecord × ℕ
 -- libraries, with how many further ones take no memory
 abbrev pub RoomyLibraries : Type 0
 RoomyLibraries = List Known × ℕ
+
+-- entries of calculations that have finished, with for how many of them there are places
+abbrev pub RoomySeals : Type 0
+RoomySeals = List Sealed × ℕ
 
 abbrev pub world_of : Provenance → RoomyRecords → RoomyLibraries → ℕ → World
 world_of graph records libraries batches = record {
@@ -24,17 +30,18 @@ world_of graph records libraries batches = record {
   batches = batches;
 }
 
-abbrev pub room_of : Provenance → RoomyRecords → RoomyLibraries → Room
-room_of graph records libraries = record { nodes = graph.node_room; links = graph.link_room; records = records.1; libraries = libraries.1 }
+abbrev pub room_of : Provenance → RoomyRecords → RoomyLibraries → RoomySeals → Room
+room_of graph records libraries seals = record {
+  nodes = graph.node_room;
+  links = graph.link_room;
+  records = records.1;
+  libraries = libraries.1;
+  seals = seals.1 - length records.0;
+}
 
 -- There is a setting in which the change applies to this world.
 abbrev pub CanApply : World → Change → Type 0
 CanApply w c = (s : Setting) × Fits s w c
-
--- The numbers of records ascend, above the first bound and up to the second.
-abbrev pub Ascend : ℕ → List ProcessRecord → ℕ → Type 0
-Ascend low [] high = Unit {0}
-Ascend low (r ∷ rs) high = (low < r.node) × (r.node ≤ high) × Ascend r.node rs high
 
 -- Nowhere is there less room than before.
 pub record IsAtLeast (before after : Room) : Type 0 where
@@ -42,3 +49,4 @@ pub record IsAtLeast (before after : Room) : Type 0 where
   pub links : before.links ≤ after.links
   pub records : before.records ≤ after.records
   pub libraries : before.libraries ≤ after.libraries
+  pub seals : before.seals ≤ after.seals

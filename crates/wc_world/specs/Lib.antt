@@ -17,3 +17,5 @@ pub mod Calls
 pub mod Drafts
 pub mod Playing
 pub mod Linked
+pub use Rattle.wc_keys.specs.Keys
+pub use Rattle.wc_keys.specs.Ports

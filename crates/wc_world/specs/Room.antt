@@ -10,6 +10,8 @@ pub record Room : Type 0 where
   pub links : ℕ
   pub records : ℕ
   pub libraries : ℕ
+  -- for how many further processes there is a place for a digest
+  pub seals : ℕ
 
 -- a world with its room
 pub record Holding : Type 0 where
@@ -17,20 +19,20 @@ pub record Holding : Type 0 where
   pub room : Room
 
 abbrev pub with_node : Room → Room
-with_node r = record { nodes = suc r.nodes; links = r.links; records = r.records; libraries = r.libraries }
+with_node r = record { nodes = suc r.nodes; links = r.links; records = r.records; libraries = r.libraries; seals = r.seals }
 
 abbrev pub with_link : Room → Room
-with_link r = record { nodes = r.nodes; links = suc r.links; records = r.records; libraries = r.libraries }
+with_link r = record { nodes = r.nodes; links = suc r.links; records = r.records; libraries = r.libraries; seals = r.seals }
 
 abbrev pub with_process : Room → Room
-with_process r = record { nodes = suc r.nodes; links = r.links; records = suc r.records; libraries = r.libraries }
+with_process r = record { nodes = suc r.nodes; links = r.links; records = suc r.records; libraries = r.libraries; seals = suc r.seals }
 
 abbrev pub with_library : Room → Room
-with_library r = record { nodes = r.nodes; links = r.links; records = r.records; libraries = suc r.libraries }
+with_library r = record { nodes = r.nodes; links = r.links; records = r.records; libraries = suc r.libraries; seals = r.seals }
 
 -- the room that changes take
 abbrev pub needed : List Change → Room
-needed [] = record { nodes = 0; links = 0; records = 0; libraries = 0 }
+needed [] = record { nodes = 0; links = 0; records = 0; libraries = 0; seals = 0 }
 needed (change.Library l names ∷ cs) = with_library (needed cs)
 needed (change.Data v ∷ cs) = with_node (needed cs)
 needed (change.Process n ∷ cs) = with_process (needed cs)
@@ -45,3 +47,4 @@ pub record HasRoom (room : Room) (cs : List Change) : Type 0 where
   pub links : (needed cs).links ≤ room.links
   pub records : (needed cs).records ≤ room.records
   pub libraries : (needed cs).libraries ≤ room.libraries
+  pub seals : (needed cs).seals ≤ room.seals

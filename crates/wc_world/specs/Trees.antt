@@ -1,13 +1,10 @@
 -- What a world records of a process: its tree, and the environment of its checkpoint.
 use Rattle.std.specs.Prelude.{ℕ, zero, suc, if◌then◌else◌, List, [], ◌∷◌, Option, Some, None, option_map, option_and_then}
-use Rattle.wc_value.specs.Ascending.{put}
 use Rattle.wc_value.specs.declared.process.Tree.{Tree, roll-Tree}
 use Rattle.wc_value.specs.declared.value.Value.{Value}
-use Rattle.wc_graph.specs.declared.node.NodeKind.{NodeKind}
 use Rattle.wc_graph.specs.declared.link.Link.{Link}
 use Rattle.wc_state.specs.declared.context.CtxRef.{CtxRef}
 use Rattle.wc_state.specs.declared.context.CtxRef.TheVariants as held
-use Rattle.wc_state.specs.declared.environment.NodeValue.{NodeValue}
 use Rattle.wc_state.specs.declared.environment.Child.{Child}
 use Rattle.wc_state.specs.declared.environment.Item.{Item}
 use Rattle.wc_state.specs.declared.environment.Item.TheVariants as item
@@ -16,40 +13,8 @@ use Rattle.wc_state.specs.declared.record.Part.{Part}
 use Rattle.wc_state.specs.declared.record.Part.TheVariants as part
 use Rattle.wc_state.specs.declared.record.ProcessRecord.{ProcessRecord}
 use Rattle.wc_world.specs.World.{World}
-use Rattle.wc_world.specs.Records.{find_record, is_call_from, is_input_of, is_output_of}
-pub use Rattle.wc_fits.specs.Values.{data_of, value_of}
-
--- ---- nodes by label
-
-abbrev pub NamedValues : Type 0
-NamedValues = List (List ℕ × NodeValue)
-
--- the entries with one more, where the node is data
-abbrev pub with_value : List ℕ → ℕ → Option Value → NamedValues → NamedValues
-with_value label id None entries = entries
-with_value label id (Some v) entries = put label (record { node = id; value = v }) entries
-
--- what the links of a process lead from: its inputs, by label
-abbrev pub inputs_after : List NodeKind → ℕ → List Link → NamedValues → NamedValues
-inputs_after nodes pid [] entries = entries
-inputs_after nodes pid (l ∷ ls) entries =
-    inputs_after nodes pid ls (if is_input_of pid l then with_value l.label l.source (value_of nodes l.source) entries else entries)
-
-abbrev pub inputs_of : World → ℕ → NamedValues
-inputs_of w pid = inputs_after w.nodes pid w.links []
-
--- what the links of a process lead to: its outputs, by label
-abbrev pub outputs_after : List NodeKind → ℕ → List Link → NamedValues → NamedValues
-outputs_after nodes pid [] entries = entries
-outputs_after nodes pid (l ∷ ls) entries =
-    outputs_after nodes pid ls (if is_output_of pid l then with_value l.label l.target (value_of nodes l.target) entries else entries)
-
-abbrev pub outputs_of : World → ℕ → NamedValues
-outputs_of w pid = outputs_after w.nodes pid w.links []
-
-abbrev pub values_alone : NamedValues → List (List ℕ × Value)
-values_alone [] = []
-values_alone (e ∷ es) = (e.0, e.1.value) ∷ values_alone es
+use Rattle.wc_world.specs.Records.{find_record, is_call_from}
+pub use Rattle.wc_fits.specs.Values.{data_of, value_of, NamedValues, with_value, inputs_after, inputs_of, outputs_after, outputs_of, values_alone}
 
 -- ---- trees
 

@@ -2,6 +2,7 @@
 
 ghost use Rattle.std.specs.Prelude.{◌≡◌, [], ◌∷◌, ◌++◌, ◌+◌, ◌-◌, ◌<◌, ◌≤◌, ◌^◌, true, false, List, length, All, OnOk};
 ghost use Rattle.wc_graph.specs.Refusals.{IsAllowed};
+ghost use Rattle.wc_graph.specs.Rules.{IsLinkCorrect};
 ghost use Rattle.wc_world.specs.declared.change.Change.{Change};
 ghost use Rattle.wc_records.specs.Readiness.{ended_at};
 ghost use Rattle.wc_world.specs.Records.{at_process, process_node};
@@ -10,21 +11,29 @@ ghost use Rattle.wc_world.specs.Applied.{made, set, after_change, applied};
 ghost use Rattle.wc_world.specs.Accepted.{IsAccepted};
 ghost use Rattle.wc_world.specs.Room.{HasRoom, needed};
 ghost use Rattle.wc_world.specs.Applying.{world_of, room_of, CanApply, Ascend, IsAtLeast};
+ghost use Rattle.wc_world.specs.Keys.{AreSealed, AreDefined, digest_from};
+ghost use Rattle.wc_seals.specs.Order.{AreSealsOf};
 
 use crate::change::{Change, Changes};
 use crate::world::{Known, Libraries, World};
 use std::alloc::{AllocError, Global};
 use wc_fits::{caller_of, node_of_kind};
 use wc_graph::{Graph, Link, NodeKind};
+use wc_keys::{seal, unseal};
 use wc_records::{NewProcess, Records, SetProcess};
+use wc_seals::Seals;
 
 /// How many items changes add.
 #[derive(Drop)]
-struct Need {
-    nodes: usize,
-    links: usize,
-    records: usize,
-    libraries: usize,
+pub(crate) struct Need {
+    /// Nodes, of data and of processes.
+    pub nodes: usize,
+    /// Links.
+    pub links: usize,
+    /// Processes.
+    pub records: usize,
+    /// Libraries.
+    pub libraries: usize,
 }
 
 /// Counts what one more change adds.
@@ -53,13 +62,13 @@ fn count_change(need: &mut Need, change: &Change)
 }
 
 /// Counts what changes add.
-fn count(changes: &[Change]) -> Need
+pub(crate) fn count(changes: &[Change]) -> Need
     requires { length changes.now < 2 ^ 32 }
     ensures nodes { result.nodes ≡ (needed changes.now).nodes }
     ensures links { result.links ≡ (needed changes.now).links }
     ensures records { result.records ≡ (needed changes.now).records }
     ensures libraries { result.libraries ≡ (needed changes.now).libraries }
-    ensures few { (result.nodes < 2 ^ 32) × (result.links < 2 ^ 32) }
+    ensures few { (result.nodes < 2 ^ 32) × (result.links < 2 ^ 32) × (result.records < 2 ^ 32) }
 {
     let mut need = Need {
         nodes: 0,
@@ -130,28 +139,83 @@ pub(crate) fn set_process(graph: &Graph, records: &mut Records, batch: u32, chan
     records.set(batch, change, caller);
 }
 
+/// Puts a link that breaks no rule at the end, and makes the entry of its target anew, where it has one.
+fn put_link_sealed(
+    graph: &mut Graph,
+    records: &Records,
+    libraries: &[Known],
+    seals: &mut Seals,
+    link: Link,
+)
+    requires allowed { IsAllowed graph.old.nodes graph.old.links link }
+    requires room { 0 < graph.old.link_room }
+    requires sealed { AreSealsOf (digest_from graph.old.nodes graph.old.links libraries.now records.now.0) seals.old.0 }
+    requires places { length records.now.0 ≤ seals.old.1 }
+    ensures links { graph.new.links ≡ graph.old.links ++ link ∷ [] }
+    ensures others { (graph.new.nodes ≡ graph.old.nodes) × (graph.new.node_room ≡ graph.old.node_room) }
+    ensures room { graph.old.link_room ≤ graph.new.link_room + 1 }
+    ensures sealed { AreSealsOf (digest_from graph.new.nodes graph.new.links libraries.now records.now.0) seals.new.0 }
+    ensures places { seals.new.1 ≡ seals.old.1 }
+{
+    let pid = link.target;
+    unseal(graph, libraries, records, seals, pid);
+    put_link(graph, link);
+    seal(graph, libraries, records, seals, pid);
+}
+
+/// Sets what a process is from now on, and makes its entry, where it has finished as a calculation.
+fn set_process_sealed(
+    graph: &Graph,
+    records: &mut Records,
+    libraries: &[Known],
+    seals: &mut Seals,
+    batch: u32,
+    change: SetProcess,
+)
+    requires live { ended_at records.old.0 change.pid ≡ false }
+    requires awaits { All (λ r. awaits_called graph.now.links r ≡ true) records.old.0 }
+    requires sealed { AreSealsOf (digest_from graph.now.nodes graph.now.links libraries.now records.old.0) seals.old.0 }
+    requires places { length records.old.0 ≤ seals.old.1 }
+    ensures records { records.new ≡ (at_process change.pid (set batch change) records.old.0, records.old.1) }
+    ensures sealed { AreSealsOf (digest_from graph.now.nodes graph.now.links libraries.now records.new.0) seals.new.0 }
+    ensures places { seals.new.1 ≡ seals.old.1 }
+{
+    let pid = change.pid;
+    set_process(graph, records, batch, change);
+    seal(graph, libraries, records, seals, pid);
+}
+
 /// Applies one change to the parts of a world, in the batch of this number.
 fn apply_change(
     graph: &mut Graph,
     records: &mut Records,
     libraries: &mut Libraries,
     batches: &mut u32,
+    seals: &mut Seals,
     batch: u32,
     change: Change,
 )
     requires fits { CanApply (world_of graph.old records.old libraries.old batches.old) change }
     requires ascending { Ascend 0 records.old.0 (length graph.old.nodes) }
     requires awaits { AwaitsCalled (world_of graph.old records.old libraries.old batches.old) }
-    requires room { HasRoom (room_of graph.old records.old libraries.old) (change ∷ []) }
+    requires correct { IsLinkCorrect graph.old.nodes graph.old.links }
+    requires defined { AreDefined (world_of graph.old records.old libraries.old batches.old) }
+    requires sealed { AreSealed (world_of graph.old records.old libraries.old batches.old) seals.old.0 }
+    requires places { length records.old.0 ≤ seals.old.1 }
+    requires room { HasRoom (room_of graph.old records.old libraries.old seals.old) (change ∷ []) }
     ensures world { world_of graph.new records.new libraries.new batches.new ≡ after_change batch (world_of graph.old records.old libraries.old batches.old) change }
-    ensures room { (cs : List Change) → HasRoom (room_of graph.old records.old libraries.old) (change ∷ cs) → HasRoom (room_of graph.new records.new libraries.new) cs }
+    ensures sealed { AreSealed (world_of graph.new records.new libraries.new batches.new) seals.new.0 }
+    ensures places { length records.new.0 ≤ seals.new.1 }
+    ensures room { (cs : List Change) → HasRoom (room_of graph.old records.old libraries.old seals.old) (change ∷ cs) → HasRoom (room_of graph.new records.new libraries.new seals.new) cs }
 {
     match change {
         Change::Library(library, names) => put_library(libraries, (library, names)),
         Change::Data(value) => put_node(graph, NodeKind::Data(value)),
         Change::Process(process) => put_process(graph, records, process),
-        Change::Link(link) => put_link(graph, link),
-        Change::Set(set) => set_process(graph, records, batch, set),
+        Change::Link(link) => put_link_sealed(graph, records, libraries.as_slice(), seals, link),
+        Change::Set(set) => {
+            set_process_sealed(graph, records, libraries.as_slice(), seals, batch, set)
+        }
         Change::Count(count) => *batches = count,
         Change::Kept(kept) => records.keep(kept),
     }
@@ -159,6 +223,7 @@ fn apply_change(
 
 impl World {
     /// Makes room for the changes, and changes nothing else.
+    #[tactic(auto, using(crate::proofs::Needs::needed_seals))]
     pub fn reserve(&mut self, _alloc: Global, changes: &Changes) -> Result<(), AllocError>
         ensures same { self.new.world ≡ self.old.world }
         ensures room { OnOk result (HasRoom self.new.room changes.now) }
@@ -168,10 +233,13 @@ impl World {
         let need = count(changes.as_slice());
         self.graph.reserve(need.nodes as u32, need.links as u32)?;
         self.records.reserve(need.records)?;
-        self.libraries.reserve(need.libraries)
+        self.libraries.reserve(need.libraries)?;
+        let held = self.records.len();
+        let places = held + need.records;
+        self.seals.reserve(places)
     }
 
-    /// Applies changes that the world accepts. It takes no memory.
+    /// Applies changes that the world accepts. It takes no memory, not for the digests of what they finish either.
     pub fn apply(&mut self, changes: Changes)
         requires accepted { IsAccepted self.old.world changes }
         requires room { HasRoom self.old.room changes }
@@ -185,6 +253,7 @@ impl World {
                 &mut self.records,
                 &mut self.libraries,
                 &mut self.batches,
+                &mut self.seals,
                 batch,
                 change,
             );

@@ -3,6 +3,7 @@
 ghost use Rattle.std.specs.Prelude.{◌≡◌, IfOk};
 
 use crate::change::{Change, Changes};
+use crate::played::Played;
 use crate::world::{Libraries, World};
 use std::alloc::{AllocError, Global};
 use wc_value::Duplicate;
@@ -44,14 +45,14 @@ fn copy_libraries(alloc: Global, libraries: &Libraries) -> Result<Libraries, All
 }
 
 impl World {
-    /// An equal world with memory of its own.
-    pub(crate) fn copy(&self, alloc: Global) -> Result<World, AllocError>
-        ensures { IfOk result (λ copy. copy.world ≡ self.now.world) }
+    /// What made an equal world, with memory of its own.
+    pub(crate) fn copy(&self, alloc: Global) -> Result<Played, AllocError>
+        ensures { IfOk result (λ copy. copy ≡ self.now.world) }
     {
         let graph = self.graph.copy(alloc)?;
         let records = self.records.copy(alloc)?;
         let libraries = copy_libraries(alloc, &self.libraries)?;
-        Ok(World {
+        Ok(Played {
             graph,
             records,
             libraries,

@@ -12,6 +12,7 @@ mod copies;
 mod draft;
 mod error;
 mod laws;
+mod played;
 mod playing;
 mod readiness;
 mod settling;
@@ -26,5 +27,7 @@ pub use laws::{
     changes_have_one_answer, links_stay_correct, reached_worlds_are_consistent,
     snapshots_give_the_world,
 };
+pub use played::Played;
 pub use wc_records::{Kept, NewProcess, Records, SetProcess, has_ended};
+pub use wc_seals::Sealed;
 pub use world::{Known, Libraries, World};

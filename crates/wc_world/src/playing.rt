@@ -10,26 +10,28 @@ ghost use Rattle.wc_world.specs.Calls.{AwaitsCalled};
 ghost use Rattle.wc_world.specs.Drafts.{drafted, Ascends, AreSettledBut};
 ghost use Rattle.wc_world.specs.Playing.{ApplyBy, FirstRefusedBy};
 
+use crate::applying::count;
 use crate::change::Changes;
 use crate::copies::copy_changes;
 use crate::draft::Draft;
 use crate::error::WorldError;
+use crate::played::Played;
 use crate::terms::Terms;
 use crate::world::World;
-use std::alloc::Global;
+use std::alloc::{AllocError, Global};
 
 /// The most batches that a world takes.
 const MOST_BATCHES: u32 = 4_000_000_000;
 
-impl World {
+impl Played {
     /// The draft with which a batch begins.
     fn begin(self, alloc: Global) -> Draft
-        requires { self.world.batches < 4000000000 }
-        ensures world { drafted result ≡ begun self.world }
+        requires { self.batches < 4000000000 }
+        ensures world { drafted result ≡ begun self }
         ensures ascending { Ascends (drafted result) }
         ensures awaits { AwaitsCalled (drafted result) }
         ensures settled { AreSettledBut result.touched.items result.graph.links result.records.0 }
-        ensures reached { IsReached self.world }
+        ensures reached { IsReached self }
     {
         Draft {
             graph: self.graph,
@@ -59,19 +61,19 @@ impl Draft {
         Ok(())
     }
 
-    /// The world, if each process is settled, or else the least one that isn't. Each process is looked at once.
-    fn settle(mut self) -> Result<World, WorldError>
+    /// What was made, if each process is settled, or else the least one that isn't. Each process is looked at once.
+    fn settle(mut self) -> Result<Played, WorldError>
         requires ascending { Ascends (drafted self) }
         requires others { AreSettledBut self.touched.items self.graph.links self.records.0 }
         requires reached { unsettled self.graph.links self.records.0 ≡ None → IsReached (drafted self) }
-        ensures world { IfOk result (λ w. w.world ≡ drafted self) }
+        ensures world { IfOk result (λ w. w ≡ drafted self) }
         ensures settled { OnOk result (unsettled self.graph.links self.records.0 ≡ None) }
         ensures refused { IfErr result (λ e. (pid : ℕ) × (unsettled self.graph.links self.records.0 ≡ Some pid) × (e ≡ error.BadRecord pid)) }
     {
         self.touched.sort_unstable();
         match self.find_unsettled() {
             Some(pid) => Err(WorldError::BadRecord(pid)),
-            None => Ok(World {
+            None => Ok(Played {
                 graph: self.graph,
                 records: self.records,
                 libraries: self.libraries,
@@ -81,34 +83,47 @@ impl Draft {
     }
 }
 
-impl World {
-    /// The world after changes that it takes, or else the first reason why it doesn't take them: one batch too many, the
-    /// first change that doesn't apply to the world as those before it left it, or the first process that isn't settled
-    /// after the last one. Each change is tested once, against what stands.
-    pub fn play(alloc: Global, mut world: World, changes: Changes) -> Result<World, WorldError>
-        ensures accepted { OnOk result (IsAccepted world.world changes) }
-        ensures after { IfOk result (λ after. after.world ≡ applied world.world changes) }
-        ensures refused { IfErr result (λ e. (e ≡ error.OutOfMemory) ⊎ IsRefused world.world changes e) }
+impl Played {
+    /// Makes room for the changes, and changes nothing else.
+    fn reserve(&mut self, changes: &Changes) -> Result<(), AllocError>
+        ensures { self.new ≡ self.old }
     {
-        if world.batches() >= MOST_BATCHES {
+        let _ = changes.len();
+        let need = count(changes.as_slice());
+        self.graph.reserve(need.nodes as u32, need.links as u32)?;
+        self.records.reserve(need.records)?;
+        self.libraries.reserve(need.libraries)
+    }
+
+    /// What changes make of it, or else the first reason why it doesn't take them: one batch too many, the first change that
+    /// doesn't apply to the world as those before it left it, or the first process that isn't settled after the last one.
+    /// Each change is tested once, against what stands.
+    pub fn play(alloc: Global, mut played: Played, changes: Changes) -> Result<Played, WorldError>
+        ensures accepted { OnOk result (IsAccepted played changes) }
+        ensures after { IfOk result (λ after. after ≡ applied played changes) }
+        ensures refused { IfErr result (λ e. (e ≡ error.OutOfMemory) ⊎ IsRefused played changes e) }
+    {
+        if played.batches >= MOST_BATCHES {
             return Err(WorldError::BadRecord(0));
         }
-        let terms = world.terms(alloc, changes.as_slice())?;
-        world.reserve(alloc, &changes)?;
-        let mut draft = world.begin(alloc);
+        let terms = played.terms(alloc, changes.as_slice())?;
+        played.reserve(&changes)?;
+        let mut draft = played.begin(alloc);
         draft.take_all(alloc, &terms, changes)?;
         draft.settle()
     }
+}
 
+impl World {
     /// Whether the world takes the changes, or else the first reason why not: one batch too many, the first change that
     /// doesn't apply to the world as those before it left it, or the first process that isn't settled after the last one.
-    /// The changes are played on a copy of the world.
+    /// The changes are played on a copy of what made the world.
     pub fn accepts(&self, alloc: Global, changes: &Changes) -> Result<(), WorldError>
         ensures ok { OnOk result (IsAccepted self.now.world changes.now) }
         ensures refused { IfErr result (λ e. (e ≡ error.OutOfMemory) ⊎ IsRefused self.now.world changes.now e) }
     {
         let copied = self.copy(alloc)?;
-        World::play(alloc, copied, copy_changes(alloc, changes)?)?;
+        Played::play(alloc, copied, copy_changes(alloc, changes)?)?;
         Ok(())
     }
 }

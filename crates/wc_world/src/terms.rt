@@ -6,8 +6,8 @@ ghost use Rattle.wc_world.specs.Slots.{AreSlotsIn};
 ghost use Rattle.wc_world.specs.Drafts.{Tells};
 
 use crate::change::Change;
+use crate::played::Played;
 use crate::slots::{Slot, snapshot_slots};
-use crate::world::World;
 use std::alloc::{AllocError, Global};
 
 /// The number of a batch, and what the changes of a snapshot say at their end.
@@ -35,21 +35,21 @@ fn count_in(changes: &[Change]) -> u32
     0
 }
 
-impl World {
+impl Played {
     /// Whether the world has nothing.
     fn is_empty(&self) -> bool
-        ensures { result ≡ is_empty self.now.world }
+        ensures { result ≡ is_empty self.now }
     {
-        self.graph().nodes().len() == 0
-            && self.graph().links().len() == 0
-            && self.records().len() == 0
-            && self.libraries().len() == 0
-            && self.batches() == 0
+        self.graph.nodes().len() == 0
+            && self.graph.links().len() == 0
+            && self.records.len() == 0
+            && self.libraries.len() == 0
+            && self.batches == 0
     }
 
     /// What the Kepts of changes tell of each node, if they are a snapshot.
     fn slots(&self, alloc: Global, all: &[Change]) -> Result<Option<Vec<Slot>>, AllocError>
-        ensures { IfOk result (λ slots. AreSlotsIn self.now.world all.now (option_map (λ v. v.items) slots)) }
+        ensures { IfOk result (λ slots. AreSlotsIn self.now all.now (option_map (λ v. v.items) slots)) }
     {
         if self.is_empty() {
             snapshot_slots(alloc, all)
@@ -60,10 +60,10 @@ impl World {
 
     /// What is known of the next batch, where its changes are these.
     pub(crate) fn terms(&self, alloc: Global, all: &[Change]) -> Result<Terms, AllocError>
-        requires { self.now.world.batches < 4000000000 }
-        ensures { IfOk result (λ terms. Tells terms (setting self.now.world all.now)) }
+        requires { self.now.batches < 4000000000 }
+        ensures { IfOk result (λ terms. Tells terms (setting self.now all.now)) }
     {
-        let batch = self.batches() + 1;
+        let batch = self.batches + 1;
         let count = count_in(all);
         match self.slots(alloc, all)? {
             Some(slots) => Ok(Terms {

@@ -5,12 +5,15 @@ ghost use Rattle.wc_records.specs.Readiness.{ready_at, AreDues, live_in};
 ghost use Rattle.wc_world.specs.World.{empty};
 ghost use Rattle.wc_world.specs.Records.{find_record};
 ghost use Rattle.wc_world.specs.Accepted.{IsReached};
+ghost use Rattle.wc_seals.specs.Order.{IsPartOf};
+ghost use Rattle.wc_world.specs.Keys.{digest_at};
 
 use std::alloc::Global;
 use std::marker::Model;
 pub use wc_fits::{Known, Libraries};
 use wc_graph::Graph;
 use wc_records::Records;
+use wc_seals::{Sealed, Seals};
 use wc_state::ProcessRecord;
 
 /// Everything that a store holds. It changes by whole lists of changes alone, each of which it accepts.
@@ -20,11 +23,14 @@ pub struct World {
     pub(crate) records: Records,
     pub(crate) libraries: Libraries,
     pub(crate) batches: u32,
+    pub(crate) seals: Seals,
 }
 
 impl Model for World {
+    ghost use Rattle.std.specs.Prelude.{◌-◌, ◌≤◌, length};
     ghost use Rattle.wc_world.specs.Room.{Holding};
     ghost use Rattle.wc_world.specs.Accepted.{IsReached};
+    ghost use Rattle.wc_world.specs.Keys.{AreSealed};
 
     ghost Value = { Holding };
 
@@ -36,10 +42,12 @@ impl Model for World {
 
     ghost view = { λ a. record {
       world = record { nodes = a.graph.nodes; links = a.graph.links; records = a.records.0; libraries = a.libraries.0; batches = a.batches };
-      room = record { nodes = a.graph.node_room; links = a.graph.link_room; records = a.records.1; libraries = a.libraries.1 };
+      room = record { nodes = a.graph.node_room; links = a.graph.link_room; records = a.records.1; libraries = a.libraries.1; seals = a.seals.1 - length a.records.0 };
     } };
 
-    ghost invariant = { λ a. IsReached (record { nodes = a.graph.nodes; links = a.graph.links; records = a.records.0; libraries = a.libraries.0; batches = a.batches }) };
+    ghost invariant = { λ a. IsReached (record { nodes = a.graph.nodes; links = a.graph.links; records = a.records.0; libraries = a.libraries.0; batches = a.batches })
+        × AreSealed (record { nodes = a.graph.nodes; links = a.graph.links; records = a.records.0; libraries = a.libraries.0; batches = a.batches }) a.seals.0
+        × (length a.records.0 ≤ a.seals.1) };
 }
 
 impl World {
@@ -52,6 +60,7 @@ impl World {
             records: Records::new(alloc),
             libraries: Libraries::new(alloc),
             batches: 0,
+            seals: Seals::new(alloc),
         }
     }
 
@@ -105,6 +114,14 @@ impl World {
         ensures { AreDues self.now.world.records result.now }
     {
         self.records.ready_later()
+    }
+
+    /// The calculations that have finished with this digest of their keys, in order of their numbers. The key is that of the
+    /// links as they stand. It takes no memory.
+    pub fn with_digest(&self, digest: &[u8]) -> &[Sealed]
+        ensures { IsPartOf (digest_at self.now.world) digest.now result.now }
+    {
+        self.seals.part(digest)
     }
 
     /// How many processes haven't ended.

@@ -1,9 +1,12 @@
-use Rattle.std.proofs.Common.{◌+◌, take}
+use Rattle.std.proofs.Common.{◌≡◌, ◌+◌, Some, take}
 use Rattle.std.specs.Prelude.{All}
 use Rattle.wc_state.specs.declared.record.ProcessRecord.{ProcessRecord}
+use Rattle.wc_seals.specs.declared.marking.Sealed.{Sealed}
+use Rattle.wc_world.specs.Records.{find_record}
 use Rattle.wc_cache.specs.Finding.{IsSourceWith}
 use Rattle.wc_cache.proofs.finding.find.Given as goal
 
-abbrev pub invariant-loop-process : goal.invariant-loop-process
-invariant-loop-process l =
-    All (λ (q : ProcessRecord). IsSourceWith l.world.world (l.world.world.batches + 1) l.key q → ⊥) (take l.process-index l.process-items)
+abbrev pub invariant-loop-seal : goal.invariant-loop-seal
+invariant-loop-seal l =
+    All (λ (s : Sealed). (q : ProcessRecord) → find_record s.pid l.world.world.records ≡ Some q → IsSourceWith l.world.world (l.world.world.batches + 1) l.key q → ⊥)
+    (take l.seal-index l.seal-items)

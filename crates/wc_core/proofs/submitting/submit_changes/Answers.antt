@@ -15,7 +15,7 @@ returns-in-Err-clause-refused c =
     let w = a.world.now.world in
     let most = a.limits.now.max_nodes in
     let t = c.in_ok-kind.ensures.ok in
-    refuses_submission w a.library a.caching a.name.now a.inputs most c.in-Err.error t.definition (search rules) c.requires.ascending (search rules) t.is_there t.takes
+    refuses_submission w a.library a.caching a.name.now a.inputs most c.in-Err.error t.definition (c.library-checked.result.now, c.library-checked.ensures.checked, c.library-checked.ensures.same) c.requires.ascending (search rules) t.is_there t.takes
     (subst (λ (n : ℕ). RefusesCounts (length w.nodes + (n + 1)) (w.batches + 1) most c.in-Err.error) c.len.ensures.value c.in-Err.ensures.refused)
 
 pub returns-in_ok-submission-in-Ok-clause-room : goal.returns-in_ok-submission-in-Ok-clause-room
@@ -36,7 +36,7 @@ returns-in_ok-submission-in-Ok-clause-none c =
     let t = c.in_ok-kind.ensures.ok in
     let cs = submission w a.library a.caching a.name.now a.inputs t.definition in
     let s : Submits w a.library a.caching a.name.now a.inputs cs
-    = record { checked = search rules; names = c.requires.ascending; values = search rules; definition = t.definition; is_there = t.is_there; takes = t.takes; changes = refl } in
+    = record { checked = (c.library-checked.result.now, c.library-checked.ensures.checked, c.library-checked.ensures.same); names = c.requires.ascending; values = search rules; definition = t.definition; is_there = t.is_there; takes = t.takes; changes = refl } in
     submission_allowed w a.library a.caching a.name.now a.inputs cs s most
     (submission_fits w a.library a.caching a.name.now a.inputs most t.definition
     (subst (λ (n : ℕ). AreFew (length w.nodes + (n + 1)) (w.batches + 1) most) c.len.ensures.value c.in-Ok.ensures.ok))
@@ -50,7 +50,7 @@ returns-in_ok-submission-in-Ok-clause-accepted c =
     let cs = c.in_ok-submission-in-Ok.field-0 in
     let gives : cs ≡ submission w a.library a.caching a.name.now a.inputs t.definition = c.in_ok-submission-in-Ok.ensures t.definition t.is_kind in
     let s : Submits w a.library a.caching a.name.now a.inputs cs
-    = record { checked = search rules; names = c.requires.ascending; values = search rules; definition = t.definition; is_there = t.is_there; takes = t.takes; changes = gives } in
+    = record { checked = (c.library-checked.result.now, c.library-checked.ensures.checked, c.library-checked.ensures.same); names = c.requires.ascending; values = search rules; definition = t.definition; is_there = t.is_there; takes = t.takes; changes = gives } in
     let room : HasRoom most (applied w cs)
     = subst (λ (xs : List Change). HasRoom most (applied w xs)) (sym gives)
     (submission_fits w a.library a.caching a.name.now a.inputs most t.definition
@@ -65,7 +65,7 @@ returns-in_ok-submission-in-Ok-clause-continues c =
     let cs = c.in_ok-submission-in-Ok.field-0 in
     let gives : cs ≡ submission w a.library a.caching a.name.now a.inputs t.definition = c.in_ok-submission-in-Ok.ensures t.definition t.is_kind in
     let s : Submits w a.library a.caching a.name.now a.inputs cs
-    = record { checked = search rules; names = c.requires.ascending; values = search rules; definition = t.definition; is_there = t.is_there; takes = t.takes; changes = gives } in
+    = record { checked = (c.library-checked.result.now, c.library-checked.ensures.checked, c.library-checked.ensures.same); names = c.requires.ascending; values = search rules; definition = t.definition; is_there = t.is_there; takes = t.takes; changes = gives } in
     submission_continues w a.library a.caching a.name.now a.inputs cs s c.graph-graph.ensures.reached
 
 pub returns-in_ok-submission-in-Ok-clause-sound : goal.returns-in_ok-submission-in-Ok-clause-sound
@@ -77,7 +77,7 @@ returns-in_ok-submission-in-Ok-clause-sound c =
     let cs = c.in_ok-submission-in-Ok.field-0 in
     let gives : cs ≡ submission w a.library a.caching a.name.now a.inputs t.definition = c.in_ok-submission-in-Ok.ensures t.definition t.is_kind in
     let s : Submits w a.library a.caching a.name.now a.inputs cs
-    = record { checked = search rules; names = c.requires.ascending; values = search rules; definition = t.definition; is_there = t.is_there; takes = t.takes; changes = gives } in
+    = record { checked = (c.library-checked.result.now, c.library-checked.ensures.checked, c.library-checked.ensures.same); names = c.requires.ascending; values = search rules; definition = t.definition; is_there = t.is_there; takes = t.takes; changes = gives } in
     let room : HasRoom most (applied w cs)
     = subst (λ (xs : List Change). HasRoom most (applied w xs)) (sym gives)
     (submission_fits w a.library a.caching a.name.now a.inputs most t.definition

@@ -7,4 +7,4 @@ use Rattle.wc_store.proofs.loading.play_all.Given as goal
 abbrev pub invariant-loop-number : goal.invariant-loop-number
 invariant-loop-number l =
     (disk : ℕ) (image : List ℕ) (s : Standing)
-    → Plays disk image l.fn.generation l.number l.world.world (drop l.number l.fn.batches) s → Plays disk image l.fn.generation 0 empty l.fn.batches s
+    → Plays disk image l.fn.generation l.number l.played (drop l.number l.fn.batches) s → Plays disk image l.fn.generation 0 empty l.fn.batches s

@@ -17,4 +17,4 @@ count_change-requires-clause-libraries c = omega (arith, (needed_is_short c.args
 pub returns-clause-few : goal.returns-clause-few
 returns-clause-few c =
     let short = needed_is_short c.args.changes.now in
-    (omega (arith, short.nodes), omega (arith, short.links))
+    (omega (arith, short.nodes), omega (arith, short.links), omega (arith, short.records))

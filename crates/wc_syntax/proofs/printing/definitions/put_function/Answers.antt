@@ -1,7 +1,7 @@
 use Rattle.std.proofs.Common.{string_bytes}
 use Rattle.std.specs.Prelude.{codes}
 use Rattle.wc_syntax.specs.Printing.{start_lines, closed, rule_lines, inside}
-use Rattle.wc_syntax.proofs.Printed.{in_two}
+use Rattle.wc_syntax.proofs.ListTexts.{in_two}
 use Rattle.wc_syntax.proofs.printing.definitions.put_function.Goals as goal
 
 pub returns : goal.returns

@@ -1,5 +1,5 @@
 use Rattle.std.proofs.Common.{◌≡◌, ◌++◌, OnOk, string_bytes, sym, subst}
-use Rattle.wc_syntax.proofs.Printed.{list_text}
+use Rattle.wc_syntax.proofs.ListTexts.{list_text}
 use Rattle.wc_syntax.proofs.printing.expressions.+print.Goals as goal
 
 pub put_list-returns : goal.put_list-returns

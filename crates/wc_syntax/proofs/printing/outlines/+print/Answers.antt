@@ -1,5 +1,5 @@
 use Rattle.std.proofs.Common.{◌≡◌, ◌++◌, OnOk, string_bytes, sym, subst}
-use Rattle.wc_syntax.proofs.Printed.{block_text}
+use Rattle.wc_syntax.proofs.ListTexts.{block_text}
 use Rattle.wc_syntax.proofs.printing.outlines.+print.Goals as goal
 
 pub put_block-returns : goal.put_block-returns

@@ -1,0 +1,5 @@
+pub mod Ports
+pub mod Walked
+pub mod TextDigests
+pub mod OneEntry
+pub mod SealEntries

@@ -1,0 +1,4 @@
+pub mod Hashing
+pub mod Keys
+pub mod Order
+pub mod Laws

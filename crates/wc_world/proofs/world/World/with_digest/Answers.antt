@@ -1,0 +1,15 @@
+use Rattle.std.proofs.Common.{sym, subst}
+use Rattle.wc_seals.specs.Order.{IsPartOf}
+use Rattle.wc_seals.proofs.Parts.{parts_are_exact}
+use Rattle.wc_world.specs.Room.{Holding}
+use Rattle.wc_world.specs.Applying.{world_of}
+use Rattle.wc_world.specs.Keys.{digest_at}
+use Rattle.wc_world.proofs.world.World.with_digest.Goals as goal
+
+pub returns : goal.returns
+returns c =
+    let i = c.self.inside in
+    let w = world_of i.graph i.records i.libraries i.batches in
+    let digest = c.args.digest.now in
+    subst (λ (h : Holding). IsPartOf (digest_at h.world) digest c.part.result.now) c.self.view_is
+    (subst (IsPartOf (digest_at w) digest) (sym c.part.ensures.part) (parts_are_exact (digest_at w) i.seals.0 digest c.self.invariant.1))

@@ -1,3 +1,4 @@
 pub mod Correct
 pub mod Walking
 pub mod Indexing
+pub mod Labelling

@@ -4,3 +4,4 @@ pub mod Provenance
 pub mod Index
 pub mod Broken
 pub mod Walks
+pub mod Labels

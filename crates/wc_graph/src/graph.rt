@@ -1,11 +1,14 @@
-ghost use Rattle.std.specs.Prelude.{◌≡◌, ℕ, [], ◌∷◌, ◌++◌, ◌+◌, ◌-◌, ◌<◌, ◌≤◌, ◌↔◌, ◌⊎◌, length, IfOk, OnOk, OnErr, IsOk, IsErrOf};
+ghost use Rattle.std.specs.Prelude.{◌≡◌, ℕ, [], ◌∷◌, ◌++◌, ◌+◌, ◌-◌, ◌<◌, ◌≤◌, ◌↔◌, ◌⊎◌, length, IfOk, OnOk, OnErr, IsOk, IsErrOf, IsTrue};
 ghost use Rattle.wc_graph.specs.Rules.{IsLinkCorrect};
 ghost use Rattle.wc_graph.specs.Index.{Skips, source_of, target_of};
-ghost use Rattle.wc_graph.specs.Refusals.{IsAllowed, Refuses, RefusesExactly};
+ghost use Rattle.wc_graph.specs.Labels.{side};
+ghost use Rattle.wc_graph.specs.Refusals.{IsAllowed, Refuses, RefusesExactly, LabelIsTaken, TripleIsTaken};
 
+use crate::busy::gather;
 use crate::copies::{copy_links, copy_nodes};
 use crate::error::GraphError;
 use crate::index::Index;
+use crate::labels::{End, Labels, label_node};
 use crate::link::Link;
 use crate::node::NodeKind;
 use crate::rules;
@@ -29,6 +32,8 @@ pub struct Graph {
     links: Links,
     by_source: Index,
     by_target: Index,
+    at_source: Labels,
+    at_target: Labels,
 }
 
 impl Model for Graph {
@@ -36,6 +41,8 @@ impl Model for Graph {
     ghost use Rattle.wc_graph.specs.Rules.{IsLinkCorrect};
     ghost use Rattle.wc_graph.specs.Provenance.{Provenance};
     ghost use Rattle.wc_graph.specs.Index.{IsIndexed, source_of, target_of};
+    ghost use Rattle.wc_graph.specs.Labels.{IsLabelled};
+    ghost use Rattle.wc_graph.specs.declared.labels.End.TheVariants.{Source, Target};
 
     ghost Value = { Provenance };
 
@@ -48,11 +55,14 @@ impl Model for Graph {
 
     ghost invariant = { λ a. IsLinkCorrect a.nodes.0 a.links.0 × (length a.nodes.0 ≤ 8000000)
         × IsIndexed source_of a.links.0 (length a.nodes.0) a.by_source
-        × IsIndexed target_of a.links.0 (length a.nodes.0) a.by_target };
+        × IsIndexed target_of a.links.0 (length a.nodes.0) a.by_target
+        × IsLabelled Source a.links.0 a.at_source.busy
+        × IsLabelled Target a.links.0 a.at_target.busy };
 }
 
 impl Graph {
     /// A graph with no nodes, which takes no memory.
+    #[tactic(auto, using(crate::proofs::Labelling::none_busy))]
     pub fn new(alloc: Global) -> Graph
         ensures nodes { result.nodes ≡ [] }
         ensures links { result.links ≡ [] }
@@ -62,10 +72,13 @@ impl Graph {
             links: Links::new(alloc),
             by_source: Index::new(alloc),
             by_target: Index::new(alloc),
+            at_source: Labels::new(alloc),
+            at_target: Labels::new(alloc),
         }
     }
 
-    /// An equal graph with memory of its own.
+    /// An equal graph with memory of its own, where no node is busy yet.
+    #[tactic(auto, using(crate::proofs::Labelling::none_busy))]
     pub fn copy(&self, alloc: Global) -> Result<Graph, AllocError>
         ensures nodes { IfOk result (λ copy. copy.nodes ≡ self.now.nodes) }
         ensures links { IfOk result (λ copy. copy.links ≡ self.now.links) }
@@ -79,6 +92,8 @@ impl Graph {
             links,
             by_source,
             by_target,
+            at_source: Labels::new(alloc),
+            at_target: Labels::new(alloc),
         })
     }
 
@@ -163,6 +178,51 @@ impl Graph {
         }
     }
 
+    /// Where a walk down the links that have a node at this end begins.
+    pub(crate) fn last_at(&self, end: End, node: u32) -> usize
+        ensures { Skips (side end) self.now.links node (length self.now.links) result }
+    {
+        match end {
+            End::Source => self.last_from(node),
+            End::Target => self.last_into(node),
+        }
+    }
+
+    /// Where a walk down the links that have a node at this end goes on below a place.
+    pub(crate) fn before_at(&self, end: End, node: u32, at: usize) -> usize
+        requires some { 0 < at }
+        requires within { at ≤ length self.now.links }
+        ensures { Skips (side end) self.now.links node (at - 1) result }
+    {
+        match end {
+            End::Source => self.before_from(node, at),
+            End::Target => self.before_into(node, at),
+        }
+    }
+
+    /// Whether a node isn't busy at this end and may become so.
+    pub(crate) fn may_be_busy(&self, end: End, node: u32) -> bool {
+        match end {
+            End::Source => self.at_source.takes(node),
+            End::Target => self.at_target.takes(node),
+        }
+    }
+
+    /// Whether the link's label stands once at a busy node, and is known to be free there.
+    pub(crate) fn is_label_free(&self, link: &Link) -> bool
+        ensures triple { IsTrue result → ¬ TripleIsTaken self.now.links link.now }
+        ensures label { IsTrue result → ¬ LabelIsTaken self.now.links link.now }
+    {
+        if self
+            .at_source
+            .lacks(label_node(End::Source, link), &link.label)
+        {
+            return true;
+        }
+        self.at_target
+            .lacks(label_node(End::Target, link), &link.label)
+    }
+
     /// Puts a node at the end, and gives its number.
     pub fn add_node(&mut self, kind: NodeKind) -> Result<u32, GraphError>
         ensures added { OnOk result (self.new.nodes ≡ self.old.nodes ++ kind ∷ []) }
@@ -213,6 +273,13 @@ impl Graph {
         ensures takes { 0 < self.old.link_room → ¬ IsErrOf result GraphError.OutOfMemory }
     {
         self.check_link(&link)?;
+        let alloc = *self.by_source.last.allocator();
+        let from = label_node(End::Source, &link);
+        let into = label_node(End::Target, &link);
+        let gathered_from = gather(alloc, self, End::Source, from);
+        let gathered_into = gather(alloc, self, End::Target, into);
+        self.at_source.note(alloc, from, gathered_from, &link.label);
+        self.at_target.note(alloc, into, gathered_into, &link.label);
         let source = link.source;
         let target = link.target;
         self.links.push(link)?;

@@ -4,10 +4,12 @@
 //! meets the rules of links: what each type joins, and what no two links may share.
 #![tactic(auto)]
 
+mod busy;
 mod copies;
 mod error;
 mod graph;
 mod index;
+mod labels;
 mod link;
 mod node;
 mod rules;

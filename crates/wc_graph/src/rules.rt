@@ -1,7 +1,7 @@
 ghost use Rattle.std.specs.Prelude.{◌≡◌, ℕ, ◌↔◌, IsTrue, MatchResult, OnOk, IsErrOf, Any};
 ghost use Rattle.wc_graph.specs.Rules.{node_of, Leaves, Enters, TakesTriple, TakesLabel, SharesCreated, SharesCalled, IsCall};
 ghost use Rattle.wc_graph.specs.Refusals.{IsAllowed, Refuses};
-ghost use Rattle.wc_graph.specs.Broken.{Breaks, is_at_source};
+ghost use Rattle.wc_graph.specs.Broken.{Breaks, CanBreak, is_at_source};
 
 use crate::error::GraphError;
 use crate::graph::Graph;
@@ -107,6 +107,18 @@ fn breaks(rule: Rule, a: &Link, b: &Link) -> bool
     }
 }
 
+/// Whether links of this type can break the rule.
+fn can_break(rule: Rule, link: LinkType) -> bool
+    ensures { IsTrue result ↔ CanBreak rule link }
+{
+    match rule {
+        Rule::Triple => link != LinkType::Create,
+        Rule::Label => !is_call(link),
+        Rule::Creator => link == LinkType::Create,
+        Rule::Caller => is_call(link),
+    }
+}
+
 /// Whether links of this type break the rule beside links from the same source alone. Else it is beside links to the same
 /// target alone.
 fn is_at_source(rule: Rule, link: LinkType) -> bool
@@ -153,10 +165,26 @@ fn is_broken_from(graph: &Graph, rule: Rule, link: &Link) -> bool
     false
 }
 
+/// Whether the labels of a busy node tell that a link breaks the rule beside none of the graph.
+fn is_free(graph: &Graph, rule: Rule, link: &Link) -> bool
+    ensures { IsTrue result → ¬ Any (λ a. Breaks rule a link.now) graph.now.links }
+{
+    match rule {
+        Rule::Triple | Rule::Label => graph.is_label_free(link),
+        Rule::Creator | Rule::Caller => false,
+    }
+}
+
 /// Whether a link would break the rule beside one of the graph.
 fn is_broken(graph: &Graph, rule: Rule, link: &Link) -> bool
     ensures { IsTrue result ↔ Any (λ a. Breaks rule a link.now) graph.now.links }
 {
+    if !can_break(rule, link.link) {
+        return false;
+    }
+    if is_free(graph, rule, link) {
+        return false;
+    }
     if is_at_source(rule, link.link) {
         is_broken_from(graph, rule, link)
     } else {

@@ -27,4 +27,6 @@ invariant_of-self-2 c =
           (with_node source_of old.nodes.0 old.links.0 c.args.kind old.by_source c.add_node.new.self (sources_within old.nodes.0 old.links.0 i.0) i.2 a.whole a.last a.before),
       subst (λ (ns : List NodeKind). IsIndexed target_of old.links.0 (length ns) c.add_node-2.new.self) (sym added)
           (with_node target_of old.nodes.0 old.links.0 c.args.kind old.by_target c.add_node-2.new.self (targets_within old.nodes.0 old.links.0 i.0) i.3 b.whole b.last b.before),
+      i.4,
+      i.5,
     )

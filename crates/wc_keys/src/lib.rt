@@ -5,8 +5,10 @@
 //! Contracts see the graph, the records and the libraries, of which a world is made.
 #![tactic(auto)]
 
+mod beginnings;
 mod digests;
 mod inputs;
+mod links;
 mod sealing;
 
 pub use sealing::{seal, seals_of, unseal};

@@ -1,14 +1,8 @@
-use Rattle.std.proofs.Common.{◌≡◌, ℕ, List, ◌++◌, length, sym, ap, ◌∙◌, arith}
-use Rattle.std.specs.Prelude.{flat_map}
-use Rattle.std.specs.Int.{w32, to_be_bytes}
-use Rattle.sha2.specs.Sha256.{sha256}
-use Rattle.wc_value.specs.Spelling.{spelling, pair_of}
+use Rattle.std.proofs.Common.{ℕ, List, length, ap, arith}
 use Rattle.wc_graph.specs.declared.link.Link.{Link}
-use Rattle.wc_seals.specs.Keys.{key_start, key_value}
-use Rattle.wc_seals.proofs.Added.{adds_both}
-use Rattle.wc_seals.proofs.KeySpelled.{key_spelled}
 use Rattle.wc_keys.specs.Ports.{plain_inputs}
 use Rattle.wc_keys.proofs.Ports.{plain_few}
+use Rattle.wc_keys.proofs.TextDigests.{parts_digested}
 use Rattle.wc_keys.proofs.digests.key_digest.Goals as goal
 
 pub put_count-requires : goal.put_count-requires
@@ -19,10 +13,4 @@ put_count-requires c =
 pub returns : goal.returns
 returns c =
     let graph = c.args.graph.now in
-    let text = c.args.text.now in
-    let inputs = plain_inputs graph.nodes c.args.pid graph.links in
-    let bytes : key_start text ++ (to_be_bytes w32 c.count_inputs.result ++ flat_map pair_of inputs) ≡ spelling (key_value text inputs)
-    = ap (λ (n : ℕ). key_start text ++ (to_be_bytes w32 n ++ flat_map pair_of inputs)) c.count_inputs.ensures ∙ sym (key_spelled text inputs) in
-    c.finish.ensures (key_start text ++ (to_be_bytes w32 c.count_inputs.result ++ flat_map pair_of inputs))
-    ((adds_both _ _ _ _ _ c.put_count.ensures c.put_inputs.ensures).holds (key_start text) c.key_hasher-hasher.ensures)
-    ∙ ap sha256 bytes
+    parts_digested (plain_inputs graph.nodes c.args.pid graph.links) c.count_inputs.result _ _ _ _ c.count_inputs.ensures c.put_count.ensures c.put_inputs.ensures c.finish.ensures

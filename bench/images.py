@@ -4,8 +4,8 @@ import struct
 import tempfile
 import time
 
-INPUT_CALC, CREATE = 1, 3
-FUNCTION, JOB = 1, 2
+INPUT_CALC, CREATE, RETURN = 1, 3, 4
+FUNCTION, JOB, CHAIN = 1, 2, 3
 CREATED, WAITING, FINISHED = 1, 3, 4
 UPDATE = 3
 

@@ -27,7 +27,7 @@ use Rattle.wc_graph.specs.Broken.{Breaks, CanBreak}
 use Rattle.wc_graph.specs.declared.rules.Rule.{Rule}
 use Rattle.wc_graph.specs.declared.rules.Rule.TheVariants.{Triple, Label, Creator, Caller}
 use Rattle.wc_graph.specs.Refusals.{LabelIsTaken, TripleIsTaken}
-use Rattle.wc_graph.specs.Labels.{side, where_once, label_node, Names, Has, Knows, Lacks, IsLabelled, HasFrom, HasGathered, Notes}
+use Rattle.wc_graph.specs.Labels.{side, where_once, label_node, Names, Has, Knows, Lacks, IsLabelled, HasFrom, HasGathered, Notes, Settles}
 use Rattle.wc_graph.proofs.Correct.{slice_get_push}
 
 -- ---- a set with one label more
@@ -220,17 +220,20 @@ free end links busy b node is h lacks = (
 pub none_busy : (end : End) (links : List Link) (busy : BTreeMap ℕ Names) → busy.entries ≡ [] → IsLabelled end links busy
 none_busy end links busy e = λ k l n read once. knows_idle busy n l.label (ap (λ es. lookup (λ q. is_eq (nat_cmp n q)) es) e)
 
-module _ (end : End) (links : List Link) (old new : BTreeMap ℕ Names) (b : Link) (node : Option ℕ) (gathered : Result (Option Names) AllocError)
-    (has : HasGathered end links node gathered) (notes : Notes old new node gathered b.label) (h : IsLabelled end links old) where
+pub still_noted : (end : End) (links : List Link) (old new : BTreeMap ℕ Names) (node : Option ℕ) (gathered : Result (Option Names) AllocError) (label : List ℕ)
+    → HasGathered end links node gathered → Notes old new node gathered label → IsLabelled end links old → IsLabelled end links new
+still_noted end links old new at gathered label has notes h = λ k l n read once. notes.kept n l.label (h k l n read once) (λ same. has k l n read same once)
+
+module _ (end : End) (links : List Link) (old new : BTreeMap ℕ Names) (node : Option ℕ) (b : Link) (settles : Settles old new node b.label) (h : IsLabelled end links old) where
   pub still_labelled : IsLabelled end links new
-  still_labelled = λ k l n read once. notes.kept n l.label (h k l n read once) (λ at. has k l n read at once)
+  still_labelled = λ k l n read once. settles.kept n l.label (h k l n read once)
 
   pub with_label : node ≡ label_node end b → IsLabelled end (links ++ b ∷ []) new
   with_label is = λ k l n read once. ⊎_elim
       (λ before. still_labelled k l n before once)
       (λ (last : (k ≡ length links) × (b ≡ l)).
       subst (λ (x : Link). Knows new n x.label) last.1
-      (notes.put n (is ∙ subst (λ (x : Link). label_node end x ≡ Some n) (sym last.1) once)))
+      (settles.put n (is ∙ subst (λ (x : Link). label_node end x ≡ Some n) (sym last.1) once)))
       (slice_get_push links b l k read)
 
 -- ---- what calls answer

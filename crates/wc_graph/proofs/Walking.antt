@@ -1,5 +1,5 @@
 -- Walks down the links of a node.
-use Rattle.std.proofs.Common.{◌≡◌, ◌≢◌, ℕ, ◌<◌, ◌≤◌, List, [], ◌∷◌, zero, suc, refl, ◌∙◌, arith, drop}
+use Rattle.std.proofs.Common.{◌≡◌, ◌≢◌, ℕ, List, [], ◌∷◌, zero, suc, refl, ◌∙◌, arith, drop}
 use Rattle.wc_graph.specs.declared.link.Link.{Link}
 use Rattle.wc_graph.specs.Index.{Skips}
 

@@ -1,5 +1,5 @@
 -- Which labels are known of nodes with very many links.
-use Rattle.std.specs.Prelude.{◌≡◌, ℕ, Bool, true, false, List, [], ◌∷◌, ◌++◌, Option, Some, None, Result, slice_get, ◌≤◌, Vec, IfOk, IfSome}
+use Rattle.std.specs.Prelude.{◌≡◌, ℕ, true, List, Option, Some, None, Result, slice_get, ◌≤◌, Vec, IfOk, IfSome}
 use Rattle.std.specs.Ordering.{nat_cmp}
 use Rattle.std.specs.Cmp.Lexicographic.{slice_cmp}
 use Rattle.std.specs.BTreeMap.{BTreeMap, get}
@@ -69,6 +69,11 @@ IsGathered gathered label = IfOk gathered (λ some. IfSome some (λ names. Has n
 -- Labels stay known once a node is busy whose labels were gathered, and one label more is known of it.
 pub record Notes (old new : BTreeMap ℕ Names) (node : Option ℕ) (gathered : Result (Option Names) AllocError) (label : List ℕ) : Type 0 where
   pub kept : (n : ℕ) (l : List ℕ) → Knows old n l → (node ≡ Some n → IsGathered gathered l) → Knows new n l
+  pub put : (n : ℕ) → node ≡ Some n → Knows new n label
+
+-- Labels stay known, and one label more is known of the node.
+pub record Settles (old new : BTreeMap ℕ Names) (node : Option ℕ) (label : List ℕ) : Type 0 where
+  pub kept : (n : ℕ) (l : List ℕ) → Knows old n l → Knows new n l
   pub put : (n : ℕ) → node ≡ Some n → Knows new n label
 
 -- What was gathered of a node that becomes busy has each label that stands once at it, at this end.

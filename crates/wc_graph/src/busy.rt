@@ -13,7 +13,7 @@ use std::collections::BTreeSet;
 const MOST_LINKS: usize = 64;
 
 /// Whether a node has very many links at this end, by a walk of few steps.
-fn has_many(graph: &Graph, end: End, node: u32) -> bool {
+pub(crate) fn has_many(graph: &Graph, end: End, node: u32) -> bool {
     let mut at = graph.last_at(end, node);
     for _ in 0..MOST_LINKS {
         if at == 0 {

@@ -4,7 +4,7 @@ ghost use Rattle.wc_graph.specs.Index.{Skips, source_of, target_of};
 ghost use Rattle.wc_graph.specs.Labels.{side};
 ghost use Rattle.wc_graph.specs.Refusals.{IsAllowed, Refuses, RefusesExactly, LabelIsTaken, TripleIsTaken};
 
-use crate::busy::gather;
+use crate::busy::{gather, has_many};
 use crate::copies::{copy_links, copy_nodes};
 use crate::error::GraphError;
 use crate::index::Index;
@@ -120,10 +120,11 @@ impl Graph {
         ensures room { OnOk result ((nodes ≤ self.new.node_room) × (links ≤ self.new.link_room)) }
         ensures kept { (self.old.node_room ≤ self.new.node_room) × (self.old.link_room ≤ self.new.link_room) }
     {
-        self.nodes.reserve(nodes as usize)?;
-        self.links.reserve(links as usize)?;
+        // The indices come first: where a node or a link has room, they have some for it too.
         self.by_source.reserve(nodes as usize, links as usize)?;
-        self.by_target.reserve(nodes as usize, links as usize)
+        self.by_target.reserve(nodes as usize, links as usize)?;
+        self.nodes.reserve(nodes as usize)?;
+        self.links.reserve(links as usize)
     }
 
     /// Where a walk down the links that leave a node begins: at this place, counted from 1, and behind it is none.
@@ -200,8 +201,16 @@ impl Graph {
         }
     }
 
-    /// Whether a node isn't busy at this end and may become so.
+    /// Whether more than 64 links enter a node, by a walk of few steps.
+    pub fn has_many_into(&self, node: u32) -> bool {
+        has_many(self, End::Target, node)
+    }
+
+    /// Whether a node is there, isn't busy at this end and may become so.
     pub(crate) fn may_be_busy(&self, end: End, node: u32) -> bool {
+        if node == 0 || node as usize > self.nodes.len() {
+            return false;
+        }
         match end {
             End::Source => self.at_source.takes(node),
             End::Target => self.at_target.takes(node),
@@ -253,8 +262,59 @@ impl Graph {
         ensures ok { OnOk result (IsAllowed self.now.nodes self.now.links link.now) }
         ensures refusals { RefusesExactly result (Refuses self.now.nodes self.now.links link.now) }
         ensures memory { ¬ IsErrOf result GraphError.OutOfMemory }
+        ensures correct { IsLinkCorrect self.now.nodes self.now.links }
     {
+        let _ = &self.links;
         rules::allow(self, link)
+    }
+
+    /// Takes memory for the label of a coming link, at each node that is busy or has so many links that it becomes so.
+    /// Where there is none it goes on without.
+    pub fn reserve_label(&mut self, link: &Link)
+        ensures { self.new ≡ self.old }
+    {
+        let alloc = *self.by_source.last.allocator();
+        let from = label_node(End::Source, link);
+        let into = label_node(End::Target, link);
+        let gathered_from = gather(alloc, self, End::Source, from);
+        let gathered_into = gather(alloc, self, End::Target, into);
+        self.at_source.note(alloc, from, gathered_from, &link.label);
+        self.at_target.note(alloc, into, gathered_into, &link.label);
+    }
+
+    /// Puts a link that breaks no rule at the end. With room left it takes no memory.
+    fn put_link(&mut self, link: Link) -> Result<(), AllocError>
+        requires allowed { IsAllowed self.old.nodes self.old.links link }
+        ensures added { OnOk result (self.new.links ≡ self.old.links ++ link ∷ []) }
+        ensures others { (self.new.nodes ≡ self.old.nodes) × (self.new.node_room ≡ self.old.node_room) }
+        ensures correct { IsLinkCorrect self.new.nodes self.new.links }
+        ensures err { OnErr result (self.new ≡ self.old) }
+        ensures room { self.old.link_room ≤ self.new.link_room + 1 }
+        ensures takes { 0 < self.old.link_room → IsOk result }
+    {
+        let from = label_node(End::Source, &link);
+        let into = label_node(End::Target, &link);
+        self.at_source.settle(from, &link.label);
+        self.at_target.settle(into, &link.label);
+        let source = link.source;
+        let target = link.target;
+        self.links.push(link)?;
+        self.by_source.add_link(source);
+        self.by_target.add_link(target);
+        Ok(())
+    }
+
+    /// Puts a link that breaks no rule at the end, where there is room for it. It takes no memory: a busy node for whose
+    /// label none was taken before is busy no more.
+    pub fn push_link(&mut self, link: Link)
+        requires allowed { IsAllowed self.old.nodes self.old.links link }
+        requires room { 0 < self.old.link_room }
+        ensures added { self.new.links ≡ self.old.links ++ link ∷ [] }
+        ensures others { (self.new.nodes ≡ self.old.nodes) × (self.new.node_room ≡ self.old.node_room) }
+        ensures correct { IsLinkCorrect self.new.nodes self.new.links }
+        ensures room { self.old.link_room ≤ self.new.link_room + 1 }
+    {
+        let _pushed = self.put_link(link);
     }
 
     /// Puts a link at the end.
@@ -268,23 +328,13 @@ impl Graph {
         ensures refusals { RefusesExactly result (Refuses self.old.nodes self.old.links link) }
         ensures err { OnErr result (self.new ≡ self.old) }
 
-        // A link takes at most one place of the room, and with room left it takes no memory.
+        // A link takes at most one place of the room, and with room left it isn't refused for want of memory.
         ensures room { self.old.link_room ≤ self.new.link_room + 1 }
         ensures takes { 0 < self.old.link_room → ¬ IsErrOf result GraphError.OutOfMemory }
     {
         self.check_link(&link)?;
-        let alloc = *self.by_source.last.allocator();
-        let from = label_node(End::Source, &link);
-        let into = label_node(End::Target, &link);
-        let gathered_from = gather(alloc, self, End::Source, from);
-        let gathered_into = gather(alloc, self, End::Target, into);
-        self.at_source.note(alloc, from, gathered_from, &link.label);
-        self.at_target.note(alloc, into, gathered_into, &link.label);
-        let source = link.source;
-        let target = link.target;
-        self.links.push(link)?;
-        self.by_source.add_link(source);
-        self.by_target.add_link(target);
+        self.reserve_label(&link);
+        self.put_link(link)?;
         Ok(())
     }
 }

@@ -1,7 +1,7 @@
 //! The labels at nodes that have very many links.
 
 ghost use Rattle.std.specs.Prelude.{◌≡◌, ℕ, List, [], OnOk, IsTrue};
-ghost use Rattle.wc_graph.specs.Labels.{Has, IsGathered, Knows, Lacks, Notes, label_node};
+ghost use Rattle.wc_graph.specs.Labels.{Has, IsGathered, Knows, Lacks, Notes, Settles, label_node};
 
 use crate::link::{Link, LinkType};
 use std::alloc::{AllocError, Global};
@@ -129,6 +129,30 @@ impl Labels {
         if let Some(node) = node {
             self.add_gathered(node, gathered);
             self.add_label(alloc, node, label);
+        }
+    }
+
+    /// Makes a node busy no more, unless the label is among its labels.
+    fn settle_node(&mut self, node: u32, label: &Text)
+        ensures kept { (n : ℕ) (l : List ℕ) → Knows self.old.busy n l → Knows self.new.busy n l }
+        ensures put { Knows self.new.busy node label.now }
+    {
+        let is_known = match self.busy.get(&node) {
+            Some(names) => names.contains(label.bytes()),
+            None => true,
+        };
+        if !is_known {
+            let _names = self.busy.remove(&node);
+        }
+    }
+
+    /// Takes up the label of a link that has the node at this end, without memory: where none was taken for it before, the
+    /// node is busy no more.
+    pub(crate) fn settle(&mut self, node: Option<u32>, label: &Text)
+        ensures { Settles self.old.busy self.new.busy node label.now }
+    {
+        if let Some(node) = node {
+            self.settle_node(node, label);
         }
     }
 }

@@ -11,7 +11,7 @@ ghost use Rattle.wc_keys.specs.Ports.{plain_inputs};
 
 use crate::beginnings::{Beginnings, begin};
 use crate::inputs::{count_inputs, put_inputs};
-use crate::links::{has_many, links_of, put_links};
+use crate::links::{links_of, put_links};
 use sha2::Sha256;
 use std::alloc::{AllocError, Global};
 use std::collections::BTreeMap;
@@ -109,7 +109,7 @@ fn quick_digest(
 ) -> Result<[u8; 32], AllocError>
     ensures { IfOk result (λ digest. IsDigestOf (plain_inputs graph.now.nodes pid graph.now.links) hasher digest) }
 {
-    if has_many(graph, pid) {
+    if graph.has_many_into(pid) {
         ordered_digest(alloc, graph, hasher, pid)
     } else {
         Ok(key_digest(graph, hasher, pid))

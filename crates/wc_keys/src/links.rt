@@ -11,23 +11,8 @@ use std::collections::BTreeMap;
 use wc_fits::input_by;
 use wc_graph::{Graph, Link, NodeKind};
 
-/// The most links into a process whose inputs aren't put in order.
-const MOST_LINKS: usize = 64;
-
 /// Links by their ports, each as its bytes.
 pub(crate) type LinkMap<'a> = BTreeMap<Vec<u8>, &'a Link>;
-
-/// Whether very many links lead into a process, by a walk of few steps.
-pub(crate) fn has_many(graph: &Graph, pid: u32) -> bool {
-    let mut at = graph.last_into(pid);
-    for _ in 0..MOST_LINKS {
-        if at == 0 {
-            return false;
-        }
-        at = graph.before_into(pid, at);
-    }
-    at > 0
-}
 
 /// Puts a link into a map by its port, if it is an input of the process.
 fn put_link<'a>(

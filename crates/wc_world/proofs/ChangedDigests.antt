@@ -1,5 +1,5 @@
 -- The digests of calculations under each change.
-use Rattle.std.proofs.Common.{◌≡◌, ℕ, ◌+◌, Bool, true, false, Option, Some, None, List, [], ◌∷◌, ◌++◌, refl, sym, ap, ◌∙◌}
+use Rattle.std.proofs.Common.{◌≡◌, ℕ, Bool, true, false, Option, Some, None, List, [], ◌∷◌, ◌++◌, refl, sym, ap, ◌∙◌}
 use Rattle.std.specs.Prelude.{All, if◌then◌else◌, ◌==◌, is_some, option_map, option_and_then}
 use Rattle.std.proofs.lemmas.Bool.{eq-eqb, ne_eqb, cond-false, and_right}
 use Rattle.std.proofs.lemmas.List.Elements.{All-head, All-tail, All-weaker}

@@ -17,7 +17,6 @@ pub mod RecordedEnvironments
 pub mod RecordedTrees
 pub mod Slotted
 mod Ascents
-mod Allowed
 mod Needs
 mod Applies
 mod Awaiting

@@ -102,17 +102,6 @@ fn put_node(graph: &mut Graph, kind: NodeKind)
     let _number = graph.add_node(kind);
 }
 
-/// Puts a link that breaks no rule at the end, where there is room for it.
-fn put_link(graph: &mut Graph, link: Link)
-    requires allowed { IsAllowed graph.old.nodes graph.old.links link }
-    requires room { 0 < graph.old.link_room }
-    ensures links { graph.new.links ≡ graph.old.links ++ link ∷ [] }
-    ensures others { (graph.new.nodes ≡ graph.old.nodes) × (graph.new.node_room ≡ graph.old.node_room) }
-    ensures room { graph.old.link_room ≤ graph.new.link_room + 1 }
-{
-    let _added = graph.add_link(link);
-}
-
 /// Puts a new process at the end, where there is a number and room for it.
 fn put_process(graph: &mut Graph, records: &mut Records, process: NewProcess)
     requires number { length graph.old.nodes < 8000000 }
@@ -159,7 +148,7 @@ fn put_link_sealed(
 {
     let pid = link.target;
     unseal(graph, libraries, records, seals, pid);
-    put_link(graph, link);
+    graph.push_link(link);
     seal(graph, libraries, records, seals, pid);
 }
 
@@ -221,8 +210,20 @@ fn apply_change(
     }
 }
 
+/// Takes memory for the labels of the links among changes, at nodes that have very many links.
+fn reserve_labels(graph: &mut Graph, changes: &[Change])
+    ensures { graph.new ≡ graph.old }
+{
+    for change in changes {
+        if let Change::Link(link) = change {
+            graph.reserve_label(link);
+        }
+    }
+}
+
 impl World {
-    /// Makes room for the changes, and changes nothing else.
+    /// Makes room for the changes, and changes nothing else. For labels at nodes that have very many links it takes memory where
+    /// there is some.
     #[tactic(auto, using(crate::proofs::Needs::needed_seals))]
     pub fn reserve(&mut self, _alloc: Global, changes: &Changes) -> Result<(), AllocError>
         ensures same { self.new.world ≡ self.old.world }
@@ -236,10 +237,13 @@ impl World {
         self.libraries.reserve(need.libraries)?;
         let held = self.records.len();
         let places = held + need.records;
-        self.seals.reserve(places)
+        self.seals.reserve(places)?;
+        reserve_labels(&mut self.graph, changes.as_slice());
+        Ok(())
     }
 
-    /// Applies changes that the world accepts. It takes no memory, not for the digests of what they finish either.
+    /// Applies changes that the world accepts. It takes no memory, neither for the digests of what they finish nor for the
+    /// labels at nodes that have very many links.
     pub fn apply(&mut self, changes: Changes)
         requires accepted { IsAccepted self.old.world changes }
         requires room { HasRoom self.old.room changes }

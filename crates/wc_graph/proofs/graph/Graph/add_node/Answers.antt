@@ -1,4 +1,4 @@
-use Rattle.std.proofs.Common.{◌≡◌, ◌≤◌, ◌∷◌, ◌++◌, [], List, length, arith, sym, subst}
+use Rattle.std.proofs.Common.{◌≤◌, ◌∷◌, ◌++◌, [], List, length, arith, sym, subst}
 use Rattle.std.proofs.lemmas.List.{length_push}
 use Rattle.wc_graph.specs.declared.node.NodeKind.{NodeKind}
 use Rattle.wc_graph.specs.Rules.{IsLinkCorrect}

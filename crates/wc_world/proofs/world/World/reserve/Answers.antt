@@ -1,4 +1,4 @@
-use Rattle.std.proofs.Common.{◌≡◌, ℕ, ◌≤◌, List, length, refl, sym, ap, subst, arith}
+use Rattle.std.proofs.Common.{◌≡◌, ℕ, ◌≤◌, List, length, refl, sym, ap, ◌∙◌, subst, arith}
 use Rattle.wc_graph.specs.Provenance.{Provenance}
 use Rattle.wc_seals.specs.declared.marking.Sealed.{Sealed}
 use Rattle.wc_world.specs.World.{World}
@@ -67,7 +67,9 @@ invariant_of-self-2 c =
     let i = c.self.inside in
     let e = c.reserve.ensures in
     let last = c.reserve-4 in
+    let same = c.reserve_labels.ensures in
     placed _ _ i.seals.0 last.new.self.0 i.seals.1 last.new.self.1
-    (one_world i.graph c.reserve.new.self i.records c.reserve-2.new.self i.libraries c.reserve-3.new.self i.batches (sym e.nodes) (sym e.links) (sym c.reserve-2.ensures.same)
+    (one_world i.graph c.reserve_labels.new.graph i.records c.reserve-2.new.self i.libraries c.reserve-3.new.self i.batches
+    (sym (ap (λ (g : Provenance). g.nodes) same ∙ e.nodes)) (sym (ap (λ (g : Provenance). g.links) same ∙ e.links)) (sym c.reserve-2.ensures.same)
     (sym c.reserve-3.ensures.same))
     (sym last.ensures.same) last.ensures.kept c.self.invariant

@@ -172,7 +172,7 @@ either true b h = absurd (cc)
 either false b h = refl
 
 -- an entry isn't among those that come after it
-absent : (s : Sealed) (seals : List Sealed) → AllAfter earlier s seals → is_in s.digest s.pid seals ≡ false
+pub absent : (s : Sealed) (seals : List Sealed) → AllAfter earlier s seals → is_in s.digest s.pid seals ≡ false
 absent s [] h = refl
 absent s (x ∷ seals) h = either (is_seal s.digest s.pid x) (is_in s.digest s.pid seals) (told (is_seal s.digest s.pid x) refl) ∙ absent s seals h.1
   where
@@ -181,14 +181,14 @@ absent s (x ∷ seals) h = either (is_seal s.digest s.pid x) (is_in s.digest s.p
         absurd (let e : x ≡ s = (seal_tests s).same x is in let missing : earlier s x ≡ false = ap (earlier s) e ∙ in_order.not_itself s in let there : earlier s x ≡ true = h.0 in cc)
     told false is = is
 
-present : (s : Sealed) (seals : List Sealed) → is_in s.digest s.pid (s ∷ seals) ≡ true
+pub present : (s : Sealed) (seals : List Sealed) → is_in s.digest s.pid (s ∷ seals) ≡ true
 present s seals = ap (λ (b : Bool). b || is_in s.digest s.pid seals) (seal_tests s).itself
 
 all_later : (d e : Sealed) (xs : List Sealed) → earlier d e ≡ true → AllAfter earlier e xs → AllAfter earlier d xs
 all_later d e [] lt h = tt
 all_later d e (x ∷ xs) lt h = (in_order.along d e x lt h.0, all_later d e xs lt h.1)
 
-abbrev HaveSame : List Sealed → List Sealed → Type 0
+abbrev pub HaveSame : List Sealed → List Sealed → Type 0
 HaveSame xs ys = (digest : List ℕ) (pid : ℕ) → is_in digest pid xs ≡ is_in digest pid ys
 
 tails_same : (x y : Sealed) (xs ys : List Sealed) → x ≡ y → AllAfter earlier x xs → AllAfter earlier y ys → HaveSame (x ∷ xs) (y ∷ ys) → HaveSame xs ys
@@ -207,7 +207,7 @@ tails_same x y xs ys e one other same digest pid = told (is_seal digest pid x) r
         = (λ i. is_in (sym d i) (sym n i) ys) ∙ ap (λ (s : Sealed). is_in s.digest s.pid ys) e ∙ absent y ys other in
         first ∙ sym second
 
-same_lists : (xs ys : List Sealed) → IsSorted earlier xs → IsSorted earlier ys → HaveSame xs ys → xs ≡ ys
+pub same_lists : (xs ys : List Sealed) → IsSorted earlier xs → IsSorted earlier ys → HaveSame xs ys → xs ≡ ys
 same_lists [] [] h g same = refl
 same_lists [] (y ∷ ys) h g same = absurd (let there = present y ys in let missing = same y.digest y.pid in cc)
 same_lists (x ∷ xs) [] h g same = absurd (let there = present x xs in let missing = same x.digest x.pid in cc)
@@ -235,7 +235,7 @@ one_list digest_at xs ys h g = same_lists xs ys h.order g.order (λ digest pid. 
 
 -- ---- how many there are
 
-or_right : (a b : Bool) → b ≡ true → (a || b) ≡ true
+pub or_right : (a b : Bool) → b ≡ true → (a || b) ≡ true
 or_right true b h = refl
 or_right false b h = h
 

@@ -4,3 +4,7 @@ pub mod Orders
 pub mod Sorting
 pub mod Parts
 pub mod Exact
+pub mod Gaps
+pub mod Joined
+pub mod Moving
+pub mod TwoLists

@@ -15,7 +15,7 @@ use Rattle.wc_value.proofs.Puts.{same_name}
 use Rattle.wc_records.specs.Marked.{AllAfter, IsSorted}
 use Rattle.wc_records.proofs.Parted.{front_is_filter}
 use Rattle.wc_seals.specs.declared.marking.Sealed.{Sealed}
-use Rattle.wc_seals.specs.Order.{earlier, is_seal, with_digest, NumbersAbove, NumbersAscend, IsDigestPlace, IsDigestRun}
+use Rattle.wc_seals.specs.Order.{earlier, is_seal, is_in, with_digest, NumbersAbove, NumbersAscend, IsDigestPlace, IsDigestRun}
 use Rattle.wc_seals.specs.Laws.{PartsAreExact}
 use Rattle.wc_seals.proofs.Orders.{follows, by_digest, by_number, before_differs, same_stays, in_order}
 use Rattle.wc_seals.proofs.Sorting.{earlier_at}
@@ -105,11 +105,13 @@ part_ascends digest (x ∷ seals) h = told (bytes_eq x.digest digest) refl (part
     told true same _ = above digest x seals h.0 h.1 (same_name x.digest digest same)
     told false _ rest = rest
 
+pub in_part : (digest : List ℕ) (seals : List Sealed) (other : List ℕ) (pid : ℕ) → is_in other pid (with_digest digest seals) ≡ bytes_eq other digest && is_in other pid seals
+in_part digest seals other pid =
+    any-filter_same (is_seal other pid) (λ (s : Sealed). bytes_eq s.digest digest) (bytes_eq other digest)
+    (λ s is. ap (λ (d : List ℕ). bytes_eq d digest) (same_name s.digest other (and_parts (bytes_eq s.digest other) (s.pid == pid) is).0)) seals
+
 pub parts_are_exact : PartsAreExact
 parts_are_exact digest_at seals digest h = record {
   ascending = part_ascends digest seals h.order;
-  exact = λ other pid.
-      any-filter_same (is_seal other pid) (λ (s : Sealed). bytes_eq s.digest digest) (bytes_eq other digest)
-      (λ s is. ap (λ (d : List ℕ). bytes_eq d digest) (same_name s.digest other (and_parts (bytes_eq s.digest other) (s.pid == pid) is).0)) seals
-      ∙ ap (λ (b : Bool). bytes_eq other digest && b) (h.exact other pid);
+  exact = λ other pid. in_part digest seals other pid ∙ ap (λ (b : Bool). bytes_eq other digest && b) (h.exact other pid);
 }

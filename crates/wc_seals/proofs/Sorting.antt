@@ -1,5 +1,6 @@
 -- Lists in a strict order, by places.
-use Rattle.std.proofs.Common.{◌≡◌, ℕ, zero, suc, ◌+◌, ◌<◌, Bool, true, false, List, [], ◌∷◌, length, get_or, drop, refl, sym, ap, ◌∙◌, arith}
+use Rattle.std.proofs.Common.{◌≡◌, ℕ, zero, suc, ◌+◌, ◌<◌, Bool, true, false, cond, List, [], ◌∷◌, length, get_or, drop, refl, sym, ap, ◌∙◌, arith}
+use Rattle.std.specs.Prelude.{filter}
 use Rattle.std.specs.List.Sorted.{IsPartitionedBy, IsSortedBy}
 use Rattle.wc_records.specs.Marked.{IsOrder, AllAfter, IsSorted}
 
@@ -48,6 +49,23 @@ module _ {T : Type 0} (before : T → T → Bool) (o : IsOrder before) where
   earlier_at (x ∷ xs) zero (suc j) e h lt within = after_at x xs j e h.0 (omega arith)
   earlier_at (x ∷ xs) (suc i) zero e h lt within = absurd (omega (arith, lt))
   earlier_at (x ∷ xs) (suc i) (suc j) e h lt within = earlier_at xs i j e h.1 (omega arith) (omega arith)
+
+  after_filter : (test : T → Bool) (d : T) (xs : List T) → AllAfter before d xs → AllAfter before d (filter test xs)
+  after_filter test d [] h = tt
+  after_filter test d (x ∷ xs) h = told (test x) (after_filter test d xs h.1)
+    where
+      told : (b : Bool) → AllAfter before d (filter test xs) → AllAfter before d (cond b (x ∷ filter test xs) (filter test xs))
+      told true rest = (h.0, rest)
+      told false rest = rest
+
+  -- what passes a test stays in order
+  pub sorted_filter : (test : T → Bool) (xs : List T) → IsSorted before xs → IsSorted before (filter test xs)
+  sorted_filter test [] h = tt
+  sorted_filter test (x ∷ xs) h = told (test x) (sorted_filter test xs h.1)
+    where
+      told : (b : Bool) → IsSorted before (filter test xs) → IsSorted before (cond b (x ∷ filter test xs) (filter test xs))
+      told true rest = (after_filter test x xs h.0, rest)
+      told false rest = rest
 
 pub sorted_drop : {T : Type 0} (before : T → T → Bool) (n : ℕ) (xs : List T) → IsSorted before xs → IsSorted before (drop n xs)
 sorted_drop before zero xs h = h

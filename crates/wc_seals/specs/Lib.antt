@@ -1,4 +1,5 @@
 pub mod Hashing
 pub mod Keys
 pub mod Order
+pub mod Gaps
 pub mod Laws

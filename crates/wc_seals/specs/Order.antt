@@ -1,12 +1,12 @@
 -- Digests in order, each with the number of a process.
-use Rattle.std.specs.Prelude.{◌≡◌, ℕ, ◌<◌, ◌≤◌, ◌==◌, Bool, true, false, ◌&&◌, if◌then◌else◌, List, [], ◌∷◌, length, filter, Option, Some, None, slice_index_or}
+use Rattle.std.specs.Prelude.{◌≡◌, ℕ, ◌<◌, ◌≤◌, ◌+◌, ◌==◌, Bool, true, false, ◌&&◌, if◌then◌else◌, List, [], ◌∷◌, length, filter, Option, Some, None, slice_index_or}
 use Rattle.std.specs.List.{list_any}
 use Rattle.std.specs.Str.{bytes_eq}
 use Rattle.std.specs.declared.cmp.Ordering.{Ordering}
 use Rattle.std.specs.Ordering.{nat_cmp, is_lt, ordering_then}
 use Rattle.std.specs.Cmp.Lexicographic.{slice_cmp}
 use Rattle.wc_value.specs.Ascending.{before}
-use Rattle.wc_records.specs.Marked.{IsSorted}
+use Rattle.wc_records.specs.Marked.{IsSorted, marked}
 use Rattle.wc_seals.specs.declared.marking.Sealed.{Sealed}
 
 -- by the digests' bytes, and then by the numbers
@@ -70,3 +70,24 @@ without pid digest_at n = if n == pid then None else digest_at n
 pub record IsPartOf (digest_at : ℕ → Option (List ℕ)) (digest : List ℕ) (part : List Sealed) : Type 0 where
   pub ascending : NumbersAscend part
   pub exact : (other : List ℕ) (pid : ℕ) → is_in other pid part ≡ bytes_eq other digest && has_digest other (digest_at pid)
+
+-- ---- entries in two lists
+
+-- the list in order with those of another put in
+abbrev pub joined : List Sealed → List Sealed → List Sealed
+joined long [] = long
+joined long (s ∷ short) = marked earlier s true (joined long short)
+
+-- Both lists are in order, no entry stands in both, and there are places for all in the first.
+pub record AreApart (long short : List Sealed) (places : ℕ) : Type 0 where
+  pub long_order : IsSorted earlier long
+  pub short_order : IsSorted earlier short
+  pub apart : (digest : List ℕ) (pid : ℕ) → is_in digest pid short ≡ true → is_in digest pid long ≡ false
+  pub few : length long + length short ≤ places
+
+-- Both lists are in order, the second one has all entries of a digest of which it has one, and there are places for all in the first.
+pub record AreTwo (long short : List Sealed) (places : ℕ) : Type 0 where
+  pub long_order : IsSorted earlier long
+  pub short_order : IsSorted earlier short
+  pub whole : (digest : List ℕ) (pid other : ℕ) → is_in digest other short ≡ true → is_in digest pid long ≡ true → is_in digest pid short ≡ true
+  pub few : length (joined long short) ≤ places

@@ -4,6 +4,7 @@
 #![tactic(auto)]
 
 mod hashing;
+mod joining;
 mod keys;
 mod laws;
 mod marking;

@@ -2,7 +2,7 @@
 
 ghost use Rattle.std.specs.Prelude.{◌≡◌, ◌≤◌, length, slice_get, vec_capacity};
 ghost use Rattle.wc_records.specs.Marked.{IsSorted, IsPlace, is_item, marked};
-ghost use Rattle.wc_seals.specs.Order.{earlier, is_seal};
+ghost use Rattle.wc_seals.specs.Order.{earlier, is_in, is_seal};
 
 /// The digest of the key of a calculation that has finished, with its number.
 #[derive(Clone, Copy, Debug, PartialEq, Eq, PartialOrd, Ord)]
@@ -21,7 +21,7 @@ fn is_earlier(one: &Sealed, other: &Sealed) -> bool
 }
 
 /// How many entries come before this one.
-fn place_in(seals: &[Sealed], seal: &Sealed) -> usize
+pub(crate) fn place_in(seals: &[Sealed], seal: &Sealed) -> usize
     requires { IsSorted earlier seals.now }
     ensures { IsPlace earlier seal.now seals.now result }
 {
@@ -36,6 +36,14 @@ fn is_at(seals: &[Sealed], at: usize, seal: &Sealed) -> bool
         None => false,
         Some(other) => other.digest == seal.digest && other.pid == seal.pid,
     }
+}
+
+/// Whether an entry stands there.
+pub(crate) fn contains(seals: &[Sealed], seal: &Sealed) -> bool
+    requires { IsSorted earlier seals.now }
+    ensures { result ≡ is_in seal.now.digest seal.now.pid seals.now }
+{
+    is_at(seals, place_in(seals, seal), seal)
 }
 
 /// Puts an entry in, where it is wanted, and else takes it out. There is a place for it, so that this takes no memory.

@@ -6,27 +6,30 @@ ghost use Rattle.wc_records.specs.Marked.{IsSorted, marked};
 ghost use Rattle.wc_value.specs.Ascending.{before};
 ghost use Rattle.wc_seals.specs.Order.{earlier, is_in, with_digest, NumbersAscend, IsDigestPlace, IsDigestRun};
 
-use crate::marking::{Sealed, mark};
+use crate::joining::{SHORT_MOST, put_in, take_out};
+use crate::marking::Sealed;
 use std::alloc::{AllocError, Global};
 use std::marker::Model;
 
 /// Digests in order, each with the number of a calculation. Contracts see the entries, and for how many there are places.
+/// Most stand in one list. Those that came last stand in a short one, so that little is moved where one is put in. A digest that
+/// has an entry there has all of them there: what a digest has is lent as one slice, of the short list if it is in there.
 #[derive(Drop)]
 pub struct Seals {
-    items: Vec<Sealed>,
+    long: Vec<Sealed>,
+    short: Vec<Sealed>,
 }
 
 impl Model for Seals {
     ghost use Rattle.std.specs.Prelude.{ℕ, List, vec_capacity};
-    ghost use Rattle.wc_records.specs.Marked.{IsSorted};
     ghost use Rattle.wc_seals.specs.declared.marking.Sealed.{Sealed};
-    ghost use Rattle.wc_seals.specs.Order.{earlier};
+    ghost use Rattle.wc_seals.specs.Order.{joined, AreTwo};
 
     ghost Value = { List Sealed × ℕ };
 
-    ghost view = { λ a. (a.items.items, vec_capacity a.items) };
+    ghost view = { λ a. (joined a.long.items a.short.items, vec_capacity a.long) };
 
-    ghost invariant = { λ a. IsSorted earlier a.items.items };
+    ghost invariant = { λ a. AreTwo a.long.items a.short.items (vec_capacity a.long) };
 }
 
 /// Whether the digest of an entry comes before another.
@@ -61,7 +64,7 @@ fn run_of(seals: &[Sealed], digest: &[u8]) -> usize
 }
 
 /// The entries with a digest.
-fn part_of<'a>(seals: &'a [Sealed], digest: &[u8]) -> &'a [Sealed]
+pub(crate) fn part_of<'a>(seals: &'a [Sealed], digest: &[u8]) -> &'a [Sealed]
     requires { IsSorted earlier seals.now }
     ensures { result.now ≡ with_digest digest.now seals.now }
 {
@@ -75,13 +78,14 @@ impl Seals {
         ensures { result.0 ≡ [] }
     {
         Seals {
-            items: Vec::new(alloc),
+            long: Vec::new(alloc),
+            short: Vec::new(alloc),
         }
     }
 
     /// These entries in order. They are put in order in place, which takes no memory.
     pub fn of(mut items: Vec<Sealed>) -> Seals
-        // No number stands there twice.
+        // Their numbers ascend, so none stands there twice.
         requires { NumbersAscend items.items }
         ensures entries { (digest : List ℕ) (pid : ℕ) → is_in digest pid result.0 ≡ is_in digest pid items.items }
         ensures order { IsSorted earlier result.0 }
@@ -89,7 +93,8 @@ impl Seals {
         ensures places { result.1 ≡ vec_capacity items }
     {
         items.sort_unstable();
-        Seals { items }
+        let short = Vec::new(*items.allocator());
+        Seals { long: items, short }
     }
 
     /// The entries with a digest, in order of their numbers. It takes no memory.
@@ -97,7 +102,12 @@ impl Seals {
         ensures part { result.now ≡ with_digest digest.now self.now.0 }
         ensures order { IsSorted earlier self.now.0 }
     {
-        part_of(self.items.as_slice(), digest)
+        let short = part_of(self.short.as_slice(), digest);
+        if short.is_empty() {
+            part_of(self.long.as_slice(), digest)
+        } else {
+            short
+        }
     }
 
     /// Puts an entry in, where there is a place for it, so that this takes no memory.
@@ -105,24 +115,26 @@ impl Seals {
         requires { length self.old.0 < self.old.1 }
         ensures { self.new ≡ (marked earlier seal true self.old.0, self.old.1) }
     {
-        mark(&mut self.items, seal, true);
+        put_in(&mut self.long, &mut self.short, seal);
     }
 
     /// Takes an entry out, where it is there. It takes no memory.
     pub fn take(&mut self, seal: Sealed)
         ensures { self.new ≡ (marked earlier seal false self.old.0, self.old.1) }
     {
-        mark(&mut self.items, seal, false);
+        take_out(&mut self.long, &mut self.short, seal);
     }
 
-    /// Makes places for so many entries in all.
+    /// Makes places for so many entries in all, and those of the short list.
     pub fn reserve(&mut self, count: usize) -> Result<(), AllocError>
         ensures same { self.new.0 ≡ self.old.0 }
         ensures places { OnOk result (count ≤ self.new.1) }
         ensures kept { self.old.1 ≤ self.new.1 }
     {
-        if count > self.items.len() {
-            self.items.reserve(count - self.items.len())?;
+        self.short
+            .reserve(SHORT_MOST.saturating_sub(self.short.len()))?;
+        if count > self.long.len() {
+            self.long.reserve(count - self.long.len())?;
         }
         Ok(())
     }

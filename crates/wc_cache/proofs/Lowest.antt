@@ -1,4 +1,4 @@
--- The lowest source is the first one in the order of the records.
+-- The lowest source is the first one of a list in the order of the entries.
 use Rattle.std.proofs.Common.{◌≡◌, ℕ, zero, suc, ◌+◌, ◌<◌, ◌≤◌, Bool, true, false, List, [], ◌∷◌, length, take, get_or, Option, Some, None, inl, inr, refl, ap, sym, subst, ◌∙◌, arith}
 use Rattle.std.specs.Prelude.{All, IsSome, if◌then◌else◌, ◌==◌, ◌||◌, ◌⊎◌, option_map, option_and_then}
 use Rattle.std.specs.Borrow.{Bor}

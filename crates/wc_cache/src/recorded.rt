@@ -20,13 +20,7 @@ use wc_world::{World, WorldError};
 fn library_at(world: &World, number: u32) -> Option<&Checked>
     ensures { option_copied result ≡ library_at world.now.world.libraries number }
 {
-    if number == 0 {
-        return None;
-    }
-    match world.libraries().get(number as usize - 1) {
-        Some((library, _)) => Some(library),
-        None => None,
-    }
+    wc_fits::library_at(world.libraries().as_slice(), number)
 }
 
 /// The definition that a process runs, if it is there.

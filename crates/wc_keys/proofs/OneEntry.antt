@@ -10,7 +10,7 @@ use Rattle.wc_state.specs.declared.record.ProcessRecord.{ProcessRecord}
 use Rattle.wc_records.specs.Marked.{marked}
 use Rattle.wc_seals.specs.declared.marking.Sealed.{Sealed}
 use Rattle.wc_seals.specs.Order.{earlier, AreSealsOf, without}
-use Rattle.wc_seals.proofs.Exact.{exact_same, without_none, put_exact, take_exact, fewer_seals}
+use Rattle.wc_seals.proofs.Exact.{exact_same, without_none, put_exact, take_exact, fewer_seals, or_right}
 use Rattle.wc_fits.specs.World.{Known}
 use Rattle.wc_fits.specs.Records.{find_record}
 use Rattle.wc_keys.specs.Keys.{digest_by, digest_from, entry_of}
@@ -64,10 +64,6 @@ number_found n (r ∷ rs) h = told (r.node == n) refl h (number_found n rs)
         let here : nat_eq n r.node ≡ true = eq-eqb n r.node (sym (eqb-true r.node n is)) in
         ap (λ (b : Bool). b || list_any (nat_eq n) (map (λ (x : ProcessRecord). x.node) rs)) here
     told false is there rest = or_right (nat_eq n r.node) (list_any (nat_eq n) (map (λ (x : ProcessRecord). x.node) rs)) (rest there)
-      where
-        or_right : (a b : Bool) → b ≡ true → (a || b) ≡ true
-        or_right true b h = refl
-        or_right false b h = h
 
 found_there : (g : ProcessRecord → Option (List ℕ)) (o : Option ProcessRecord) (d : List ℕ) → option_and_then g o ≡ Some d → is_some o ≡ true
 found_there g None d h = absurd (cc)

@@ -31,7 +31,7 @@ use wc_transport::Transport;
 /// The reply of what is done on a store.
 fn worked<D: Disk, T: Transport, P: Pacer>(
     alloc: Global,
-    store: Store,
+    store: &mut Store,
     work: Work,
     one: &mut D,
     two: &mut D,
@@ -39,19 +39,19 @@ fn worked<D: Disk, T: Transport, P: Pacer>(
     pacer: &mut P,
 ) -> Result<Reply, ActError>
     requires ready { IsReadyWork work }
-    requires live { store.live ≡ true }
-    requires stands { IsTrue (D.tells one.old) → IsTrue (D.tells two.old) → StandsFor D.Disk store one.old two.old }
+    requires live { store.old.live ≡ true }
+    requires stands { IsTrue (D.tells one.old) → IsTrue (D.tells two.old) → StandsFor D.Disk store.old one.old two.old }
     ensures does { IfOk result (λ r. IsTrue (D.tells one.old) → IsTrue (D.tells two.old)
-        → (work_row work).does (D.seen one.old, D.seen two.old) store.world.world (D.seen one.new, D.seen two.new) r) }
+        → (work_row work).does (D.seen one.old, D.seen two.old) store.old.world.world (D.seen one.new, D.seen two.new) r) }
     ensures may { IfOk result (λ r. (work_row work).may r) }
-    ensures kept { IsTrue (D.tells one.old) → IsTrue (D.tells two.old) → LeavesPairs D.Disk one.old two.old one.new two.new (HoldsKeeping (work_row work).makes store.world.world) }
+    ensures kept { IsTrue (D.tells one.old) → IsTrue (D.tells two.old) → LeavesPairs D.Disk one.old two.old one.new two.new (HoldsKeeping (work_row work).makes store.old.world.world) }
     ensures durable { IfOk result (λ r. IsTrue (D.tells one.old) → IsTrue (D.tells two.old) → AreDurable D.Disk one.new two.new) }
     ensures tells { (D.tells one.new ≡ D.tells one.old) × (D.tells two.new ≡ D.tells two.old) }
     ensures untouched { EndsWith (work_row work).undone result → (one.new ≡ one.old) × (two.new ≡ two.old) }
     ensures idle { IsNoRun work → (transport.new ≡ transport.old) × (pacer.new ≡ pacer.old) }
     ensures asked { AsksByTurns T.Transport (OnStore work) transport.old transport.new }
     ensures outside { IfOk result (λ r. IsTrue (D.tells one.old) → IsTrue (D.tells two.old)
-        → WorksOutside (exchange T.Transport P.Pacer transport.old transport.new pacer.old pacer.new) work store.world.world (D.seen one.new, D.seen two.new) r.status) }
+        → WorksOutside (exchange T.Transport P.Pacer transport.old transport.new pacer.old pacer.new) work store.old.world.world (D.seen one.new, D.seen two.new) r.status) }
     ensures cause { CountsDisks result (D.faults one.old) (D.faults one.new) (D.faults two.old) (D.faults two.new) }
 {
     worlds_are_kept();
@@ -86,7 +86,7 @@ fn work_reply<D: Disk, T: Transport, P: Pacer>(
 {
     match open_store(alloc, one, two)? {
         Opened::Told(reply) => Ok(reply),
-        Opened::Held(store) => worked(alloc, store, work, one, two, transport, pacer),
+        Opened::Held(mut store) => { worked(alloc, &mut store, work, one, two, transport, pacer) }
     }
 }
 

@@ -233,18 +233,18 @@ fn entry_of(
 /// The reply to an event on a store.
 pub(crate) fn event_reply<D: Disk>(
     alloc: Global,
-    mut store: Store,
+    store: &mut Store,
     asked: Asked,
     one: &mut D,
     two: &mut D,
 ) -> Result<Reply, ActError>
     requires ready { IsReadyAsked asked }
-    requires live { store.live ≡ true }
-    requires stands { IsTrue (D.tells one.old) → IsTrue (D.tells two.old) → StandsFor D.Disk store one.old two.old }
+    requires live { store.old.live ≡ true }
+    requires stands { IsTrue (D.tells one.old) → IsTrue (D.tells two.old) → StandsFor D.Disk store.old one.old two.old }
     ensures does { IfOk result (λ r. IsTrue (D.tells one.old) → IsTrue (D.tells two.old)
-        → (event_row asked).does (D.seen one.old, D.seen two.old) store.world.world (D.seen one.new, D.seen two.new) r) }
+        → (event_row asked).does (D.seen one.old, D.seen two.old) store.old.world.world (D.seen one.new, D.seen two.new) r) }
     ensures may { IfOk result (λ r. (event_row asked).may r) }
-    ensures kept { IsTrue (D.tells one.old) → IsTrue (D.tells two.old) → LeavesPairs D.Disk one.old two.old one.new two.new (HoldsKeeping (event_row asked).makes store.world.world) }
+    ensures kept { IsTrue (D.tells one.old) → IsTrue (D.tells two.old) → LeavesPairs D.Disk one.old two.old one.new two.new (HoldsKeeping (event_row asked).makes store.old.world.world) }
     ensures durable { IfOk result (λ r. IsTrue (D.tells one.old) → IsTrue (D.tells two.old) → AreDurable D.Disk one.new two.new) }
     ensures tells { (D.tells one.new ≡ D.tells one.old) × (D.tells two.new ≡ D.tells two.old) }
     ensures untouched { EndsWith (event_row asked).undone result → (one.new ≡ one.old) × (two.new ≡ two.old) }

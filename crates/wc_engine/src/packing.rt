@@ -19,16 +19,16 @@ use wc_store::Store;
 /// The reply of `pack` on a store.
 pub(crate) fn pack_reply<D: Disk>(
     alloc: Global,
-    mut store: Store,
+    store: &mut Store,
     one: &mut D,
     two: &mut D,
 ) -> Result<Reply, ActError>
-    requires live { store.live ≡ true }
-    requires stands { IsTrue (D.tells one.old) → IsTrue (D.tells two.old) → StandsFor D.Disk store one.old two.old }
+    requires live { store.old.live ≡ true }
+    requires stands { IsTrue (D.tells one.old) → IsTrue (D.tells two.old) → StandsFor D.Disk store.old one.old two.old }
     ensures does { IfOk result (λ r. IsTrue (D.tells one.old) → IsTrue (D.tells two.old)
-        → pack_row.does (D.seen one.old, D.seen two.old) store.world.world (D.seen one.new, D.seen two.new) r) }
+        → pack_row.does (D.seen one.old, D.seen two.old) store.old.world.world (D.seen one.new, D.seen two.new) r) }
     ensures may { IfOk result (λ r. pack_row.may r) }
-    ensures kept { IsTrue (D.tells one.old) → IsTrue (D.tells two.old) → LeavesPairs D.Disk one.old two.old one.new two.new (HoldsKeeping pack_row.makes store.world.world) }
+    ensures kept { IsTrue (D.tells one.old) → IsTrue (D.tells two.old) → LeavesPairs D.Disk one.old two.old one.new two.new (HoldsKeeping pack_row.makes store.old.world.world) }
     ensures durable { IfOk result (λ r. IsTrue (D.tells one.old) → IsTrue (D.tells two.old) → AreDurable D.Disk one.new two.new) }
     ensures tells { (D.tells one.new ≡ D.tells one.old) × (D.tells two.new ≡ D.tells two.old) }
     ensures untouched { EndsWith pack_row.undone result → (one.new ≡ one.old) × (two.new ≡ two.old) }

@@ -51,7 +51,7 @@ fn has_run(alloc: Global, end: RunEnd, begun: u32, world: &World) -> Result<Repl
 /// The reply of `run` on a store.
 pub(crate) fn run_reply<D: Disk, T: Transport, P: Pacer>(
     alloc: Global,
-    mut store: Store,
+    store: &mut Store,
     options: RunOptions,
     one: &mut D,
     two: &mut D,
@@ -59,18 +59,18 @@ pub(crate) fn run_reply<D: Disk, T: Transport, P: Pacer>(
     pacer: &mut P,
 ) -> Result<Reply, ActError>
     requires limits { AreLimits options.limits }
-    requires live { store.live ≡ true }
-    requires stands { IsTrue (D.tells one.old) → IsTrue (D.tells two.old) → StandsFor D.Disk store one.old two.old }
+    requires live { store.old.live ≡ true }
+    requires stands { IsTrue (D.tells one.old) → IsTrue (D.tells two.old) → StandsFor D.Disk store.old one.old two.old }
     ensures does { IfOk result (λ r. IsTrue (D.tells one.old) → IsTrue (D.tells two.old)
-        → (run_row options).does (D.seen one.old, D.seen two.old) store.world.world (D.seen one.new, D.seen two.new) r) }
+        → (run_row options).does (D.seen one.old, D.seen two.old) store.old.world.world (D.seen one.new, D.seen two.new) r) }
     ensures may { IfOk result (λ r. (run_row options).may r) }
-    ensures kept { IsTrue (D.tells one.old) → IsTrue (D.tells two.old) → LeavesPairs D.Disk one.old two.old one.new two.new (HoldsKeeping (run_row options).makes store.world.world) }
+    ensures kept { IsTrue (D.tells one.old) → IsTrue (D.tells two.old) → LeavesPairs D.Disk one.old two.old one.new two.new (HoldsKeeping (run_row options).makes store.old.world.world) }
     ensures durable { IfOk result (λ r. IsTrue (D.tells one.old) → IsTrue (D.tells two.old) → AreDurable D.Disk one.new two.new) }
     ensures tells { (D.tells one.new ≡ D.tells one.old) × (D.tells two.new ≡ D.tells two.old) }
     ensures untouched { EndsWith (run_row options).undone result → (one.new ≡ one.old) × (two.new ≡ two.old) }
     ensures asked { IsAskedFor T.Transport options.turns transport.old transport.new }
     ensures outside { IfOk result (λ r. IsTrue (D.tells one.old) → IsTrue (D.tells two.old)
-        → RunsOutside (exchange T.Transport P.Pacer transport.old transport.new pacer.old pacer.new) options store.world.world (D.seen one.new, D.seen two.new) r.status) }
+        → RunsOutside (exchange T.Transport P.Pacer transport.old transport.new pacer.old pacer.new) options store.old.world.world (D.seen one.new, D.seen two.new) r.status) }
     ensures cause { CountsDisks result (D.faults one.old) (D.faults one.new) (D.faults two.old) (D.faults two.new) }
 {
     worlds_are_kept();
@@ -78,7 +78,7 @@ pub(crate) fn run_reply<D: Disk, T: Transport, P: Pacer>(
     let begun = store.world().batches();
     match run(
         alloc,
-        &mut store,
+        store,
         one,
         two,
         transport,

@@ -1,5 +1,6 @@
 use Rattle.std.proofs.Common.{Bool, IsTrue, sym, subst}
 use Rattle.std.proofs.lemmas.Result.{IfOk-weaker}
+use Rattle.wc_engine.specs.Crashes.{AreDurable}
 use Rattle.wc_engine.specs.Opening.{Opens, IsToldUndone}
 use Rattle.wc_engine.specs.Outside.{exchange, ActsOutside, WorksOutside}
 use Rattle.wc_engine.specs.Statuses.{IsDoneOrFull}
@@ -83,3 +84,13 @@ returns-in-Held-clause-outside g c =
       h (subst (λ (b : Bool). IsTrue b) (sym tells.0) told) (subst (λ (b : Bool). IsTrue b) (sym tells.1) told_too),
     ))
     c.worked.ensures.outside
+
+pub returns-in-Held-clause-durable : goal.returns-in-Held-clause-durable
+returns-in-Held-clause-durable g c =
+    let one = c.args.one.now in
+    let two = c.args.two.now in
+    let tells = c.open_store.ensures.tells in
+    let P : Reply → Type 0 = λ r. IsTrue (g.D.Disk.tells c.open_store.new.one) → IsTrue (g.D.Disk.tells c.open_store.new.two) → AreDurable g.D.Disk c.worked.new.one c.worked.new.two in
+    let Q : Reply → Type 0 = λ r. IsDoneOrFull r.status → IsTrue (g.D.Disk.tells one) → IsTrue (g.D.Disk.tells two) → AreDurable g.D.Disk c.worked.new.one c.worked.new.two in
+    IfOk-weaker c.worked.result P Q (λ r h done told told_too. h (subst (λ (b : Bool). IsTrue b) (sym tells.0) told) (subst (λ (b : Bool). IsTrue b) (sym tells.1) told_too))
+    c.worked.ensures.durable

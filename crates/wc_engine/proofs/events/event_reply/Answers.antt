@@ -20,7 +20,7 @@ use Rattle.wc_engine.proofs.events.event_reply.Goals as goal
 pub returns-in_err-reply-clause-kept : goal.returns-in_err-reply-clause-kept
 returns-in_err-reply-clause-kept g c =
     λ told told_too.
-    standing g.D.Disk g.met.D.Disk.only_now c.worlds_are_kept.ensures.reached c.worlds_are_kept.ensures.same c.args.store c.args.one.now c.args.two.now (c.requires.stands told told_too)
+    standing g.D.Disk g.met.D.Disk.only_now c.worlds_are_kept.ensures.reached c.worlds_are_kept.ensures.same c.args.store.now c.args.one.now c.args.two.now (c.requires.stands told told_too)
     (MayHappen c.args.asked) (λ images. inl refl)
 
 -- ---- nothing is stored
@@ -28,8 +28,8 @@ returns-in_err-reply-clause-kept g c =
 pub returns-in-Told-clause-does : goal.returns-in-Told-clause-does
 returns-in-Told-clause-does g c =
     λ told told_too.
-    let w : c.world.result.now.world ≡ c.args.store.world.world = λ i. (c.world.ensures i).world in
-    stays_alone g.D.Disk c.args.asked c.args.store c.args.one.now c.args.two.now c.in-Told.reply (c.requires.stands told told_too)
+    let w : c.world.result.now.world ≡ c.args.store.now.world.world = λ i. (c.world.ensures i).world in
+    stays_alone g.D.Disk c.args.asked c.args.store.now c.args.one.now c.args.two.now c.in-Told.reply (c.requires.stands told told_too)
     (subst (λ (v : World). TellsAlone c.args.asked v c.in-Told.reply) w (subst (IsEntryOf c.args.asked c.world.result.now.world) c.in-Told.is c.in_ok-reply.ensures))
 
 pub returns-in-Told-clause-may : goal.returns-in-Told-clause-may
@@ -39,7 +39,7 @@ returns-in-Told-clause-may g c =
 pub returns-in-Told-clause-kept : goal.returns-in-Told-clause-kept
 returns-in-Told-clause-kept g c =
     λ told told_too.
-    standing g.D.Disk g.met.D.Disk.only_now c.worlds_are_kept.ensures.reached c.worlds_are_kept.ensures.same c.args.store c.args.one.now c.args.two.now (c.requires.stands told told_too)
+    standing g.D.Disk g.met.D.Disk.only_now c.worlds_are_kept.ensures.reached c.worlds_are_kept.ensures.same c.args.store.now c.args.one.now c.args.two.now (c.requires.stands told told_too)
     (MayHappen c.args.asked) (λ images. inl refl)
 
 pub returns-in-Told-clause-durable : goal.returns-in-Told-clause-durable
@@ -50,7 +50,7 @@ returns-in-Told-clause-durable g c = λ told told_too. let s = c.requires.stands
 pub returns-in-Ok-clause-does : goal.returns-in-Ok-clause-does
 returns-in-Ok-clause-does g c =
     λ told told_too.
-    let s = c.args.store in
+    let s = c.args.store.now in
     let a = c.args.asked in
     let cs = c.in-Stored.changes in
     let w : c.world.result.now.world ≡ s.world.world = λ i. (c.world.ensures i).world in
@@ -69,7 +69,7 @@ returns-in-Ok-clause-may g c =
 pub returns-in-Ok-clause-kept : goal.returns-in-Ok-clause-kept
 returns-in-Ok-clause-kept g c =
     λ told told_too.
-    let s = c.args.store in
+    let s = c.args.store.now in
     let a = c.args.asked in
     let cs = c.in-Stored.changes in
     let w : c.world.result.now.world ≡ s.world.world = λ i. (c.world.ensures i).world in
@@ -82,9 +82,9 @@ returns-in-Ok-clause-untouched g c = λ ends. absurd (subst (λ (r : Reply). IsB
 
 -- ---- the commit is refused
 
-pub returns-clause-does : goal.returns-clause-does
-returns-clause-does g c =
-    let s = c.args.store in
+pub returns-in-Err-clause-does : goal.returns-in-Err-clause-does
+returns-in-Err-clause-does g c =
+    let s = c.args.store.now in
     let a = c.args.asked in
     let cs = c.in-Stored.changes in
     let w : c.world.result.now.world ≡ s.world.world = λ i. (c.world.ensures i).world in
@@ -93,9 +93,9 @@ returns-clause-does g c =
     (subst (λ (l : Limits). RefusesCommit s.journal l s.world.world cs c.in-Err.error) c.limits_of-limits.ensures.value c.in-Err.ensures.refused)
     c.in-Err.ensures.untouched_one c.in-Err.ensures.untouched_two c.refused.ensures.reply
 
-pub returns-clause-may : goal.returns-clause-may
-returns-clause-may g c =
-    let s = c.args.store in
+pub returns-in-Err-clause-may : goal.returns-in-Err-clause-may
+returns-in-Err-clause-may g c =
+    let s = c.args.store.now in
     let a = c.args.asked in
     let cs = c.in-Stored.changes in
     let w : c.world.result.now.world ≡ s.world.world = λ i. (c.world.ensures i).world in
@@ -103,10 +103,10 @@ returns-clause-may g c =
     refused_commit a s.journal s.world.world cs c.in-Err.error c.refused.result e.0
     (subst (λ (l : Limits). RefusesCommit s.journal l s.world.world cs c.in-Err.error) c.limits_of-limits.ensures.value c.in-Err.ensures.refused) c.refused.ensures.reply
 
-pub returns-clause-kept : goal.returns-clause-kept
-returns-clause-kept g c =
+pub returns-in-Err-clause-kept : goal.returns-in-Err-clause-kept
+returns-in-Err-clause-kept g c =
     λ told told_too.
-    let s = c.args.store in
+    let s = c.args.store.now in
     let a = c.args.asked in
     let cs = c.in-Stored.changes in
     let w : c.world.result.now.world ≡ s.world.world = λ i. (c.world.ensures i).world in
@@ -114,12 +114,12 @@ returns-clause-kept g c =
     committed g.D.Disk g.met.D.Disk.only_now c.worlds_are_kept.ensures.reached c.worlds_are_kept.ensures.same s c.args.one.now c.args.two.now (c.requires.stands told told_too)
     (MayHappen a) c.limits_of-limits.result cs c.commit.new.one c.commit.new.two (λ images. inl refl) (λ images. inr (made_by a s.world.world cs e.0)) e.0.keeps (c.commit.ensures.any_moment told told_too)
 
-pub returns-clause-durable : goal.returns-clause-durable
-returns-clause-durable g c =
+pub returns-in-Err-clause-durable : goal.returns-in-Err-clause-durable
+returns-in-Err-clause-durable g c =
     refused_durable g.D.Disk (Unit {0}) c.in-Err.error c.commit.new.self (IsTrue (g.D.Disk.tells c.args.one.now)) (IsTrue (g.D.Disk.tells c.args.two.now)) c.commit.new.one c.commit.new.two
     c.refused.result c.refused.ensures.reply c.in-Err.ensures.live c.commit.ensures.still
 
-pub returns-clause-untouched : goal.returns-clause-untouched
-returns-clause-untouched g c =
+pub returns-in-Err-clause-untouched : goal.returns-in-Err-clause-untouched
+returns-in-Err-clause-untouched g c =
     refused_untouched g.D.Disk (Unit {0}) IsBeforeStoring (λ never. never) c.in-Err.error c.args.one.now c.args.two.now c.commit.new.one c.commit.new.two c.in-Err.ensures.untouched_one
     c.in-Err.ensures.untouched_two c.refused.result c.refused.ensures.fault

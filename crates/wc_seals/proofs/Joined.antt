@@ -1,11 +1,13 @@
 -- Entries in two lists in order.
 use Rattle.std.proofs.Common.{◌≡◌, ℕ, ◌+◌, ◌≤◌, Bool, true, false, List, [], ◌∷◌, length, refl, sym, ap, ◌∙◌, arith}
-use Rattle.std.specs.Prelude.{if◌then◌else◌, ◌==◌, ◌||◌, slice_get}
+use Rattle.std.specs.Prelude.{if◌then◌else◌, ◌==◌, ◌||◌, ◌-◌, slice_get, slice_index_or, Option, Some, None}
+use Rattle.std.proofs.lemmas.List.{get_or_default}
+use Rattle.std.proofs.lemmas.Map.Keys.{any_passes_from_place}
 use Rattle.std.specs.Str.{bytes_eq}
 use Rattle.std.proofs.lemmas.Bool.{eqb-true, and_parts}
 use Rattle.wc_value.proofs.Puts.{same_name}
 use Rattle.wc_records.specs.Marked.{IsSorted, IsPlace, is_item, marked}
-use Rattle.wc_records.proofs.Marks.{sorted_marked, marked_present, marked_absent}
+use Rattle.wc_records.proofs.Marks.{sorted_marked, sorted_is_parted, marked_present, marked_absent}
 use Rattle.wc_records.proofs.Standing.{stands_itself, stands_other, length_marked, as_number}
 use Rattle.wc_seals.specs.declared.marking.Sealed.{Sealed}
 use Rattle.wc_seals.specs.Order.{earlier, is_seal, is_in, joined}
@@ -60,6 +62,24 @@ told_marked w s xs h d p = by_test (is_seal d p s) refl
     by_test : (b : Bool) → is_seal d p s ≡ b → is_in d p (marked earlier s w xs) ≡ (if b then w else is_in d p xs)
     by_test true is = at_itself d p s is (marked earlier s w xs) ∙ stands_itself earlier in_order (is_seal s.digest s.pid) s (seal_tests s) w xs h
     by_test false other = stands_other earlier in_order (is_seal d p) s w xs other
+
+-- where the last entry comes before one, all do
+pub behind_all : (xs : List Sealed) → IsSorted earlier xs → (s d : Sealed) → earlier (slice_index_or xs (length xs - 1) d) s ≡ true → IsPlace earlier s xs (length xs)
+behind_all xs h s d last = record {
+  within = omega arith;
+  front = λ k e lt.
+      sorted_is_parted earlier in_order s xs h k (length xs - 1) e (omega (arith, lt)) (omega (arith, lt))
+      (ap (λ (x : Sealed). earlier x s) (get_or_default xs (length xs - 1) e d (omega (arith, lt))) ∙ last);
+  back = λ k e le lt. absurd (omega (arith, le, lt));
+}
+
+-- an item at a place that is this entry
+pub there_at : (xs : List Sealed) (digest : List ℕ) (pid at : ℕ) → is_item (is_seal digest pid) (slice_get xs at) ≡ true → is_in digest pid xs ≡ true
+there_at xs digest pid at h = by_item (slice_get xs at) refl h
+  where
+    by_item : (item : Option Sealed) → slice_get xs at ≡ item → is_item (is_seal digest pid) item ≡ true → is_in digest pid xs ≡ true
+    by_item None e is = absurd (cc)
+    by_item (Some s) e is = any_passes_from_place (is_seal digest pid) xs at s e is
 
 -- the entry at its place
 pub found_at : (xs : List Sealed) → IsSorted earlier xs → (s : Sealed) (at : ℕ) → IsPlace earlier s xs at → is_item (is_seal s.digest s.pid) (slice_get xs at) ≡ is_in s.digest s.pid xs

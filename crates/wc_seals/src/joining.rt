@@ -5,11 +5,15 @@ ghost use Rattle.wc_records.specs.Marked.{IsSorted, IsPlace, marked};
 ghost use Rattle.wc_seals.specs.Order.{earlier, is_in, joined, AreApart, AreTwo};
 ghost use Rattle.wc_seals.specs.Gaps.{PutsInGap};
 
-use crate::marking::{Sealed, contains, mark, place_in};
+use crate::marking::{Sealed, contains, find_from, mark, place_in};
 use crate::seals::part_of;
 
-/// How many entries the short list has at most.
-pub(crate) const SHORT_MOST: usize = 4096;
+/// How many entries the short list has at most, copies among them.
+pub(crate) const SHORT_MOST: usize = 16_384;
+
+/// How many entries a digest has at most where they are copied into the short list. Those of a digest with more stay in the long
+/// list, and a further one goes there. So the short list is emptied into the long one at each fourth entry at most.
+const COPIES_MOST: usize = SHORT_MOST / 4 - 1;
 
 /// Adds entries at the end. There are places for them, so that this takes no memory.
 fn push_all(long: &mut Vec<Sealed>, seals: &[Sealed])
@@ -62,9 +66,12 @@ fn drop_known(long: &[Sealed], short: &mut Vec<Sealed>)
     ensures capacity { vec_capacity short.new ≡ vec_capacity short.old }
 {
     let mut kept = 0;
+    let mut from = 0;
     for at in 0..short.len() {
         let seal = short[at];
-        if !contains(long, &seal) {
+        let (known, next) = find_from(long, from, &seal);
+        from = next;
+        if !known {
             short[kept] = seal;
             kept += 1;
         }
@@ -84,22 +91,46 @@ fn merge(long: &mut Vec<Sealed>, short: &mut Vec<Sealed>)
     short.clear();
 }
 
-/// Empties the short list into the long one, where there is no place in it for one more entry.
-fn make_place(long: &mut Vec<Sealed>, short: &mut Vec<Sealed>)
+/// Whether so many entries of a digest are copied into the short list.
+fn are_copied(count: usize) -> bool {
+    count <= COPIES_MOST
+}
+
+/// How many places there have to be in the short list before an entry with a digest is put in: one, and one for each entry of the
+/// digest that is copied.
+fn places_needed(long: &[Sealed], short: &[Sealed], digest: &[u8]) -> usize
+    requires long { IsSorted earlier long.now }
+    requires short { IsSorted earlier short.now }
+    ensures { 0 < result }
+{
+    if !part_of(short, digest).is_empty() {
+        return 1;
+    }
+    let count = part_of(long, digest).len();
+    if are_copied(count) {
+        count.saturating_add(1)
+    } else {
+        1
+    }
+}
+
+/// Empties the short list into the long one, where it hasn't the places for an entry with a digest and the copies that it brings.
+fn make_place(long: &mut Vec<Sealed>, short: &mut Vec<Sealed>, digest: &[u8])
     requires { AreTwo long.old.items short.old.items (vec_capacity long.old) }
     ensures two { AreTwo long.new.items short.new.items (vec_capacity long.new) }
     ensures same { joined long.new.items short.new.items ≡ joined long.old.items short.old.items }
     ensures place { 0 < length short.new.items → length short.new.items < vec_capacity short.new }
     ensures capacity { vec_capacity long.new ≡ vec_capacity long.old }
 {
-    if short.len() < SHORT_MOST && short.len() < short.capacity() {
+    let places = places_needed(long.as_slice(), short.as_slice(), digest);
+    if places <= short.capacity().min(SHORT_MOST).saturating_sub(short.len()) {
         return;
     }
     merge(long, short);
 }
 
-/// Copies the entries of a digest into the short list, if it has none of them and there is a place for one more. Whether all of
-/// them are there, and a place.
+/// Copies the entries of a digest into the short list, if it has none of them, they aren't too many, and there is a place for one
+/// more. Whether all of them are there, and a place.
 fn gather(long: &[Sealed], short: &mut Vec<Sealed>, digest: &[u8]) -> bool
     requires two { (places : ℕ) × AreTwo long.now short.old.items places }
     requires place { 0 < length short.old.items → length short.old.items < vec_capacity short.old }
@@ -113,6 +144,9 @@ fn gather(long: &[Sealed], short: &mut Vec<Sealed>, digest: &[u8]) -> bool
         return true;
     }
     let part = part_of(long, digest);
+    if !are_copied(part.len()) {
+        return false;
+    }
     if short.capacity() - short.len() <= part.len() {
         return false;
     }
@@ -134,7 +168,7 @@ pub(crate) fn put_in(long: &mut Vec<Sealed>, short: &mut Vec<Sealed>, seal: Seal
     if contains(short.as_slice(), &seal) {
         return;
     }
-    make_place(long, short);
+    make_place(long, short, seal.digest.as_slice());
     if gather(long.as_slice(), short, seal.digest.as_slice()) {
         mark(short, seal, true);
     } else {

@@ -13,7 +13,8 @@ use std::marker::Model;
 
 /// Digests in order, each with the number of a calculation. Contracts see the entries, and for how many there are places.
 /// Most stand in one list. Those that came last stand in a short one, so that little is moved where one is put in. A digest that
-/// has an entry there has all of them there: what a digest has is lent as one slice, of the short list if it is in there.
+/// has an entry there has all of them there, the older ones as copies: what a digest has is lent as one slice, of the short list
+/// if it is in there. Those of a digest that has very many stay in the long one.
 #[derive(Drop)]
 pub struct Seals {
     long: Vec<Sealed>,

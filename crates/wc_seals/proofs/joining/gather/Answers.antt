@@ -11,6 +11,12 @@ returns-then-not-is_empty-clause-all c = λ e.
     all_there c.args.long.now c.args.short.now.items c.requires.two.0 c.requires.two.1 c.args.digest.now
     (subst (λ (xs : List Sealed). 0 < length xs) (c.part_of.ensures ∙ ap (with_digest c.args.digest.now) c.as_slice.ensures.value) some)
 
+pub returns-then-not-are_copied-clause-none : goal.returns-then-not-are_copied-clause-none
+returns-then-not-are_copied-clause-none c = λ e.
+    let none = is_none c.part_of.result.now c.is_empty.result c.is_empty.ensures c.if-not-is_empty.false in
+    none_there c.args.long.now c.args.short.now.items c.requires.two.0 c.requires.two.1 c.args.digest.now
+    (sym (c.part_of.ensures ∙ ap (with_digest c.args.digest.now) c.as_slice.ensures.value) ∙ none)
+
 pub returns-then-capacity-len-clause-none : goal.returns-then-capacity-len-clause-none
 returns-then-capacity-len-clause-none c = λ e.
     let none = is_none c.part_of.result.now c.is_empty.result c.is_empty.ensures c.if-not-is_empty.false in

@@ -29,7 +29,7 @@ pub mark-requires-clause-room : goal.mark-requires-clause-room
 mark-requires-clause-room c =
     let s = c.args.seal in
     let long = c.make_place.new.long in
-    let two = c.gather.ensures.two (vec_capacity long) (subst (λ (xs : List Sealed). AreTwo xs c.make_place.new.short.items (vec_capacity long)) (sym c.as_slice-3.ensures.value) c.make_place.ensures.two) in
+    let two = c.gather.ensures.two (vec_capacity long) (subst (λ (xs : List Sealed). AreTwo xs c.make_place.new.short.items (vec_capacity long)) (sym c.as_slice-4.ensures.value) c.make_place.ensures.two) in
     let marks = length_marked earlier in_order (is_seal s.digest s.pid) s (seal_tests s) true c.gather.new.short.items two.short_order in
     omega (arith, marks, c.gather.ensures.place c.if-gather.true)
 
@@ -47,8 +47,8 @@ returns-then-gather-clause-two c =
     let long = c.make_place.new.long in
     let short = c.gather.new.short.items in
     let places = vec_capacity long in
-    let at = c.as_slice-3.ensures.value in
-    let digest = c.as_slice-4.ensures in
+    let at = c.as_slice-4.ensures.value in
+    let digest = c.as_slice-5.ensures in
     let two = subst (λ (xs : List Sealed). AreTwo xs short places) at
     (c.gather.ensures.two places (subst (λ (xs : List Sealed). AreTwo xs c.make_place.new.short.items places) (sym at) c.make_place.ensures.two)) in
     let same : joined long.items short ≡ joined long.items c.make_place.new.short.items
@@ -64,7 +64,7 @@ returns-then-gather-clause-items c =
     let long = c.make_place.new.long in
     let short = c.gather.new.short.items in
     let places = vec_capacity long in
-    let at = c.as_slice-3.ensures.value in
+    let at = c.as_slice-4.ensures.value in
     let two = subst (λ (xs : List Sealed). AreTwo xs short places) at
     (c.gather.ensures.two places (subst (λ (xs : List Sealed). AreTwo xs c.make_place.new.short.items places) (sym at) c.make_place.ensures.two)) in
     let same : joined long.items short ≡ joined long.items c.make_place.new.short.items
@@ -77,8 +77,8 @@ returns-else-gather-clause-two c =
     let long = c.make_place.new.long in
     let short = c.gather.new.short.items in
     let places = vec_capacity long in
-    let at = c.as_slice-3.ensures.value in
-    let digest = c.as_slice-4.ensures in
+    let at = c.as_slice-4.ensures.value in
+    let digest = c.as_slice-5.ensures in
     let mark = c.mark-else-gather in
     let two = subst (λ (xs : List Sealed). AreTwo xs short places) at
     (c.gather.ensures.two places (subst (λ (xs : List Sealed). AreTwo xs c.make_place.new.short.items places) (sym at) c.make_place.ensures.two)) in
@@ -95,7 +95,7 @@ returns-else-gather-clause-items c =
     let long = c.make_place.new.long in
     let short = c.gather.new.short.items in
     let places = vec_capacity long in
-    let at = c.as_slice-3.ensures.value in
+    let at = c.as_slice-4.ensures.value in
     let two = subst (λ (xs : List Sealed). AreTwo xs short places) at
     (c.gather.ensures.two places (subst (λ (xs : List Sealed). AreTwo xs c.make_place.new.short.items places) (sym at) c.make_place.ensures.two)) in
     let same : joined long.items short ≡ joined long.items c.make_place.new.short.items

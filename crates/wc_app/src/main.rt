@@ -24,6 +24,30 @@ fn disk(rt: HostRuntime, path: &str) -> Result<FileDisk<HostRuntime>, AllocError
     Ok(FileDisk::new(rt, Text::of_str(rt.alloc(), path)?))
 }
 
+/// Hands all over to `serve`, whose clauses stay behind this call, so that what sets up doesn't carry them. The status.
+fn served(
+    rt: HostRuntime,
+    words: &Words,
+    one: &mut FileDisk<HostRuntime>,
+    two: &mut FileDisk<HostRuntime>,
+    transport: &mut LocalTransport<HostRuntime>,
+) -> ExitCode {
+    let mut shelf = FileShelf::new(rt);
+    let mut sink = StdoutSink::new(rt);
+    let mut pacer = ClockPacer::new(rt);
+    let status = serve(
+        rt.alloc(),
+        words,
+        &mut shelf,
+        &mut sink,
+        one,
+        two,
+        transport,
+        &mut pacer,
+    );
+    ExitCode::from(status.code())
+}
+
 fn main(rt: HostRuntime) -> ExitCode {
     let words = match words_of(&rt) {
         Ok(words) => words,
@@ -31,8 +55,6 @@ fn main(rt: HostRuntime) -> ExitCode {
         Err(error) if error.kind() == io::ErrorKind::InvalidData => List::new(rt.alloc()),
         Err(_) => return ExitCode::from(Status::OutOfMemory.code()),
     };
-    let mut shelf = FileShelf::new(rt);
-    let mut sink = StdoutSink::new(rt);
     let (Ok(mut one), Ok(mut two)) = (disk(rt, "wc.store/one"), disk(rt, "wc.store/two")) else {
         return ExitCode::from(Status::OutOfMemory.code());
     };
@@ -40,16 +62,5 @@ fn main(rt: HostRuntime) -> ExitCode {
         return ExitCode::from(Status::OutOfMemory.code());
     };
     let mut transport = LocalTransport::new(rt, rt.alloc(), work);
-    let mut pacer = ClockPacer::new(rt);
-    let status = serve(
-        rt.alloc(),
-        &words,
-        &mut shelf,
-        &mut sink,
-        &mut one,
-        &mut two,
-        &mut transport,
-        &mut pacer,
-    );
-    ExitCode::from(status.code())
+    served(rt, &words, &mut one, &mut two, &mut transport)
 }

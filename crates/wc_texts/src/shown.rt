@@ -1,7 +1,9 @@
 //! Texts as answers, and which question asks for which.
 
+use crate::commands::command_answer;
 use crate::lines::line_answer;
 use crate::names::name_answer;
+use crate::settings::{settings_answer, usual_answer};
 use crate::trees::tree_answer;
 use crate::values::value_answer;
 use std::alloc::{AllocError, Global};
@@ -44,6 +46,9 @@ impl Answers for Texts {
             "state" | "reason" | "process" | "kind" => name_answer(alloc, verb, words),
             "value" => value_answer(alloc, words),
             "tree" => tree_answer(alloc, words),
+            "words" => command_answer(alloc, words),
+            "file" => settings_answer(alloc, words),
+            "usual" => usual_answer(alloc),
             _ => line_answer(alloc, verb, words),
         }
     }

@@ -1,8 +1,8 @@
 //! Words of the command line, and the commands that they are.
 
+use crate::shown::word;
 use std::alloc::{AllocError, Global};
 use wc_cli::{Command, Givens, View, command_of};
-use wc_questions::{Answers, first_word};
 use wc_value::{Text, Words};
 
 /// The words of a line in which single spaces part them.
@@ -50,11 +50,6 @@ fn call_text(
     put(&mut text, " ", name.as_str())?;
     put_given(&mut text, given)?;
     Ok(text)
-}
-
-/// A word.
-fn word(alloc: Global, word: &str) -> Result<String, AllocError> {
-    String::from_str(alloc, word)
 }
 
 /// A command with a number, in words.
@@ -164,25 +159,11 @@ fn pointed(text: Result<String, AllocError>) -> Result<String, AllocError> {
     Ok(text)
 }
 
-/// The command of a line, in words, with a point behind it.
-fn line_answer(alloc: Global, line: &str) -> Result<String, AllocError> {
+/// The command that the words of a line are, in words, with a point behind it.
+pub fn command_answer(alloc: Global, line: &str) -> Result<String, AllocError> {
     let words = words_of(alloc, line)?;
     match command_of(alloc, &words) {
         Ok(command) => pointed(came(alloc, &command)),
         Err(error) => Err(error),
-    }
-}
-
-/// What words are read as.
-#[derive(Drop)]
-pub struct Commands;
-
-impl Answers for Commands {
-    fn answer(&mut self, alloc: Global, question: &str) -> Result<String, AllocError> {
-        let (verb, line) = first_word(question);
-        match verb {
-            "words" => line_answer(alloc, line),
-            _ => word(alloc, "no such question"),
-        }
     }
 }

@@ -2,7 +2,6 @@
 
 use std::alloc::{AllocError, Global};
 use wc_config::{ConfigError, Settings, caching_on, read_settings};
-use wc_questions::{Answers, first_word};
 use wc_value::Text;
 
 /// Puts whether caching is on for a name behind a text.
@@ -66,22 +65,12 @@ fn lines_of(alloc: Global, line: &str) -> Result<String, AllocError> {
 }
 
 /// What a settings file of these lines gives.
-fn file_answer(alloc: Global, line: &str) -> Result<String, AllocError> {
+pub fn settings_answer(alloc: Global, line: &str) -> Result<String, AllocError> {
     let file = lines_of(alloc, line)?;
     read(alloc, file.as_str().as_bytes())
 }
 
-/// What settings files are read as.
-#[derive(Drop)]
-pub struct Files;
-
-impl Answers for Files {
-    fn answer(&mut self, alloc: Global, question: &str) -> Result<String, AllocError> {
-        let (verb, line) = first_word(question);
-        match verb {
-            "file" => file_answer(alloc, line),
-            "usual" => shown(alloc, &Settings::usual(alloc)),
-            _ => String::from_str(alloc, "no such question"),
-        }
-    }
+/// What holds where there are no settings.
+pub fn usual_answer(alloc: Global) -> Result<String, AllocError> {
+    shown(alloc, &Settings::usual(alloc))
 }

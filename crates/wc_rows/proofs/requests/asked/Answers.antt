@@ -6,7 +6,7 @@ use Rattle.wc_syntax.specs.declared.definition.Definition.{Definition}
 use Rattle.wc_expression.specs.declared.outcome.Outcome.{Outcome}
 use Rattle.wc_machine.specs.Recorded.{request_by}
 use Rattle.wc_job.proofs.Named.{request_named}
-use Rattle.wc_jobs.proofs.requests.asked.Goals as goal
+use Rattle.wc_rows.proofs.requests.asked.Goals as goal
 
 pub request_of-requires : goal.request_of-requires
 request_of-requires c =

@@ -11,9 +11,10 @@ ghost use Rattle.wc_refusal.specs.Refusals.{FullOfBatches, NoneHolds};
 ghost use Rattle.wc_core.specs.Refusals.{AreChangesOf, RefusesMark};
 
 use std::alloc::{AllocError, Global};
+use wc_job::anew;
 use wc_kill_changes::kill;
 use wc_refusal::{TurnError, check_batch, live_process};
-use wc_state::{JobPart, Part, ProcessRecord};
+use wc_state::{Part, ProcessRecord};
 use wc_value::Duplicate;
 use wc_world::{Change, Changes, SetProcess, World, reached_worlds_are_consistent};
 
@@ -37,11 +38,7 @@ fn renewed(part: &Part) -> Result<Part, AllocError>
     ensures { IfOk result (λ p. p ≡ renewed part.now) }
 {
     match part {
-        Part::Job(job) => Ok(Part::Job(JobPart {
-            task: job.task,
-            fails: 0,
-            due: 0,
-        })),
+        Part::Job(job) => Ok(Part::Job(anew(*job))),
         _ => part.copy(),
     }
 }

@@ -5,4 +5,4 @@ mod request;
 mod tasks;
 
 pub use request::request_of;
-pub use tasks::{Answer, JobStep, after};
+pub use tasks::{Answer, JobStep, after, anew};

@@ -3,6 +3,8 @@
 ghost use Rattle.std.specs.Prelude.{◌≡◌, ◌≤◌, ◌<◌, ◌*◌, ◌^◌, Some, false, IsTrue};
 ghost use Rattle.wc_machine.specs.Tasks.{after as after_answer, failed};
 ghost use Rattle.wc_machine.specs.Asking.{fits_task};
+ghost use Rattle.wc_machine.specs.Machine.{renewed};
+ghost use Rattle.wc_state.specs.declared.record.Part.TheVariants.{Job as AtJob};
 ghost use Rattle.wc_job.specs.Steps.{task_answer, moved};
 
 use wc_state::{JobPart, Task};
@@ -97,4 +99,11 @@ pub fn after(part: JobPart, answer: Answer, now: u64, poll: u64) -> JobStep
             Task::Update | Task::Retrieve => asked(Task::Retrieve, 0),
         },
     }
+}
+
+/// Where a job stands that plays again: its task starts anew, at once and with no failures behind it.
+pub fn anew(part: JobPart) -> JobPart
+    ensures { AtJob result ≡ renewed (AtJob part) }
+{
+    asked(part.task, 0).part
 }

@@ -3,9 +3,10 @@
 use crate::rows::let_go;
 use crate::shown::Shown;
 use std::alloc::{AllocError, Global};
+use wc_decoding::decode;
 use wc_json::{JsonError, from_json, to_json};
 use wc_value::{
-    Bytes, Duplicate, Kind, Text, Value, decode, encode, is_within, is_within_depth, same_value,
+    Bytes, Duplicate, Kind, Text, Value, encode, is_within, is_within_depth, same_value,
 };
 
 /// The bytes of hexadecimal digits, or none where something else stands there.

@@ -55,7 +55,7 @@ pub fn u32_at(bytes: &[u8], at: usize) -> Result<(u32, usize), RecordError>
     ensures answer { Answers result (u32 bytes.now at) }
     ensures within { IfOk result (λ x. x.1 ≤ length bytes.now) }
 {
-    match wc_value::u32_at(bytes, at) {
+    match wc_decoding::u32_at(bytes, at) {
         Ok(found) => Ok(found),
         Err(error) => Err(RecordError::from(error)),
     }
@@ -67,7 +67,7 @@ pub fn u64_at(bytes: &[u8], at: usize) -> Result<(u64, usize), RecordError>
     ensures answer { Answers result (u64 bytes.now at) }
     ensures within { IfOk result (λ x. x.1 ≤ length bytes.now) }
 {
-    let (d, next) = wc_value::bytes_at(8, bytes, at)?;
+    let (d, next) = wc_decoding::bytes_at(8, bytes, at)?;
     Ok((
         u64::from_be_bytes([d[0], d[1], d[2], d[3], d[4], d[5], d[6], d[7]]),
         next,
@@ -80,7 +80,7 @@ pub fn i64_at(bytes: &[u8], at: usize) -> Result<(i64, usize), RecordError>
     ensures answer { Answers result (i64 bytes.now at) }
     ensures within { IfOk result (λ x. x.1 ≤ length bytes.now) }
 {
-    match wc_value::i64_at(bytes, at) {
+    match wc_decoding::i64_at(bytes, at) {
         Ok(found) => Ok(found),
         Err(error) => Err(RecordError::from(error)),
     }
@@ -92,7 +92,7 @@ pub fn text_at(alloc: Global, bytes: &[u8], at: usize) -> Result<(Text, usize), 
     ensures answer { Answers result (text bytes.now at) }
     ensures within { IfOk result (λ x. x.1 ≤ length bytes.now) }
 {
-    match wc_value::text_at(alloc, bytes, at) {
+    match wc_decoding::text_at(alloc, bytes, at) {
         Ok(found) => Ok(found),
         Err(error) => Err(RecordError::from(error)),
     }
@@ -104,7 +104,7 @@ pub fn value_at(alloc: Global, bytes: &[u8], at: usize) -> Result<(Value, usize)
     ensures answer { Answers result (value bytes.now at) }
     ensures within { IfOk result (λ x. x.1 ≤ length bytes.now) }
 {
-    match wc_value::value_at(alloc, bytes, at, 32) {
+    match wc_decoding::value_at(alloc, bytes, at, 32) {
         Ok(found) => Ok(found),
         Err(error) => Err(RecordError::from(error)),
     }
@@ -122,7 +122,7 @@ pub fn label_at<T>(
     ensures within { IfOk result (λ x. x.1 ≤ length bytes.now) }
     ensures last { IfOk result (λ x. goes_last x.0 front.now ≡ true) }
 {
-    match wc_value::name_at(alloc, front, bytes, at) {
+    match wc_decoding::name_at(alloc, front, bytes, at) {
         Ok(found) => Ok(found),
         Err(error) => Err(RecordError::from(error)),
     }

@@ -10,7 +10,6 @@ pub mod Trees
 pub mod Keys
 pub mod Respelled
 pub mod Requested
-pub mod Readings
 pub mod Stays
 pub mod Settles
 pub mod Places

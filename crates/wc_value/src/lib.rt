@@ -6,7 +6,6 @@
 
 mod boxed;
 mod copies;
-mod decoding;
 mod duplicate;
 mod encoding;
 mod equality;
@@ -22,7 +21,6 @@ mod text;
 mod value;
 
 pub use boxed::Boxed;
-pub use decoding::{bytes_at, decode, i64_at, name_at, text_at, u32_at, value_at};
 pub use duplicate::Duplicate;
 pub use encoding::{encode, encode_request, put_count, put_text, put_value};
 pub use equality::{

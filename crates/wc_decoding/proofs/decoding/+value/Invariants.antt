@@ -1,6 +1,6 @@
 use Rattle.std.proofs.Common.{◌≡◌, ◌+◌, ◌-◌, ◌*◌, ◌≤◌, [], length}
 use Rattle.wc_value.specs.Reading.{several, entry_at, value_at}
-use Rattle.wc_value.proofs.decoding.+value.Given as goal
+use Rattle.wc_decoding.proofs.decoding.+value.Given as goal
 
 abbrev pub decreases-value_at : goal.decreases-value_at
 decreases-value_at l = 4 * l.levels

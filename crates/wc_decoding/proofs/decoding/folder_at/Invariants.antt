@@ -1,6 +1,6 @@
 use Rattle.std.proofs.Common.{◌≡◌, ◌-◌, ◌≤◌, [], length}
 use Rattle.wc_value.specs.Reading.{several, entry_at, content_at}
-use Rattle.wc_value.proofs.decoding.folder_at.Given as goal
+use Rattle.wc_decoding.proofs.decoding.folder_at.Given as goal
 
 abbrev pub invariant-loop-item : goal.invariant-loop-item
 invariant-loop-item l = record {

@@ -4,12 +4,8 @@ ghost use Rattle.wc_value.specs.Spelling.{depth};
 ghost use Rattle.wc_value.specs.Spells.{Spells};
 ghost use Rattle.wc_value.specs.Reading.{Answers, Gives, bytes_at as bytes_from, u32_at as u32_from, i64_at as i64_from, int_at as int_from, bool_at as bool_from, content_at as content_from, text_at as text_from, text_value_at as text_value_from, name_at as name_from, entry_at as entry_from, list_at as list_from, dict_at as dict_from, folder_at as folder_from, value_at as value_from, too_deep, behind, whole};
 
-use crate::keyed::Keyed;
-use crate::list::Bytes;
-use crate::refusal::ValueError;
-use crate::text::Text;
-use crate::value::{Fields, Files, Value, Values};
 use std::alloc::Global;
+use wc_value::{Bytes, Fields, Files, Keyed, Text, Value, ValueError, Values};
 
 /// The value whose canonical bytes these are, where it is at most 32 deep. Any other bytes are refused at the first
 /// place that reading from the left can't get past. No memory is taken for lengths and counts that the bytes don't

@@ -1,13 +1,14 @@
 //! The program: its words, files, standard output, store, jobs and clock are handed to `serve`, whose status is the program's.
 #![tactic(auto)]
 
-use std::alloc::AllocError;
+use std::alloc::{AllocError, Global};
 use std::process::ExitCode;
 use std::{env, io};
-use wc_disk::FileDisk;
+use wc_disk::{Disk, FileDisk};
 use wc_engine::{Status, serve};
-use wc_io::{ClockPacer, FileShelf, StdoutSink};
+use wc_io::{ClockPacer, FileShelf, Pacer, Shelf, Sink, StdoutSink};
 use wc_local::LocalTransport;
+use wc_transport::Transport;
 use wc_value::{List, Text, Words};
 
 /// The words of the command line, without the program's name.
@@ -25,26 +26,17 @@ fn disk(rt: HostRuntime, path: &str) -> Result<FileDisk<HostRuntime>, AllocError
 }
 
 /// Hands all over to `serve`, whose clauses stay behind this call, so that what sets up doesn't carry them. The status.
-fn served(
-    rt: HostRuntime,
+fn served<R: Shelf, W: Sink, D: Disk, T: Transport, P: Pacer>(
+    alloc: Global,
     words: &Words,
-    one: &mut FileDisk<HostRuntime>,
-    two: &mut FileDisk<HostRuntime>,
-    transport: &mut LocalTransport<HostRuntime>,
+    shelf: &mut R,
+    sink: &mut W,
+    one: &mut D,
+    two: &mut D,
+    transport: &mut T,
+    pacer: &mut P,
 ) -> ExitCode {
-    let mut shelf = FileShelf::new(rt);
-    let mut sink = StdoutSink::new(rt);
-    let mut pacer = ClockPacer::new(rt);
-    let status = serve(
-        rt.alloc(),
-        words,
-        &mut shelf,
-        &mut sink,
-        one,
-        two,
-        transport,
-        &mut pacer,
-    );
+    let status = serve(alloc, words, shelf, sink, one, two, transport, pacer);
     ExitCode::from(status.code())
 }
 
@@ -62,5 +54,14 @@ fn main(rt: HostRuntime) -> ExitCode {
         return ExitCode::from(Status::OutOfMemory.code());
     };
     let mut transport = LocalTransport::new(rt, rt.alloc(), work);
-    served(rt, &words, &mut one, &mut two, &mut transport)
+    served(
+        rt.alloc(),
+        &words,
+        &mut FileShelf::new(rt),
+        &mut StdoutSink::new(rt),
+        &mut one,
+        &mut two,
+        &mut transport,
+        &mut ClockPacer::new(rt),
+    )
 }

@@ -4,7 +4,7 @@ ghost use Rattle.std.specs.Prelude.{◌≡◌, ℕ, Some, None, IfOk, IsSome};
 ghost use Rattle.wc_calculation.specs.Requests.{request};
 ghost use Rattle.wc_state.specs.declared.record.ProcessRecord.{ProcessRecord};
 ghost use Rattle.wc_world.specs.Records.{find_record};
-ghost use Rattle.wc_caching.specs.Laws.{MayStart};
+ghost use Rattle.wc_laws.specs.CachingLaws.{MayStart};
 ghost use Rattle.wc_machine.specs.declared.answer.TaskAnswer.TheVariants.{Nothing};
 ghost use Rattle.wc_machine.specs.Ending.{TakesSource};
 ghost use Rattle.wc_machine.specs.Turning.{TurnGives};

@@ -38,10 +38,10 @@ use Rattle.wc_refusal.specs.Refusals.{FullOf, HasRoom, NoneHolds}
 use Rattle.wc_refusal.specs.declared.error.TurnError.{TurnError}
 use Rattle.wc_refusal.specs.declared.error.TurnError.TheVariants as error
 use Rattle.wc_refusal.proofs.Rooms.{none_full}
-use Rattle.wc_turns.specs.Laws.{OneListOfChanges}
-use Rattle.wc_chain_turns.specs.declared.children.Caller.{Caller}
-use Rattle.wc_chain_turns.specs.Known.{known_at}
-use Rattle.wc_chain_turns.specs.Coming.{is_now, comes_to, CallsFew}
+use Rattle.wc_laws.specs.TurnLaws.{OneListOfChanges}
+use Rattle.wc_chain_changes.specs.declared.children.Caller.{Caller}
+use Rattle.wc_chain_changes.specs.Known.{known_at}
+use Rattle.wc_chain_changes.specs.Coming.{is_now, comes_to, CallsFew}
 use Rattle.wc_chain_turns.specs.Turned.{Gives, HasChain, HasCheckpoint}
 use Rattle.wc_chain_turns.proofs.Shown.{comes_shown}
 use Rattle.wc_chain_turns.proofs.Kept.{KeepsCount, advance_keeps}

@@ -13,15 +13,13 @@ ghost use Rattle.wc_refusal.specs.Refusals.{FullOf, HasRoom, NoneHolds};
 ghost use Rattle.wc_chain_turns.specs.Turned.{Gives, HasChain, HasCheckpoint, IsReadyOnce};
 
 use crate::binding::bound_fuel;
-use crate::children::caller_of;
-use crate::coming::{come_to, going};
 use crate::environment::environment;
-use crate::known::known_at;
 use std::alloc::Global;
+use wc_chain_changes::{caller_of, come_to, going, known_at};
+use wc_laws::one_list_of_changes;
 use wc_outline::{advance, bind};
 use wc_refusal::TurnError;
 use wc_state::{Checkpoint, Limits, Part, ProcessRecord};
-use wc_turns::one_list_of_changes;
 use wc_value::{Duplicate, ProcessState};
 use wc_world::{Changes, World, reached_worlds_are_consistent};
 

@@ -9,3 +9,9 @@ pub mod Asking
 pub mod Asked
 pub mod Turns
 pub mod Marking
+mod Held
+mod Free
+mod NextReady
+mod Due
+mod Chosen
+mod Going

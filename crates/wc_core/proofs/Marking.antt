@@ -16,9 +16,9 @@ use Rattle.wc_machine.specs.Killing.{kill_changes}
 use Rattle.wc_machine.specs.Laws.{HasPlaces}
 use Rattle.wc_machine.specs.Machine.{Event, IsLive, Leads, after_changes, kill, kills, marked, pause, pauses, pause_changes, play, plays, play_changes, renewed}
 use Rattle.wc_machine.specs.Sound.{IsSound}
-use Rattle.wc_kills.proofs.KillOrder.{all_below, change_of, changes_are}
-use Rattle.wc_accepted.proofs.Calculations.{pause_accepted, play_accepted}
-use Rattle.wc_accepted.proofs.Kills.{kill_accepted}
+use Rattle.wc_soundness.proofs.KillOrder.{all_below, change_of, changes_are}
+use Rattle.wc_soundness.proofs.Calculations.{pause_accepted, play_accepted}
+use Rattle.wc_soundness.proofs.AcceptedKills.{kill_accepted}
 use Rattle.wc_refusal.specs.Refusals.{FullOfBatches, NoneHolds, RefusesLive}
 use Rattle.wc_refusal.specs.declared.error.TurnError.{TurnError}
 use Rattle.wc_refusal.specs.declared.error.TurnError.TheVariants as error

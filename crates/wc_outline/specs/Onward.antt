@@ -10,9 +10,9 @@ use Rattle.wc_semantics.specs.Tables.{Table, Kills}
 use Rattle.wc_world.specs.Trees.{NamedValues}
 use Rattle.wc_machine.specs.Advancing as machine
 use Rattle.wc_machine.specs.Stepping as stepping
-use Rattle.wc_framing.specs.Instead.{Calls}
-use Rattle.wc_outline_laws.specs.Laws.{run_on, remains}
-use Rattle.wc_outline_laws.specs.View.{View, IsSeenRight, env_in}
+use Rattle.wc_laws.specs.Instead.{Calls}
+use Rattle.wc_laws.specs.OutlineLaws.{run_on, remains}
+use Rattle.wc_laws.specs.View.{View, IsSeenRight, env_in}
 use Rattle.wc_outline.specs.declared.calls.Advanced.{Advanced}
 use Rattle.wc_outline.specs.declared.calls.Advanced.TheVariants as advanced
 use Rattle.wc_outline.specs.declared.calls.Argument.{Argument}

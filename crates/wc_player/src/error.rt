@@ -5,7 +5,7 @@ use thiserror::Error;
 use wc_value::TableError;
 
 /// Why a transcript can't be played.
-#[derive(Clone, Copy, Debug, PartialEq, Eq, Error)]
+#[derive(Clone, Copy, Debug, Error)]
 pub enum PlayError {
     #[error("out of memory")]
     OutOfMemory,

@@ -3,12 +3,13 @@
 ghost use Rattle.std.specs.Prelude.{◌≡◌, ◌+◌, ◌==◌, [], length, if◌then◌else◌, IfOk, OnOk};
 
 use crate::called::Called;
+use crate::letting::filled;
 use std::alloc::{AllocError, Global};
 use wc_transcript::Answer;
 use wc_value::List;
 
 /// The line of a step, and the number of the repetition.
-#[derive(Clone, Copy, Debug, PartialEq, Eq)]
+#[derive(Clone, Copy)]
 pub struct Place {
     /// The number of the line.
     pub line: usize,
@@ -32,28 +33,57 @@ pub struct Findings {
 }
 
 /// Puts the text of bytes in quotes behind a line. Where they are no text it puts their digits.
-fn put_bytes(alloc: Global, line: &mut String, bytes: &[u8]) -> Result<(), AllocError> {
-    if let Ok(text) = str::from_utf8(bytes) {
-        let quoted = format!(in alloc; " {text:?}")?;
-        return line.push_str(quoted.as_str());
+fn put_bytes(line: &mut String, bytes: &[u8]) -> Result<(), AllocError> {
+    match str::from_utf8(bytes) {
+        Ok(text) => write!(line, " {text:?}"),
+        Err(_) => put_digits(line, bytes),
     }
-    put_digits(alloc, line, bytes)
+}
+
+/// Puts the digits of a byte behind a line.
+fn put_byte(line: &mut String, byte: u8) -> Result<(), AllocError> {
+    write!(line, " {byte:02x}")
 }
 
 /// Puts the digits of bytes behind a line.
-fn put_digits(alloc: Global, line: &mut String, bytes: &[u8]) -> Result<(), AllocError> {
+fn put_digits(line: &mut String, bytes: &[u8]) -> Result<(), AllocError> {
     for byte in bytes {
-        let digits = format!(in alloc; " {byte:02x}")?;
-        line.push_str(digits.as_str())?;
+        put_byte(line, *byte)?;
     }
     Ok(())
 }
 
 /// Puts an exit status and a text behind a line.
-fn put_answer(alloc: Global, line: &mut String, status: u8, text: &[u8]) -> Result<(), AllocError> {
-    let number = format!(in alloc; " {status}")?;
-    line.push_str(number.as_str())?;
-    put_bytes(alloc, line, text)
+fn put_answer(line: &mut String, status: u8, text: &[u8]) -> Result<(), AllocError> {
+    write!(line, " {status}")?;
+    put_bytes(line, text)
+}
+
+/// Puts an answer that is right behind a line.
+fn put_right(
+    alloc: Global,
+    line: &mut String,
+    repetition: u64,
+    answer: &Answer,
+) -> Result<(), AllocError> {
+    let text = answer.text.written(alloc, repetition)?;
+    put_answer(line, answer.status, text.as_slice())
+}
+
+/// Puts what was asked for behind a line, and what came.
+fn put_told(
+    alloc: Global,
+    line: &mut String,
+    repetition: u64,
+    answers: &[Answer],
+    called: &Called,
+) -> Result<(), AllocError> {
+    line.push_str("expected")?;
+    for answer in answers {
+        put_right(alloc, line, repetition, answer)?;
+    }
+    line.push_str(", came")?;
+    put_answer(line, called.status, called.text.as_slice())
 }
 
 /// What was asked for, and what came.
@@ -63,23 +93,24 @@ fn told_of(
     answers: &[Answer],
     called: &Called,
 ) -> Result<String, AllocError> {
-    let mut line = String::from_str(alloc, "expected")?;
-    for answer in answers {
-        let text = answer.text.written(alloc, repetition)?;
-        put_answer(alloc, &mut line, answer.status, text.as_slice())?;
-    }
+    let mut line = String::new(alloc);
+    let put = put_told(alloc, &mut line, repetition, answers, called);
+    filled(line, put)
+}
+
+/// Puts which bytes were asked for behind a line, and which came.
+fn put_told_bytes(line: &mut String, wanted: &[u8], held: &[u8]) -> Result<(), AllocError> {
+    line.push_str("expected")?;
+    put_digits(line, wanted)?;
     line.push_str(", came")?;
-    put_answer(alloc, &mut line, called.status, called.text.as_slice())?;
-    Ok(line)
+    put_digits(line, held)
 }
 
 /// Which bytes were asked for, and which came.
 pub fn told_bytes(alloc: Global, wanted: &[u8], held: &[u8]) -> Result<String, AllocError> {
-    let mut line = String::from_str(alloc, "expected")?;
-    put_digits(alloc, &mut line, wanted)?;
-    line.push_str(", came")?;
-    put_digits(alloc, &mut line, held)?;
-    Ok(line)
+    let mut line = String::new(alloc);
+    let put = put_told_bytes(&mut line, wanted, held);
+    filled(line, put)
 }
 
 impl Findings {

@@ -2,6 +2,7 @@
 
 use crate::error::PlayError;
 use crate::findings::Place;
+use crate::letting::{both, filled, put_given};
 use crate::player::{Player, numbers_at, words_of};
 use crate::program::Program;
 use std::alloc::{AllocError, Global};
@@ -9,59 +10,90 @@ use wc_state::Task;
 use wc_transcript::{Named, Number, Row};
 use wc_value::{Duplicate, Files, JobResult, Request, Rows, Table, Text, Words};
 
-/// Files in a repetition.
-fn files_at(alloc: Global, named: &Named, repetition: u64) -> Result<Files, AllocError> {
-    let mut files = Files::new(alloc);
+/// Puts files in a repetition.
+fn put_files(
+    alloc: Global,
+    files: &mut Files,
+    named: &Named,
+    repetition: u64,
+) -> Result<(), AllocError> {
     for (name, content) in named.as_slice() {
-        files.set(name.copy()?, content.written(alloc, repetition)?)?;
+        let content = content.written(alloc, repetition)?;
+        files.set(name.copy()?, content)?;
     }
-    Ok(files)
+    Ok(())
 }
 
-/// The program and its arguments. A program that isn't named has the empty name.
-fn split(alloc: Global, words: Words) -> Result<(Text, Words), AllocError> {
-    let mut args = Words::new(alloc);
-    let mut program = Text::of_str(alloc, "")?;
-    for (at, word) in words.as_slice().iter().enumerate() {
-        if at == 0 {
-            program = word.copy()?;
-        } else {
-            args.push(word.copy()?)?;
-        }
+/// The program of words. One that isn't named has the empty name.
+fn program_of(alloc: Global, words: &Words) -> Result<Text, AllocError> {
+    match words.get(0) {
+        Some(program) => program.copy(),
+        None => Text::of_str(alloc, ""),
     }
-    Ok((program, args))
+}
+
+/// Puts what is asked for with these words, in a repetition.
+fn put_asked(
+    alloc: Global,
+    request: &mut Request,
+    row: &Row,
+    words: &Words,
+    repetition: u64,
+) -> Result<(), AllocError> {
+    for word in words.as_slice().get(1..).unwrap_or(&[]) {
+        request.args.push(word.copy()?)?;
+    }
+    put_files(alloc, &mut request.files, &row.files, repetition)?;
+    put_given(&mut request.fetch, row.fetch.copy())
 }
 
 /// What a program is started with, in a repetition.
 fn request_of(alloc: Global, row: &Row, repetition: u64) -> Result<Request, PlayError> {
     let words = words_of(alloc, row.words.as_slice(), repetition)?;
-    let files = files_at(alloc, &row.files, repetition)?;
-    let (program, args) = split(alloc, words)?;
-    Ok(Request {
-        program,
-        args,
-        files,
-        fetch: row.fetch.copy()?,
+    let mut request = Request {
+        program: program_of(alloc, &words)?,
+        args: words.emptied(),
+        files: Files::new(alloc),
+        fetch: words.emptied(),
+    };
+    let put = put_asked(alloc, &mut request, row, &words, repetition);
+    Ok(filled(request, put)?)
+}
+
+/// What a program comes to, in a repetition.
+fn result_of(alloc: Global, row: &Row, repetition: u64) -> Result<JobResult, AllocError> {
+    let mut files = Files::new(alloc);
+    let put = put_files(alloc, &mut files, &row.left, repetition);
+    Ok(JobResult {
+        code: row.code,
+        files: filled(files, put)?,
     })
 }
 
 /// A row of a table, in a repetition.
 fn row_of(alloc: Global, row: &Row, repetition: u64) -> Result<(Request, JobResult), PlayError> {
-    let files = files_at(alloc, &row.left, repetition)?;
-    let result = JobResult {
-        code: row.code,
-        files,
-    };
-    Ok((request_of(alloc, row, repetition)?, result))
+    let request = request_of(alloc, row, repetition)?;
+    Ok(both(request, result_of(alloc, row, repetition))?)
+}
+
+/// Puts the rows of a table in a repetition.
+fn put_rows(
+    alloc: Global,
+    list: &mut Rows,
+    rows: &[Row],
+    repetition: u64,
+) -> Result<(), PlayError> {
+    for row in rows {
+        list.push(row_of(alloc, row, repetition)?)?;
+    }
+    Ok(())
 }
 
 /// The table of rows in a repetition.
 fn table_of(alloc: Global, rows: &[Row], repetition: u64) -> Result<Table, PlayError> {
     let mut list = Rows::new(alloc);
-    for row in rows {
-        list.push(row_of(alloc, row, repetition)?)?;
-    }
-    Ok(Table::new(alloc, list)?)
+    let put = put_rows(alloc, &mut list, rows, repetition);
+    Ok(Table::new(alloc, filled(list, put)?)?)
 }
 
 impl<P: Program + Drop> Player<P> {
@@ -96,9 +128,7 @@ impl<P: Program + Drop> Player<P> {
     pub fn ask_moment(&mut self, place: Place, wanted: Number) -> Result<(), AllocError> {
         let wanted = wanted.at(place.repetition);
         let moment = self.machine.clock.moment();
-        let alloc = self.alloc();
-        let told = format!(in alloc; "expected moment {wanted}, came {moment}")?;
-        self.note(place, moment == wanted, told.as_str())
+        self.note_number(place, ("moment ", ""), wanted, moment)
     }
 
     /// Asks how often the transport was called for a task, or at all.
@@ -110,8 +140,6 @@ impl<P: Program + Drop> Player<P> {
     ) -> Result<(), AllocError> {
         let wanted = wanted.at(place.repetition);
         let calls = self.machine.outside.asked(task);
-        let alloc = self.alloc();
-        let told = format!(in alloc; "expected {wanted} calls, came {calls}")?;
-        self.note(place, calls == wanted, told.as_str())
+        self.note_number(place, ("", " calls"), wanted, calls)
     }
 }

@@ -3,7 +3,7 @@
 use crate::called::Called;
 use crate::clock::Clock;
 use crate::disks::{Disks, bytes_of};
-use crate::letting::{both, put};
+use crate::letting::{both, filled, put, put_given};
 use crate::outside::Outside;
 use crate::program::{Program, Sipping};
 use std::alloc::{AllocError, Global};
@@ -49,33 +49,41 @@ impl Machine {
         })
     }
 
-    /// A machine that holds the same beside these disks. No call of its shelf, its sink and its disks fails.
-    fn with(&self, disks: Disks) -> Result<Machine, AllocError> {
+    /// The shelf, of which no call fails, and the clock hold what those of another machine hold.
+    fn put_rest(&mut self, other: &Machine) -> Result<(), AllocError> {
+        put_given(&mut self.files, other.files.copy())?;
+        put_given(&mut self.clock, other.clock.copy())?;
+        self.fail_shelf(List::new(self.alloc))
+    }
+
+    /// A machine that holds the same beside these disks and this transport. No call of its shelf, its sink and its disks fails.
+    fn with(&self, disks: Disks, outside: Outside) -> Result<Machine, AllocError> {
         let alloc = self.alloc;
-        let (parts, files) = both(disks, self.files.copy())?;
-        let (parts, given) = both((parts, files), self.files.copy())?;
-        let (parts, outside) = both((parts, given), self.outside.copy())?;
-        let (parts, clock) = both((parts, outside), self.clock.copy())?;
-        let (((disks, files), given), outside) = parts;
-        Ok(Machine {
+        let mut machine = Machine {
             alloc,
-            files,
-            shelf: MemoryShelf::new(given, List::new(alloc)),
+            files: Files::new(alloc),
+            shelf: MemoryShelf::new(Files::new(alloc), List::new(alloc)),
             sink: sink_of(alloc, self.sink.most, List::new(alloc)),
             disks,
             outside,
-            clock,
-        })
+            clock: Clock::new(alloc),
+        };
+        let put = machine.put_rest(self);
+        filled(machine, put)
     }
 
     /// A machine that holds the same. No call of its shelf, its sink and its disks fails, and all that the disks hold counts as synced.
     pub fn copy(&self) -> Result<Machine, AllocError> {
-        self.with(self.disks.copy(self.alloc)?)
+        let disks = self.disks.copy(self.alloc)?;
+        let (disks, outside) = both(disks, self.outside.copy())?;
+        self.with(disks, outside)
     }
 
     /// What a crash of both disks leaves, where each is picked so.
     pub fn crashed(&self, one: Left, two: Left) -> Result<Machine, AllocError> {
-        self.with(self.disks.crashed(self.alloc, one, two)?)
+        let disks = self.disks.crashed(self.alloc, one, two)?;
+        let (disks, outside) = both(disks, self.outside.copy())?;
+        self.with(disks, outside)
     }
 
     /// What the machine takes its memory from.

@@ -5,7 +5,7 @@ ghost use Rattle.std.specs.List.{list_any};
 ghost use Rattle.wc_io.specs.Counts.{counted, RisesByOne};
 ghost use Rattle.wc_transport.specs.Outside.{CountsTaskFault};
 
-use crate::letting::put;
+use crate::letting::{both, filled, put, put_given};
 use std::alloc::{AllocError, Global};
 use wc_state::Task;
 use wc_transport::{Busy, Progress, TableTransport, TaskError, Transport};
@@ -81,15 +81,13 @@ impl Counters {
         }
     }
 
-    /// The same counters.
-    fn copy(&self) -> Result<Counters, AllocError> {
-        Ok(Counters {
-            all: self.all.copy()?,
-            uploads: self.uploads.copy()?,
-            submits: self.submits.copy()?,
-            updates: self.updates.copy()?,
-            retrieves: self.retrieves.copy()?,
-        })
+    /// Puts those of others in the place of all.
+    fn put_all(&mut self, others: &Counters) -> Result<(), AllocError> {
+        put_given(&mut self.all, others.all.copy())?;
+        put_given(&mut self.uploads, others.uploads.copy())?;
+        put_given(&mut self.submits, others.submits.copy())?;
+        put_given(&mut self.updates, others.updates.copy())?;
+        put_given(&mut self.retrieves, others.retrieves.copy())
     }
 
     /// The counter of the calls for a task, or of all.
@@ -168,20 +166,27 @@ fn ended(reply: Result<Progress, TaskError>) -> Result<(), TaskError> {
     Ok(())
 }
 
-/// The same calls.
-fn copy_calls(calls: &[Asked], alloc: Global) -> Result<List<Asked>, AllocError> {
-    let mut list = List::new(alloc);
+/// Puts copies of calls.
+fn put_calls(list: &mut List<Asked>, calls: &[Asked]) -> Result<(), AllocError> {
     for asked in calls {
         list.push(asked.copy()?)?;
     }
-    Ok(list)
+    Ok(())
 }
 
 /// The same pairs.
 fn copy_busy(busy: &[(u32, u64)], alloc: Global) -> Result<Busy, AllocError> {
     let mut list = List::new(alloc);
-    list.extend(busy)?;
-    Ok(list)
+    let put = list.extend(busy);
+    filled(list, put)
+}
+
+/// Makes calls one after another.
+fn make_all(inner: &mut TableTransport, calls: &[Asked]) -> Result<(), AllocError> {
+    for asked in calls {
+        asked.make(inner)?;
+    }
+    Ok(())
 }
 
 /// A transport with these results and Running answers, of which these calls were made.
@@ -191,12 +196,10 @@ fn made(
     busy: &[(u32, u64)],
     calls: &[Asked],
 ) -> Result<TableTransport, AllocError> {
-    let busy = copy_busy(busy, alloc)?;
-    let mut inner = TableTransport::new(alloc, table.copy()?, List::new(alloc), busy);
-    for asked in calls {
-        asked.make(&mut inner)?;
-    }
-    Ok(inner)
+    let (busy, table) = both(copy_busy(busy, alloc)?, table.copy())?;
+    let mut inner = TableTransport::new(alloc, table, List::new(alloc), busy);
+    let made = make_all(&mut inner, calls);
+    filled(inner, made)
 }
 
 /// What runs the programs of jobs: results by requests, the directories whose first updates answer Running, and what was done.
@@ -212,35 +215,46 @@ pub struct Outside {
 }
 
 impl Outside {
-    /// A transport that holds no request, with these results. No call of it fails, and no update answers Running.
-    pub fn new(alloc: Global, table: Table) -> Result<Outside, AllocError> {
-        Ok(Outside {
+    /// A transport with these results and this one below it, where no call was counted and kept.
+    fn of(alloc: Global, table: Table, inner: TableTransport) -> Outside {
+        Outside {
             alloc,
-            inner: made(alloc, &table, &[], &[])?,
             table,
             busy: List::new(alloc),
+            inner,
             passed: List::new(alloc),
             counters: Counters::new(alloc),
             faults: 0,
-        })
+        }
+    }
+
+    /// A transport that holds no request, with these results. No call of it fails, and no update answers Running.
+    pub fn new(alloc: Global, table: Table) -> Result<Outside, AllocError> {
+        let inner = made(alloc, &table, &[], &[]);
+        let (table, inner) = both(table, inner)?;
+        Ok(Outside::of(alloc, table, inner))
     }
 
     /// A transport that holds the same, and of which the same calls will fail.
     pub fn copy(&self) -> Result<Outside, AllocError>
         ensures { IfOk result (λ copied. copied.faults ≡ self.now.faults) }
     {
-        let alloc = self.alloc;
-        let busy = self.busy.as_slice();
-        let passed = self.passed.as_slice();
-        Ok(Outside {
-            alloc,
-            table: self.table.copy()?,
-            busy: copy_busy(busy, alloc)?,
-            inner: made(alloc, &self.table, busy, passed)?,
-            passed: copy_calls(passed, alloc)?,
-            counters: self.counters.copy()?,
-            faults: self.faults,
-        })
+        let calls = self.passed.as_slice();
+        let inner = made(self.alloc, &self.table, self.busy.as_slice(), calls)?;
+        let (inner, table) = both(inner, self.table.copy())?;
+        let mut outside = Outside::of(self.alloc, table, inner);
+        outside.faults = self.faults;
+        let put = outside.put_rest(self);
+        filled(outside, put)
+    }
+
+    /// What another transport was told, and the calls that were made of it, take the place of those here.
+    fn put_rest(&mut self, other: &Outside) -> Result<(), AllocError>
+        ensures { self.new.faults ≡ self.old.faults }
+    {
+        put_given(&mut self.busy, copy_busy(other.busy.as_slice(), self.alloc))?;
+        put_calls(&mut self.passed, other.passed.as_slice())?;
+        self.counters.put_all(&other.counters)
     }
 
     /// So many first updates of a directory answer Running, of which those count that were asked for before.

@@ -4,7 +4,7 @@ use crate::called::Called;
 use crate::disks::{Disks, bytes_of};
 use crate::error::PlayError;
 use crate::findings::{Findings, Place, told_bytes};
-use crate::letting::put;
+use crate::letting::{filled, put};
 use crate::machine::Machine;
 use crate::program::Program;
 use std::alloc::{AllocError, Global};
@@ -28,15 +28,41 @@ pub struct Player<P> {
     faults: u64,
 }
 
+/// A word of a call.
+fn word_of(alloc: Global, word: &Content, number: u64) -> Result<Text, PlayError> {
+    Text::of(word.written(alloc, number)?).ok_or(PlayError::Word)
+}
+
+/// Puts the words of a call.
+fn put_words(
+    alloc: Global,
+    list: &mut Words,
+    words: &[Content],
+    number: u64,
+) -> Result<(), PlayError> {
+    for word in words {
+        list.push(word_of(alloc, word, number)?)?;
+    }
+    Ok(())
+}
+
 /// The words of a call.
 pub fn words_of(alloc: Global, words: &[Content], number: u64) -> Result<Words, PlayError> {
-    let mut list: Words = List::new(alloc);
-    for word in words {
-        let bytes = word.written(alloc, number)?;
-        let text = Text::of(bytes).ok_or(PlayError::Word)?;
-        list.push(text)?;
+    let mut list = Words::new(alloc);
+    let put = put_words(alloc, &mut list, words, number);
+    filled(list, put)
+}
+
+/// Puts numbers in a repetition.
+fn put_numbers(
+    list: &mut List<u64>,
+    numbers: &[Number],
+    repetition: u64,
+) -> Result<(), AllocError> {
+    for number in numbers {
+        list.push(number.at(repetition))?;
     }
-    Ok(list)
+    Ok(())
 }
 
 /// Numbers in a repetition.
@@ -46,10 +72,19 @@ pub fn numbers_at(
     repetition: u64,
 ) -> Result<List<u64>, AllocError> {
     let mut list = List::new(alloc);
-    for number in numbers {
-        list.push(number.at(repetition))?;
-    }
-    Ok(list)
+    let put = put_numbers(&mut list, numbers, repetition);
+    filled(list, put)
+}
+
+/// Which number was asked for, and which came. What is counted is said before the first and behind it.
+fn told_number(
+    alloc: Global,
+    said: (&str, &str),
+    wanted: u64,
+    came: u64,
+) -> Result<String, AllocError> {
+    let (before, behind) = said;
+    format!(in alloc; "expected {before}{wanted}{behind}, came {came}")
 }
 
 /// The steps up to the end of the block.
@@ -67,19 +102,27 @@ pub fn place_at(number: Number, repetition: u64) -> usize {
     number.at(repetition) as usize
 }
 
+/// What stands before a place of bytes, and behind the byte there, where there is one.
+fn around(bytes: &[u8], at: usize) -> Option<(&[u8], &[u8])> {
+    let (_, behind) = bytes.get(at..)?.split_first()?;
+    Some((bytes.get(..at)?, behind))
+}
+
+/// Puts bytes, another one, and further bytes.
+fn put_around(image: &mut Bytes, parts: (&[u8], &[u8]), byte: u8) -> Result<(), AllocError> {
+    image.extend(parts.0)?;
+    image.push(byte)?;
+    image.extend(parts.1)
+}
+
 /// These bytes with another one at a place, where there is such a place and such a byte.
 fn altered(alloc: Global, bytes: &[u8], at: usize, byte: u64) -> Result<Option<Bytes>, AllocError> {
-    let (Some(front), Some(back), Ok(byte)) = (bytes.get(..at), bytes.get(at..), u8::try_from(byte))
-    else {
+    let (Some(parts), Ok(byte)) = (around(bytes, at), u8::try_from(byte)) else {
         return Ok(None);
     };
-    let Some((_, behind)) = back.split_first() else {
-        return Ok(None);
-    };
-    let mut image = bytes_of(alloc, front)?;
-    image.push(byte)?;
-    image.extend(behind)?;
-    Ok(Some(image))
+    let mut image = Bytes::new(alloc);
+    let put = put_around(&mut image, parts, byte);
+    Ok(Some(filled(image, put)?))
 }
 
 /// The first so many bytes, where there are as many.
@@ -158,6 +201,18 @@ impl<P: Program + Drop> Player<P> {
         self.count_check();
         let alloc = self.alloc();
         self.findings.note(alloc, place, is_so, told)
+    }
+
+    /// Notes which number is asked for where another came. What is counted is said before it and behind it.
+    pub fn note_number(
+        &mut self,
+        place: Place,
+        said: (&str, &str),
+        wanted: u64,
+        came: u64,
+    ) -> Result<(), AllocError> {
+        let told = told_number(self.alloc(), said, wanted, came)?;
+        self.note(place, came == wanted, told.as_str())
     }
 
     /// Another byte stands at a place of a disk.
@@ -272,8 +327,6 @@ impl<P: Program + Drop> Player<P> {
     pub fn count_faults(&mut self, place: Place, wanted: u64) -> Result<(), AllocError> {
         let faults = self.faults;
         self.faults = 0;
-        let alloc = self.alloc();
-        let told = format!(in alloc; "expected {wanted} faults, came {faults}")?;
-        self.note(place, faults == wanted, told.as_str())
+        self.note_number(place, ("", " faults"), wanted, faults)
     }
 }

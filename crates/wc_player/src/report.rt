@@ -12,7 +12,7 @@ use std::mem;
 use wc_transcript::Transcript;
 
 /// What is to be said of a transcript.
-#[derive(Clone, Copy, Debug, PartialEq, Eq)]
+#[derive(Clone, Copy, PartialEq, Eq)]
 pub enum Verdict {
     /// All is as it says.
     Ok,

@@ -32,12 +32,12 @@ fn asked_at(block: &[Step], at: usize) -> Option<&Call> {
     }
 }
 
-/// The place of the last question before a step.
-fn last_asked(block: &[Step], cut: usize) -> Option<usize> {
+/// The last question before a step, and its line.
+fn last_asked(block: &[Step], cut: usize) -> Option<(usize, &Call)> {
     let mut found = None;
-    for (at, step) in block.iter().enumerate() {
-        if at < cut && matches!(&step.deed, Deed::Ask(_)) {
-            found = Some(at);
+    for step in block.get(..cut).unwrap_or(block) {
+        if let Deed::Ask(call) = &step.deed {
+            found = Some((step.line, call));
         }
     }
     found
@@ -72,7 +72,7 @@ fn answers_of<'a>(call: &'a Call, called: &Called) -> &'a [Answer] {
 }
 
 /// Where commands are to be called again from.
-#[derive(Drop)]
+#[derive(Clone, Copy)]
 struct Onward<'a> {
     /// The place of the first of them.
     from: usize,
@@ -150,20 +150,31 @@ impl<P: Program + Drop> Player<P> {
         if Some(called.status) != status_of(event) {
             return Ok(false);
         }
-        if event == Event::Fault(Device::Sink) {
+        if matches!(event, Event::Fault(Device::Sink)) {
             return self.begins(call.answers.as_slice(), called, calls);
         }
         Ok(called.text.is_empty())
     }
 
+    /// Whether a call met the event: else it has to give what the transcript says.
+    fn is_met(
+        &mut self,
+        place: Place,
+        event: Event,
+        call: &Call,
+        called: &Called,
+    ) -> Result<bool, AllocError> {
+        if self.has_met(event, call, called, place.repetition)? {
+            return Ok(true);
+        }
+        self.judge(place, answers_of(call, called), called)?;
+        Ok(false)
+    }
+
     /// Calls the program. Whether the call met the event: else it has to give what the transcript says.
     fn meets(&mut self, place: Place, event: Event, call: &Call) -> Result<bool, PlayError> {
         let called = self.call(call, place.repetition)?;
-        if self.has_met(event, call, &called, place.repetition)? {
-            return Ok(true);
-        }
-        self.judge(place, answers_of(call, &called), &called)?;
-        Ok(false)
+        Ok(self.is_met(place, event, call, &called)?)
     }
 
     /// Calls the program with one command after another until one meets the event. Where that one stands, or the end.
@@ -210,36 +221,53 @@ impl<P: Program + Drop> Player<P> {
         cut: usize,
         calls: u64,
     ) -> Result<Onward<'a>, PlayError> {
-        let next = cut.saturating_add(1);
-        let Some(step) = last_asked(block, cut).and_then(|at| block.get(at)) else {
-            return Ok(Onward::at(next));
-        };
-        let Deed::Ask(asked) = &step.deed else {
-            return Ok(Onward::at(next));
+        let Some((line, asked)) = last_asked(block, cut) else {
+            return Ok(Onward::at(cut.saturating_add(1)));
         };
         let called = self.call(asked, calls)?;
-        if let Some(behind) = asked_at(block, next)
-            && called.fits_one(self.alloc(), behind.answers.as_slice(), calls)?
-        {
+        let place = Place {
+            line,
+            repetition: calls,
+        };
+        Ok(self.place_told(place, block, cut, asked, &called)?)
+    }
+
+    /// From which step on commands are to be called again, by what a question is answered.
+    fn place_told<'a>(
+        &mut self,
+        place: Place,
+        block: &'a [Step],
+        cut: usize,
+        asked: &Call,
+        called: &Called,
+    ) -> Result<Onward<'a>, AllocError> {
+        let next = cut.saturating_add(1);
+        if self.is_told(asked_at(block, next), called, place.repetition)? {
             self.count_check();
             return Ok(Onward::at(next));
         }
-        if let Some(answers) = self.stage_told(block, cut, &called, calls)? {
+        if let Some(answers) = self.stage_told(block, cut, called, place.repetition)? {
             self.count_check();
             return Ok(Onward {
                 from: cut,
                 answers: Some(answers),
             });
         }
-        self.judge(
-            Place {
-                line: step.line,
-                repetition: calls,
-            },
-            asked.answers.as_slice(),
-            &called,
-        )?;
+        self.judge(place, asked.answers.as_slice(), called)?;
         Ok(Onward::at(cut))
+    }
+
+    /// Whether a question, if there is one, is answered so.
+    fn is_told(
+        &self,
+        asked: Option<&Call>,
+        called: &Called,
+        calls: u64,
+    ) -> Result<bool, AllocError> {
+        match asked {
+            Some(asked) => called.fits_one(self.alloc(), asked.answers.as_slice(), calls),
+            None => Ok(false),
+        }
     }
 
     /// Calls each command behind which a question stands, and asks it. The first has other answers where there are some.

@@ -39,7 +39,7 @@ impl Report {
     }
 
     /// Tells of the rows since a name was begun, if there are any.
-    pub fn close(&mut self, alloc: Global) -> Result<(), AllocError>
+    pub fn close(&mut self) -> Result<(), AllocError>
         ensures { OnOk result (self.new.is_right ≡ self.old.is_right) }
     {
         if self.rows == 0 {
@@ -48,30 +48,23 @@ impl Report {
         let word = if self.are_right { "ok" } else { "FAILED" };
         let name = self.name.as_str();
         let rows = self.rows;
-        let line = format!(in alloc; "{word}: {name}: {rows} rows\n")?;
-        self.text.push_str(line.as_str())?;
+        writeln!(self.text, "{word}: {name}: {rows} rows")?;
         self.rows = 0;
         self.are_right = true;
         Ok(())
     }
 
     /// Rows of a name begin.
-    pub fn begin(&mut self, alloc: Global, name: &str) -> Result<(), AllocError>
+    pub fn begin(&mut self, name: &str) -> Result<(), AllocError>
         ensures { OnOk result (self.new.is_right ≡ self.old.is_right) }
     {
-        self.close(alloc)?;
-        self.name = String::from_str(alloc, name)?;
-        Ok(())
+        self.close()?;
+        self.name.clear();
+        self.name.push_str(name)
     }
 
     /// Counts a row. Where it isn't right it is told with its line.
-    pub fn count(
-        &mut self,
-        alloc: Global,
-        line: usize,
-        is_right: bool,
-        told: &str,
-    ) -> Result<(), AllocError>
+    pub fn count(&mut self, line: usize, is_right: bool, told: &str) -> Result<(), AllocError>
         ensures seen { OnOk result (self.new.is_right ≡ (self.old.is_right && is_right)) }
     {
         self.rows = self.rows.saturating_add(1);
@@ -80,7 +73,6 @@ impl Report {
         }
         self.is_right = false;
         self.are_right = false;
-        let text = format!(in alloc; "line {line}: {told}\n")?;
-        self.text.push_str(text.as_str())
+        writeln!(self.text, "line {line}: {told}")
     }
 }

@@ -1,66 +1,85 @@
 //! Calculations of files that no command takes, or on inputs that none gives.
 
 use crate::lists::fields_of;
-use crate::rows::let_go;
+use crate::rows::{filled, let_go};
 use crate::shown::Shown;
+use crate::syntax::library_of;
 use crate::values::put_json;
 use std::alloc::{AllocError, Global};
 use wc_calculation::{Parsed, calculate, calculate_job, parse_result, request_of};
 use wc_expression::Outcome;
-use wc_parser::parse;
 use wc_syntax::{Definition, Job};
 use wc_value::{Bytes, Fields, Files, JobResult, ProcessState, Text, Value, Values};
 
-/// A list in which a value stands.
-fn list_of(alloc: Global, value: Value) -> Result<Value, AllocError> {
-    let mut items = Values::new(alloc);
-    items.push(value)?;
-    Ok(Value::List(items))
+/// The items of a list in which a list of these items stands.
+fn list_of(alloc: Global, items: Values) -> Result<Values, AllocError> {
+    let mut list = Values::new(alloc);
+    let put = list.push(Value::List(items));
+    filled(list, put)
 }
 
-/// A list of 33 levels.
-fn deeper(alloc: Global) -> Result<Value, AllocError> {
-    let mut value = Value::List(Values::new(alloc));
+/// The items of a list of 33 levels.
+fn deeper(alloc: Global) -> Result<Values, AllocError> {
+    let mut items = Values::new(alloc);
     for _level in 0..32u8 {
-        value = list_of(alloc, value)?;
+        items = list_of(alloc, items)?;
     }
-    Ok(value)
+    Ok(items)
+}
+
+/// Puts an input `deeper` with these items.
+fn put_input(alloc: Global, inputs: &mut Fields, items: Values) -> Result<(), AllocError> {
+    let name = Text::of_str(alloc, "deeper")?;
+    inputs.set(name, Value::List(items))
 }
 
 /// An input `deeper`.
-fn input_of(alloc: Global, value: Value) -> Result<Fields, AllocError> {
+fn input(alloc: Global) -> Result<Fields, AllocError> {
+    let items = deeper(alloc)?;
     let mut inputs = Fields::new(alloc);
-    inputs.set(Text::of_str(alloc, "deeper")?, value)?;
-    Ok(inputs)
+    let put = put_input(alloc, &mut inputs, items);
+    filled(inputs, put)
 }
 
 /// Whole numbers by their ports, from words like `x=1`, or a list of 33 levels.
 fn inputs_of(alloc: Global, text: &str) -> Result<Fields, AllocError> {
     if text == "deeper" {
-        return input_of(alloc, deeper(alloc)?);
+        return input(alloc);
     }
     fields_of(alloc, text)
 }
 
-/// A result with the code 0 and the file `y`.
-fn result(alloc: Global) -> Result<JobResult, AllocError> {
+/// Puts the file `y`.
+fn put_file(alloc: Global, files: &mut Files) -> Result<(), AllocError> {
     let mut content = Bytes::new(alloc);
     content.push(b'9')?;
+    files.set(Text::of_str(alloc, "y")?, content)
+}
+
+/// A result with the code 0 and the file `y`.
+fn result(alloc: Global) -> Result<JobResult, AllocError> {
     let mut files = Files::new(alloc);
-    files.set(Text::of_str(alloc, "y")?, content)?;
-    Ok(JobResult { code: 0, files })
+    let put = put_file(alloc, &mut files);
+    Ok(JobResult {
+        code: 0,
+        files: filled(files, put)?,
+    })
+}
+
+/// Puts the state of a calculation that has ended.
+fn put_state(shown: &mut Shown, state: &ProcessState) {
+    match state {
+        ProcessState::Finished(status) => shown.put_item(status),
+        ProcessState::Excepted(reason) => shown.put_word(reason),
+        _ => shown.put("goes on"),
+    }
+    shown.put(" ");
 }
 
 /// Puts the state of a calculation and its outputs.
 fn put_parsed(alloc: Global, shown: &mut Shown, parsed: Parsed) {
-    let Parsed { state, outputs } = parsed;
-    match state {
-        ProcessState::Finished(status) => shown.put_item(&status),
-        ProcessState::Excepted(reason) => shown.put_word(&reason),
-        _ => shown.put("goes on"),
-    }
-    shown.put(" ");
-    put_json(alloc, shown, Value::Dict(outputs));
+    put_state(shown, &parsed.state);
+    put_json(alloc, shown, Value::Dict(parsed.outputs));
 }
 
 /// Puts the end of a calculation.
@@ -109,7 +128,7 @@ fn put_made(alloc: Global, shown: &mut Shown, library: &[Definition], inputs: &F
 
 /// Puts what a file makes of inputs.
 fn put_outcome(alloc: Global, shown: &mut Shown, file: &Text, inputs: &Fields) {
-    match parse(alloc, file) {
+    match library_of(alloc, file) {
         Ok(library) => put_made(alloc, shown, library.as_slice(), inputs),
         Err(error) => shown.put_item(&error),
     }

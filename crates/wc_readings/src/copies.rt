@@ -1,7 +1,7 @@
 //! Copies of trees, states and plain values.
 
 use crate::lists::put_facts;
-use crate::rows::let_go;
+use crate::rows::{both, filled, let_go};
 use crate::shown::Shown;
 use std::alloc::{AllocError, Global};
 use wc_value::{
@@ -30,18 +30,18 @@ fn leaf(alloc: Global) -> Result<Tree, AllocError> {
     Ok(ended(alloc, name, state, Branches::new(alloc)))
 }
 
-/// A list of one called process.
-fn called(alloc: Global, label: Text, tree: Tree) -> Result<Branches, AllocError> {
+/// A list of one called process, which is labelled.
+fn called(alloc: Global, tree: Tree) -> Result<Branches, AllocError> {
+    let (tree, label) = both(tree, Text::of_str(alloc, "parts_1"))?;
     let mut calls = Branches::new(alloc);
-    calls.push((label, tree))?;
-    Ok(calls)
+    let put = calls.push((label, tree));
+    filled(calls, put)
 }
 
 /// A chain that called the function.
 fn chain(alloc: Global) -> Result<Tree, AllocError> {
+    let calls = called(alloc, leaf(alloc)?)?;
     let name = Text::of_str(alloc, "chain")?;
-    let label = Text::of_str(alloc, "parts_1")?;
-    let calls = called(alloc, label, leaf(alloc)?)?;
     let state = ProcessState::Excepted(Reason::Overflow);
     Ok(ended(alloc, name, state, calls))
 }
@@ -90,8 +90,8 @@ pub fn put_copies(alloc: Global, shown: &mut Shown) {
     put_facts(
         shown,
         &[
-            ("a pair copied", pair == Ok(Some((3, true)))),
-            ("a kind copied", kind == Ok((4, Kind::Text))),
+            ("a pair copied", matches!(pair, Ok(Some((3, true))))),
+            ("a kind copied", matches!(kind, Ok((4, Kind::Text)))),
         ],
     );
     put_tree(shown, leaf(alloc));

@@ -6,6 +6,17 @@ use std::alloc::{AllocError, Global};
 /// Lets a value go. Its type isn't taken apart here, so that whoever calls this is cheaper to prove.
 pub fn let_go<T: Drop>(_value: T) {}
 
+/// A value, where it was filled. Else it is let go.
+pub fn filled<T: Drop>(value: T, filling: Result<(), AllocError>) -> Result<T, AllocError> {
+    filling?;
+    Ok(value)
+}
+
+/// Both, where there is the second. Where there is none the first is let go.
+pub fn both<A: Drop, B>(first: A, second: Result<B, AllocError>) -> Result<(A, B), AllocError> {
+    Ok((first, second?))
+}
+
 /// The character for which a sign stands.
 fn meant(sign: char) -> char {
     match sign {
@@ -19,28 +30,50 @@ fn meant(sign: char) -> char {
     }
 }
 
-/// A text whose further lines begin with two spaces, without these, and with the characters for which signs stand.
-fn unfolded(alloc: Global, text: &str) -> Result<String, AllocError> {
-    let mut unfolded = String::new(alloc);
+/// Puts a line with the characters for which signs stand.
+fn put_line(unfolded: &mut String, line: &str) -> Result<(), AllocError> {
+    for sign in line.chars() {
+        unfolded.push(meant(sign))?;
+    }
+    Ok(())
+}
+
+/// Puts a text whose further lines begin with two spaces, without these.
+fn put_lines(unfolded: &mut String, text: &str) -> Result<(), AllocError> {
     for (at, line) in text.split("\n  ").enumerate() {
         if at > 0 {
             unfolded.push('\n')?;
         }
-        for sign in line.chars() {
-            unfolded.push(meant(sign))?;
-        }
+        put_line(unfolded, line)?;
     }
-    Ok(unfolded)
+    Ok(())
+}
+
+/// A text whose further lines begin with two spaces, without these, and with the characters for which signs stand.
+fn unfolded(alloc: Global, text: &str) -> Result<String, AllocError> {
+    let mut unfolded = String::new(alloc);
+    let put = put_lines(&mut unfolded, text);
+    filled(unfolded, put)
+}
+
+/// What is found for a text, where a word says as what it is read.
+fn found(alloc: Global, word: &str, text: &str) -> Result<String, AllocError> {
+    let text = unfolded(alloc, text)?;
+    answer(alloc, word, text.as_str())
+}
+
+/// Whether a text is the wanted one. Spaces at the end don't count.
+fn is_wanted(alloc: Global, found: &str, wanted: &str) -> Result<bool, AllocError> {
+    let wanted = unfolded(alloc, wanted.strip_prefix(' ').unwrap_or(wanted))?;
+    Ok(found.trim_end_matches(' ') == wanted.trim_end_matches(' '))
 }
 
 /// What is found for a row, where that isn't what it says. Spaces at the end don't count.
 pub fn difference(alloc: Global, row: &str) -> Result<Option<String>, AllocError> {
     let (asked, wanted) = row.split_once("\n=").unwrap_or((row, ""));
     let (word, text) = asked.split_once(' ').unwrap_or((asked, ""));
-    let text = unfolded(alloc, text)?;
-    let wanted = unfolded(alloc, wanted.strip_prefix(' ').unwrap_or(wanted))?;
-    let found = answer(alloc, word, text.as_str())?;
-    if found.trim_end_matches(' ') == wanted.trim_end_matches(' ') {
+    let found = found(alloc, word, text)?;
+    if is_wanted(alloc, found.as_str(), wanted)? {
         return Ok(None);
     }
     Ok(Some(found))

@@ -2,10 +2,10 @@
 
 use crate::shown::Shown;
 use std::alloc::Global;
-use wc_parser::parse;
+use wc_parser::{ParseError, parse};
 use wc_syntax::{
-    CallStmt, ChildPart, Definition, Exit, ExitCode, Expr, Form, Head, Instr, Job, Name, Port,
-    Rule, Step, Stmt, print,
+    CallStmt, ChildPart, Definition, Exit, ExitCode, Expr, Form, Head, Instr, Job, Library, Name,
+    Port, Rule, Step, Stmt, print,
 };
 use wc_value::Text;
 
@@ -190,21 +190,29 @@ fn put_definition(shown: &mut Shown, definition: &Definition) {
     }
 }
 
+/// The library of a file, or why it has none. The clauses of `parse` stay behind this call.
+pub fn library_of(alloc: Global, file: &Text) -> Result<Library, ParseError> {
+    parse(alloc, file)
+}
+
+/// Puts those of definitions.
+fn put_definitions(shown: &mut Shown, definitions: &[Definition]) {
+    for definition in definitions {
+        put_definition(shown, definition);
+    }
+}
+
 /// Puts the offsets of a file's library, or why it has none.
 pub fn put_offsets(alloc: Global, shown: &mut Shown, file: &Text) {
-    match parse(alloc, file) {
-        Ok(library) => {
-            for definition in library.as_slice() {
-                put_definition(shown, definition);
-            }
-        }
+    match library_of(alloc, file) {
+        Ok(library) => put_definitions(shown, library.as_slice()),
         Err(error) => shown.put_item(&error),
     }
 }
 
 /// The printed text of a file's library.
 fn printed(alloc: Global, file: &Text) -> Option<Text> {
-    match parse(alloc, file) {
+    match library_of(alloc, file) {
         Ok(library) => print(alloc, &library).ok(),
         Err(_) => None,
     }

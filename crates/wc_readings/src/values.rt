@@ -105,19 +105,26 @@ pub fn put_text(alloc: Global, shown: &mut Shown, digits: &str) {
 }
 
 /// Puts why JSON is refused, and at which path.
-fn put_refusal(shown: &mut Shown, why: &str, path: &Text) {
+fn put_path(shown: &mut Shown, why: &str, path: &Text) {
     shown.put(why);
     shown.put(path.as_str());
+}
+
+/// Puts why JSON is refused.
+fn put_refusal(shown: &mut Shown, error: &JsonError) {
+    match error {
+        JsonError::NotJson => shown.put("not json"),
+        JsonError::Float(path) => put_path(shown, "float at ", path),
+        JsonError::OutOfRange(path) => put_path(shown, "out of range at ", path),
+        JsonError::Shape(path) => put_path(shown, "shape at ", path),
+        JsonError::OutOfMemory => shown.lose(),
+    }
 }
 
 /// Puts a text that is read as a value of a kind, written again, or why it is refused.
 pub fn put_read(alloc: Global, shown: &mut Shown, kind: Kind, text: &str) {
     match from_json(alloc, text.as_bytes(), kind) {
         Ok(value) => put_json(alloc, shown, value),
-        Err(JsonError::NotJson) => shown.put("not json"),
-        Err(JsonError::Float(path)) => put_refusal(shown, "float at ", &path),
-        Err(JsonError::OutOfRange(path)) => put_refusal(shown, "out of range at ", &path),
-        Err(JsonError::Shape(path)) => put_refusal(shown, "shape at ", &path),
-        Err(JsonError::OutOfMemory) => shown.lose(),
+        Err(error) => put_refusal(shown, &error),
     }
 }

@@ -1,13 +1,10 @@
 -- What an index says of records.
-use Rattle.std.specs.Prelude.{◌≡◌, ℕ, suc, ◌<◌, ◌≤◌, nat_le, ◌==◌, Bool, true, false, not, ◌&&◌, if◌then◌else◌, List, [], ◌∷◌, length, map, filter, Option, Some, None, slice_index, slice_index_or, vec_capacity}
-use Rattle.wc_value.specs.declared.process.ProcessState.{ProcessState}
-use Rattle.wc_value.specs.declared.process.ProcessState.TheVariants as state
+use Rattle.std.specs.Prelude.{◌≡◌, ℕ, suc, ◌<◌, ◌≤◌, ◌==◌, Bool, true, false, not, if◌then◌else◌, List, [], ◌∷◌, length, map, filter, Option, Some, None, slice_index, slice_index_or, vec_capacity}
 use Rattle.wc_state.specs.declared.record.Await.{Await}
-use Rattle.wc_state.specs.declared.record.Part.{Part}
-use Rattle.wc_state.specs.declared.record.Part.TheVariants as part
 use Rattle.wc_state.specs.declared.record.ProcessRecord.{ProcessRecord}
 use Rattle.wc_records.specs.declared.index.Index.{Index}
-use Rattle.wc_records.specs.Readiness.{ended_at, is_ready, ready_at, AreDues, awaits_of, live_in, waits_later, due_of, sooner}
+use Rattle.wc_readiness.specs.Readiness.{waits_later, due_of}
+use Rattle.wc_records.specs.Readiness.{ended_at, is_ready, ready_at, AreDues, awaits_of, live_in, sooner}
 use Rattle.wc_records.specs.Marked.{marked}
 
 -- how many of these processes, from the first one on, have ended
@@ -18,24 +15,6 @@ ended_first records (a ∷ pids) = if ended_at records a.pid then suc (ended_fir
 -- how many of the processes that it awaits, from the first one on, have ended
 abbrev pub passed_by : List ProcessRecord → ProcessRecord → ℕ
 passed_by records r = ended_first records (awaits_of r.part)
-
--- whether a process goes on at a moment, where so many of the processes that it awaits have ended, from the first one on
-abbrev pub is_past : ℕ → ℕ → Part → Bool
-is_past passed now part.Fresh = false
-is_past passed now (part.Chain c) = passed == length c.awaiting
-is_past passed now (part.Job j) = nat_le j.due now
-is_past passed now part.Over = false
-
-abbrev pub goes_on : ℕ → ℕ → ProcessState → Part → Bool
-goes_on passed now state.Created p = true
-goes_on passed now state.Running p = true
-goes_on passed now state.Waiting p = is_past passed now p
-goes_on passed now (state.Finished n) p = false
-goes_on passed now (state.Excepted r) p = false
-goes_on passed now state.Killed p = false
-
-abbrev pub is_ready_past : ℕ → ℕ → ProcessRecord → Bool
-is_ready_past passed now r = not r.paused && goes_on passed now r.state r.part
 
 -- The index says of each record how many of those that it awaits have ended, and which processes are ready, will be, and live.
 pub record IsIndexOf (records : List ProcessRecord) (x : Index) : Type 0 where

@@ -7,6 +7,7 @@ use Rattle.wc_state.specs.declared.record.Await.{Await}
 use Rattle.wc_state.specs.declared.record.Part.{Part}
 use Rattle.wc_state.specs.declared.record.Part.TheVariants as part
 use Rattle.wc_state.specs.declared.record.ProcessRecord.{ProcessRecord}
+use Rattle.wc_readiness.specs.Readiness.{due_of, waits_later}
 use Rattle.wc_records.specs.Records.{find_record, has_ended}
 use Rattle.wc_records.specs.Marked.{IsSorted}
 
@@ -44,25 +45,6 @@ abbrev pub ready_at : List ProcessRecord → ℕ → List ℕ
 ready_at records now = map (λ r. r.node) (filter (is_ready records now) records)
 
 -- ---- ready later
-
--- the moment from which on a job is asked about, and 0 where nothing is waited for
-abbrev pub due_of : Part → ℕ
-due_of part.Fresh = 0
-due_of (part.Chain c) = 0
-due_of (part.Job j) = j.due
-due_of part.Over = 0
-
-abbrev pub is_waiting : ProcessState → Bool
-is_waiting state.Created = false
-is_waiting state.Running = false
-is_waiting state.Waiting = true
-is_waiting (state.Finished n) = false
-is_waiting (state.Excepted r) = false
-is_waiting state.Killed = false
-
--- a job waits for a moment after the first one, and isn't paused
-abbrev pub waits_later : ProcessRecord → Bool
-waits_later r = not r.paused && (is_waiting r.state && nat_lt 0 (due_of r.part))
 
 -- the process is there, and waits for this moment
 abbrev pub waits_until : ℕ → Option ProcessRecord → Bool

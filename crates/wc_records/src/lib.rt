@@ -11,7 +11,6 @@ mod index;
 mod order;
 mod places;
 mod processes;
-mod readiness;
 mod ready;
 mod records;
 mod rounds;

@@ -12,7 +12,7 @@ use Rattle.wc_machine.specs.Asking.{Need}
 use Rattle.wc_world.specs.Accepted.{IsReached}
 use Rattle.wc_machine.specs.Readiness.{ready_at}
 use Rattle.wc_machine.specs.Sound.{IsSound}
-use Rattle.wc_next.specs.Next.{IsLeastDue}
+use Rattle.wc_core.specs.Next.{IsLeastDue}
 use Rattle.wc_store.specs.declared.place.Place.{Place}
 use Rattle.wc_store.specs.declared.store.Store.{Store}
 use Rattle.wc_store.specs.Refusals.{byte_limit}

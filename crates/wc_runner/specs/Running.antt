@@ -5,7 +5,7 @@ use Rattle.wc_state.specs.declared.record.Limits.{Limits}
 use Rattle.wc_world.specs.World.{World}
 use Rattle.wc_store.specs.Refusals.{byte_limit}
 use Rattle.wc_store.specs.declared.store.Store.{Store}
-use Rattle.wc_next.specs.Standing.{is_any_live, is_resting}
+use Rattle.wc_core.specs.Standing.{is_any_live, is_resting}
 use Rattle.wc_runner.specs.Outside.{Outside}
 use Rattle.wc_runner.specs.Trips.{Turns}
 use Rattle.wc_runner.specs.declared.running.RunEnd.{RunEnd}

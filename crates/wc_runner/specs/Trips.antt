@@ -7,7 +7,7 @@ use Rattle.wc_world.specs.Applied.{applied}
 use Rattle.wc_machine.specs.declared.answer.TaskAnswer.{TaskAnswer}
 use Rattle.wc_machine.specs.Machine.{Leads, turn}
 use Rattle.wc_machine.specs.Readiness.{ready_at}
-use Rattle.wc_next.specs.Next.{IsLeastDue}
+use Rattle.wc_core.specs.Next.{IsLeastDue}
 use Rattle.wc_runner.specs.Outside.{Outside, Answers}
 
 -- ---- turns

@@ -17,9 +17,9 @@ ghost use Rattle.wc_runner.specs.Running.{EndsAs, FitsAfter, TakesFewer, TakesUp
 use crate::error::RunError;
 use crate::turning::turn_one;
 use std::alloc::Global;
+use wc_core::{Next, Order, Standing, next_turn, standing_of};
 use wc_disk::Disk;
 use wc_io::Pacer;
-use wc_next::{Next, Order, Standing, next_turn, standing_of};
 use wc_state::Limits;
 use wc_store::Store;
 use wc_transport::Transport;

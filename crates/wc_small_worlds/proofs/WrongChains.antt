@@ -12,8 +12,8 @@ use Rattle.wc_world.specs.Trees.{recorded_tree}
 use Rattle.wc_machine.specs.Paths.{kills}
 use Rattle.wc_machine.specs.Resting.{GivesTree, meant}
 use Rattle.wc_machine.specs.Sound.{IsSound}
-use Rattle.wc_results.specs.Results.{result_of, table_of}
-use Rattle.wc_results.proofs.FoundResults.{its_table_agrees}
+use Rattle.wc_laws.specs.Results.{result_of, table_of}
+use Rattle.wc_laws.proofs.FoundResults.{its_table_agrees}
 use Rattle.wc_small_worlds.specs.FanWorlds as fans
 use Rattle.wc_small_worlds.specs.FanWorlds.{HasBoth}
 use Rattle.wc_small_worlds.specs.WrongWorlds as wrong

@@ -46,7 +46,7 @@ impl Content {
         times: u64,
     ) -> Result<(), AllocError> {
         for number in 0..times {
-            put_written(alloc, &mut self.bytes, other, number)?;
+            other.put(alloc, &mut self.bytes, number)?;
         }
         Ok(())
     }
@@ -54,8 +54,14 @@ impl Content {
     /// The bytes in the repetition of this number.
     pub fn written(&self, alloc: Global, number: u64) -> Result<Bytes, AllocError> {
         let mut out = List::new(alloc);
-        put_written(alloc, &mut out, self, number)?;
+        self.put(alloc, &mut out, number)?;
         Ok(out)
+    }
+
+    /// Puts the bytes in the repetition of this number behind others.
+    fn put(&self, alloc: Global, out: &mut Bytes, number: u64) -> Result<(), AllocError> {
+        let digits = format!(in alloc; "{number}")?;
+        put_written(out, self, digits.as_bytes())
     }
 }
 
@@ -70,19 +76,13 @@ impl Duplicate for Content {
     }
 }
 
-/// Puts the bytes of content, with this number, behind others.
-fn put_written(
-    alloc: Global,
-    out: &mut Bytes,
-    content: &Content,
-    number: u64,
-) -> Result<(), AllocError> {
+/// Puts the bytes of content, with the digits of a number, behind others.
+fn put_written(out: &mut Bytes, content: &Content, digits: &[u8]) -> Result<(), AllocError> {
     let bytes = content.bytes.as_slice();
     let mut from = 0;
     for mark in content.marks.as_slice() {
         out.extend(bytes.get(from..*mark).unwrap_or(&[]))?;
-        let digits = format!(in alloc; "{number}")?;
-        out.extend(digits.as_bytes())?;
+        out.extend(digits)?;
         from = *mark;
     }
     out.extend(bytes.get(from..).unwrap_or(&[]))

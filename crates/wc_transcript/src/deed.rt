@@ -7,14 +7,14 @@ use wc_state::Task;
 use wc_value::{List, Text};
 
 /// One of the two disks.
-#[derive(Clone, Copy, Debug, PartialEq, Eq)]
+#[derive(Clone, Copy)]
 pub enum Side {
     One,
     Two,
 }
 
 /// What a command asks, and what can fail.
-#[derive(Clone, Copy, Debug, PartialEq, Eq)]
+#[derive(Clone, Copy)]
 pub enum Device {
     Shelf,
     Sink,
@@ -24,7 +24,7 @@ pub enum Device {
 }
 
 /// Which bytes a crash leaves where nothing was synced.
-#[derive(Clone, Copy, Debug, PartialEq, Eq)]
+#[derive(Clone, Copy)]
 pub enum Left {
     Old,
     New,
@@ -32,7 +32,7 @@ pub enum Left {
 }
 
 /// What comes to a call in a sweep.
-#[derive(Clone, Copy, Debug, PartialEq, Eq)]
+#[derive(Clone, Copy)]
 pub enum Event {
     /// The call fails.
     Fault(Device),

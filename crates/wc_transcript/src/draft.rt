@@ -1,13 +1,16 @@
 //! What the lines before say.
 
-use crate::deed::{Deed, Step, Transcript};
+use crate::deed::{Call, Deed, Step, Transcript};
+use crate::growing::Growing;
+use crate::letting::let_go;
 use crate::mistake::Mistake;
 use crate::names::Names;
 use std::alloc::{AllocError, Global};
+use std::mem;
 use wc_value::{List, Text};
 
 /// In which block a line stands.
-#[derive(Clone, Copy, PartialEq, Eq)]
+#[derive(Clone, Copy)]
 enum Block {
     None,
     Repeat,
@@ -19,9 +22,18 @@ enum Block {
 pub struct Draft {
     /// The bytes that have names.
     pub names: Names,
-    done: List<Transcript>,
-    current: Option<Transcript>,
+    transcripts: Growing<Transcript>,
     block: Block,
+}
+
+/// The block in which the lines behind a call stand.
+fn block_behind_call(block: Block, call: &Call) -> Result<Block, Mistake> {
+    let is_swept = !call.failed.is_empty() || !call.stages.is_empty();
+    match block {
+        Block::Sweep => Ok(block),
+        _ if is_swept => Err(Mistake::Block),
+        _ => Ok(block),
+    }
 }
 
 /// The block in which the lines behind a step stand.
@@ -34,15 +46,26 @@ fn block_behind(block: Block, deed: &Deed) -> Result<Block, Mistake> {
         (Deed::End, _) => Ok(Block::None),
         (Deed::Ask(_) | Deed::Last, Block::Sweep) => Ok(Block::Sweep),
         (Deed::Ask(_) | Deed::Last, _) => Err(Mistake::Block),
-        (Deed::Call(call), block) => {
-            let is_swept = !call.failed.is_empty() || !call.stages.is_empty();
-            if is_swept && block != Block::Sweep {
-                return Err(Mistake::Block);
-            }
-            Ok(block)
-        }
+        (Deed::Call(call), block) => block_behind_call(block, call),
         (_, Block::Sweep) => Err(Mistake::Block),
         (_, block) => Ok(block),
+    }
+}
+
+/// A transcript of this name, with no step.
+fn begun(alloc: Global, name: &str) -> Result<Transcript, AllocError> {
+    Ok(Transcript {
+        name: Text::of_str(alloc, name)?,
+        wrong: 0,
+        steps: List::new(alloc),
+    })
+}
+
+/// Puts an item behind those of a transcript, where one has begun.
+fn put_behind<T: Drop>(items: Option<&mut List<T>>, item: T) -> Result<(), Mistake> {
+    match items {
+        Some(items) => Ok(items.push(item)?),
+        None => Err(Mistake::NoTranscript),
     }
 }
 
@@ -51,42 +74,28 @@ impl Draft {
     pub fn new(alloc: Global) -> Draft {
         Draft {
             names: Names::new(alloc),
-            done: List::new(alloc),
-            current: None,
+            transcripts: Growing::new(alloc),
             block: Block::None,
         }
     }
 
-    /// The transcript of the lines before is whole.
-    fn close(&mut self) -> Result<(), Mistake> {
-        if self.block != Block::None {
-            return Err(Mistake::Block);
+    /// No block is open.
+    fn close(&self) -> Result<(), Mistake> {
+        match self.block {
+            Block::None => Ok(()),
+            _ => Err(Mistake::Block),
         }
-        if let Some(whole) = self.current.take() {
-            self.done.push(whole)?;
-        }
-        Ok(())
-    }
-
-    /// A transcript of this name begins.
-    fn open(&mut self, alloc: Global, name: &str) -> Result<(), AllocError> {
-        self.current = Some(Transcript {
-            name: Text::of_str(alloc, name)?,
-            wrong: 0,
-            steps: List::new(alloc),
-        });
-        Ok(())
     }
 
     /// The transcript before is whole, and one of this name begins.
     pub fn begin(&mut self, alloc: Global, name: &str) -> Result<(), Mistake> {
         self.close()?;
-        Ok(self.open(alloc, name)?)
+        Ok(self.transcripts.begin(begun(alloc, name)?)?)
     }
 
     /// So many answers of the transcript are wrong on purpose.
     pub fn set_wrong(&mut self, count: u64) -> Result<(), Mistake> {
-        match &mut self.current {
+        match self.transcripts.last() {
             Some(transcript) => {
                 transcript.wrong = count;
                 Ok(())
@@ -95,19 +104,35 @@ impl Draft {
         }
     }
 
+    /// The steps of the transcript.
+    fn steps(&mut self) -> Option<&mut List<Step>> {
+        match self.transcripts.last() {
+            Some(transcript) => Some(&mut transcript.steps),
+            None => None,
+        }
+    }
+
+    /// Goes into the block in which the lines behind a step stand, or out of it.
+    fn pass(&mut self, deed: &Deed) -> Result<(), Mistake> {
+        self.block = block_behind(self.block, deed)?;
+        Ok(())
+    }
+
     /// Puts a step behind those of the transcript.
     pub fn put(&mut self, step: Step) -> Result<(), Mistake> {
-        self.block = block_behind(self.block, &step.deed)?;
-        match &mut self.current {
-            Some(transcript) => Ok(transcript.steps.push(step)?),
-            None => Err(Mistake::NoTranscript),
+        match self.pass(&step.deed) {
+            Ok(()) => put_behind(self.steps(), step),
+            Err(mistake) => {
+                let_go(step);
+                Err(mistake)
+            }
         }
     }
 
     /// The transcripts.
-    pub fn finish(self) -> Result<List<Transcript>, Mistake> {
-        let mut draft = self;
-        draft.close()?;
-        Ok(draft.done)
+    pub fn finish(&mut self, alloc: Global) -> Result<List<Transcript>, Mistake> {
+        self.close()?;
+        let transcripts = mem::replace(&mut self.transcripts, Growing::new(alloc));
+        Ok(transcripts.finish()?)
     }
 }

@@ -4,9 +4,10 @@ ghost use Rattle.std.specs.Prelude.{◌<◌, IfSome};
 
 use crate::content::Content;
 use crate::cutting::cut_word;
+use crate::letting::filled;
 use crate::mistake::Mistake;
 use crate::names::Names;
-use crate::number::read_plain;
+use crate::said::Said;
 use std::alloc::Global;
 
 /// Puts what stands behind a backslash.
@@ -83,10 +84,17 @@ fn put_single(names: &Names, content: &mut Content, item: &str) -> Result<(), Mi
     put_digits(content, item.as_bytes())
 }
 
+/// Content of the bytes of an item that isn't repeated.
+fn read_single(alloc: Global, names: &Names, item: &str) -> Result<Content, Mistake> {
+    let mut content = Content::new(alloc);
+    let put = put_single(names, &mut content, item);
+    filled(content, put)
+}
+
 /// How often an item is repeated, and which one.
 fn repeated(item: &str) -> Option<(u64, &str)> {
     let (times, part) = item.split_once('*')?;
-    Some((read_plain(times)?, part))
+    Some((u64::said(times)?, part))
 }
 
 /// Puts the bytes of an item.
@@ -99,8 +107,7 @@ fn put_item(
     let Some((times, part)) = repeated(item) else {
         return put_single(names, content, item);
     };
-    let mut once = Content::new(alloc);
-    put_single(names, &mut once, part)?;
+    let once = read_single(alloc, names, part)?;
     Ok(content.append_times(alloc, &once, times)?)
 }
 

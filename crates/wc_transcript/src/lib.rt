@@ -6,13 +6,17 @@ mod content;
 mod cutting;
 mod deed;
 mod draft;
+mod growing;
 mod items;
+mod letting;
+mod lines;
 mod mistake;
 mod names;
 mod number;
 mod reader;
 mod row;
 mod rows;
+mod said;
 mod simple;
 mod steps;
 

@@ -4,7 +4,7 @@ use std::alloc::AllocError;
 use thiserror::Error;
 
 /// What is wrong with a line.
-#[derive(Clone, Copy, Debug, PartialEq, Eq, Error)]
+#[derive(Clone, Copy, Debug, Error)]
 pub enum Mistake {
     #[error("out of memory")]
     OutOfMemory,
@@ -44,7 +44,7 @@ impl From<AllocError> for Mistake {
 }
 
 /// What is wrong with a text, and in which line, counted from 1.
-#[derive(Clone, Copy, Debug, PartialEq, Eq, Error)]
+#[derive(Clone, Copy, Debug, Error)]
 #[error("line {line}: {mistake}")]
 pub struct ReadError {
     /// The number of the line.

@@ -1,7 +1,9 @@
 //! Numbers that may depend on the repetition in which they stand.
 
+use crate::said::Said;
+
 /// A number.
-#[derive(Clone, Copy, Debug, PartialEq, Eq)]
+#[derive(Clone, Copy)]
 pub enum Number {
     /// Always this one.
     Plain(u64),
@@ -19,18 +21,27 @@ impl Number {
     }
 }
 
-/// The number that a word says: digits, or `#`, or `#+` before digits.
-pub fn read_number(word: &str) -> Option<Number> {
-    if word == "#" {
-        return Some(Number::Counted(0));
+/// The number that digits say.
+impl Said for u64 {
+    fn said(word: &str) -> Option<u64> {
+        word.parse().ok()
     }
-    if let Some(more) = word.strip_prefix("#+") {
-        return Some(Number::Counted(read_plain(more)?));
-    }
-    Some(Number::Plain(read_plain(word)?))
 }
 
-/// The number that digits say.
-pub fn read_plain(word: &str) -> Option<u64> {
-    word.parse().ok()
+/// How many more a word says behind `#`: nothing, or digits behind `+`.
+fn more_of(word: &str) -> Option<u64> {
+    if word.is_empty() {
+        return Some(0);
+    }
+    u64::said(word.strip_prefix('+')?)
+}
+
+/// The number that a word says: digits, or `#`, or `#+` before digits.
+impl Said for Number {
+    fn said(word: &str) -> Option<Number> {
+        match word.strip_prefix('#') {
+            Some(more) => Some(Number::Counted(more_of(more)?)),
+            None => Some(Number::Plain(u64::said(word)?)),
+        }
+    }
 }

@@ -2,38 +2,45 @@
 
 use crate::content::Content;
 use crate::cutting::{cut_word, only_word};
+use crate::growing::Growing;
 use crate::items::put_items;
+use crate::letting::filled;
+use crate::lines::Lines;
 use crate::mistake::Mistake;
 use crate::names::Names;
 use crate::row::{Named, Row};
-use crate::steps::{Taken, read_words};
-use std::alloc::{AllocError, Global};
+use crate::steps::read_words;
+use std::alloc::Global;
 use wc_value::{List, Text};
 
-/// The rows that are whole, and the one that the lines go on with.
-#[derive(Drop)]
-struct Rows {
-    done: List<Row>,
-    row: Option<Row>,
+/// Content of the items of a line.
+fn content_of(alloc: Global, names: &Names, items: &str) -> Result<Content, Mistake> {
+    let mut content = Content::new(alloc);
+    let put = put_items(alloc, names, &mut content, items);
+    filled(content, put)
 }
 
-impl Rows {
-    /// The row before is whole.
-    fn close(&mut self) -> Result<(), AllocError> {
-        if let Some(row) = self.row.take() {
-            self.done.push(row)?;
-        }
-        Ok(())
-    }
+/// A file with the content of items.
+fn read_file(alloc: Global, names: &Names, line: &str) -> Result<(Text, Content), Mistake> {
+    let (name, items) = cut_word(line).ok_or(Mistake::Word)?;
+    let content = content_of(alloc, names, items)?;
+    Ok((Text::of_str(alloc, name)?, content))
 }
 
 /// Puts a file with the content of items.
 fn put_file(alloc: Global, names: &Names, files: &mut Named, line: &str) -> Result<(), Mistake> {
-    let (name, items) = cut_word(line).ok_or(Mistake::Word)?;
-    let name = Text::of_str(alloc, name)?;
-    let mut content = Content::new(alloc);
-    put_items(alloc, names, &mut content, items)?;
-    Ok(files.push((name, content))?)
+    Ok(files.push(read_file(alloc, names, line)?)?)
+}
+
+/// Puts the name of a file to bring back.
+fn put_fetch(alloc: Global, row: &mut Row, line: &str) -> Result<(), Mistake> {
+    let name = only_word(line).ok_or(Mistake::Word)?;
+    Ok(row.fetch.push(Text::of_str(alloc, name)?)?)
+}
+
+/// The exit code that a line says.
+fn read_code(line: &str) -> Option<i64> {
+    only_word(line)?.parse().ok()
 }
 
 /// Puts what a line says into a row.
@@ -47,51 +54,64 @@ fn put_line(
     match word {
         "file" => put_file(alloc, names, &mut row.files, line),
         "leaves" => put_file(alloc, names, &mut row.left, line),
-        "fetch" => {
-            let name = only_word(line).ok_or(Mistake::Word)?;
-            Ok(row.fetch.push(Text::of_str(alloc, name)?)?)
-        }
+        "fetch" => put_fetch(alloc, row, line),
         "code" => {
-            let code = only_word(line).and_then(|word| word.parse().ok());
-            row.code = code.ok_or(Mistake::Word)?;
+            row.code = read_code(line).ok_or(Mistake::Word)?;
             Ok(())
         }
         _ => Err(Mistake::Beginning),
     }
 }
 
+/// A row with the words of a line.
+fn begun(alloc: Global, line: &str) -> Result<Row, Mistake> {
+    let words = read_words(alloc, line)?;
+    if words.is_empty() {
+        return Err(Mistake::Word);
+    }
+    Ok(Row::new(alloc, words))
+}
+
 /// Takes a line: `run` begins a row, and any other goes on with it.
-fn take_line(alloc: Global, names: &Names, rows: &mut Rows, line: &str) -> Result<(), Mistake> {
+fn take_line(
+    alloc: Global,
+    names: &Names,
+    rows: &mut Growing<Row>,
+    line: &str,
+) -> Result<(), Mistake> {
     let (word, behind) = cut_word(line).ok_or(Mistake::Beginning)?;
     if word == "run" {
-        rows.close()?;
-        let words = read_words(alloc, behind)?;
-        if words.is_empty() {
-            return Err(Mistake::Word);
-        }
-        rows.row = Some(Row::new(alloc, words));
-        return Ok(());
+        return Ok(rows.begin(begun(alloc, behind)?)?);
     }
-    match &mut rows.row {
+    match rows.last() {
         Some(row) => put_line(alloc, names, row, word, behind),
         None => Err(Mistake::Beginning),
     }
 }
 
-/// The results of the indented lines below.
-pub fn read_rows(alloc: Global, names: &Names, below: &[&str]) -> Taken<List<Row>> {
-    let mut rows = Rows {
-        done: List::new(alloc),
-        row: None,
-    };
-    let mut count: usize = 0;
-    for line in below {
-        let Some(text) = line.strip_prefix("  ") else {
+/// Takes the indented lines below.
+fn take_lines(
+    alloc: Global,
+    names: &Names,
+    rows: &mut Growing<Row>,
+    below: &mut Lines<'_>,
+) -> Result<(), Mistake> {
+    for _ in 0..u64::MAX {
+        let Some(text) = below.take_behind("  ") else {
             break;
         };
-        take_line(alloc, names, &mut rows, text)?;
-        count = count.saturating_add(1);
+        take_line(alloc, names, rows, text)?;
     }
-    rows.close()?;
-    Ok((rows.done, count))
+    Ok(())
+}
+
+/// The results of the indented lines below.
+pub fn read_rows(
+    alloc: Global,
+    names: &Names,
+    below: &mut Lines<'_>,
+) -> Result<List<Row>, Mistake> {
+    let mut rows = Growing::new(alloc);
+    let taken = take_lines(alloc, names, &mut rows, below);
+    Ok(filled(rows, taken)?.finish()?)
 }

@@ -4,14 +4,29 @@
 use std::alloc::Global;
 use std::io::{self, Read};
 use std::process::ExitCode;
-use wc_disk::MemoryDisk;
+use wc_disk::{Disk, MemoryDisk};
 use wc_engine::serve;
-use wc_io::MemoryShelf;
+use wc_io::{MemoryShelf, Pacer, Shelf, Sink};
 use wc_player::{Clock, Finding, Outside, Program, Report, Sipping, Verdict, play};
 use wc_transcript::{Transcript, read_transcripts};
+use wc_transport::Transport;
 use wc_value::Words;
 
-/// The program. Its clauses stay behind this call, so that what plays transcripts doesn't carry them.
+/// The code of the status of `serve`, whose clauses stay behind this call, so that what plays transcripts doesn't carry them.
+fn status_code<R: Shelf, W: Sink, D: Disk, T: Transport, P: Pacer>(
+    alloc: Global,
+    words: &Words,
+    shelf: &mut R,
+    sink: &mut W,
+    one: &mut D,
+    two: &mut D,
+    transport: &mut T,
+    pacer: &mut P,
+) -> u8 {
+    serve(alloc, words, shelf, sink, one, two, transport, pacer).code()
+}
+
+/// The program.
 #[derive(Clone, Copy)]
 struct Served;
 
@@ -27,7 +42,7 @@ impl Program for Served {
         transport: &mut Outside,
         clock: &mut Clock,
     ) -> u8 {
-        serve(alloc, words, shelf, sink, one, two, transport, clock).code()
+        status_code(alloc, words, shelf, sink, one, two, transport, clock)
     }
 }
 

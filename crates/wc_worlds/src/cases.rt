@@ -1,5 +1,6 @@
 //! Cases, which are made of rows.
 
+use crate::letting::{filled, let_go};
 use crate::report::Report;
 use crate::rows::play_row;
 use crate::stage::Stage;
@@ -80,17 +81,23 @@ fn take_line(
 }
 
 /// Takes the lines of a text.
-fn take_lines(alloc: Global, stage: &mut Stage, text: &str) -> Result<Report, AllocError> {
-    let mut report = Report::new(alloc);
+fn take_lines(
+    alloc: Global,
+    stage: &mut Stage,
+    report: &mut Report,
+    text: &str,
+) -> Result<(), AllocError> {
     for line in text.split('\n') {
-        take_line(alloc, stage, &mut report, line)?;
+        take_line(alloc, stage, report, line)?;
     }
-    report.end_case()?;
-    Ok(report)
+    report.end_case()
 }
 
 /// Plays the cases of a text, and gives what is told of them.
 pub fn play(alloc: Global, text: &str) -> Result<Report, AllocError> {
     let mut stage = Stage::new(alloc);
-    take_lines(alloc, &mut stage, text)
+    let mut report = Report::new(alloc);
+    let taken = take_lines(alloc, &mut stage, &mut report, text);
+    let_go(stage);
+    filled(report, taken)
 }

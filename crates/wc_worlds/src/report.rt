@@ -122,24 +122,29 @@ impl Report {
         Ok(())
     }
 
-    /// Tells of the case.
-    fn put_case(&mut self) -> Result<(), AllocError> {
+    /// Tells how many answers the case has, behind a word.
+    fn put_answers(&mut self, word: &str) -> Result<(), AllocError> {
         let case = self.case.as_str();
         let answers = self.tally.answers;
+        write!(self.text, "{word}: {case}: {answers} answers")
+    }
+
+    /// Tells how many rows of the case were found wrong.
+    fn put_wrong(&mut self, behind: &str) -> Result<(), AllocError> {
         let wrong = self.tally.wrong;
-        if !self.tally.is_right() {
-            writeln!(
-                self.text,
-                "FAILED: {case}: {answers} answers, {wrong} wrong"
-            )?;
-        } else if wrong == 0 {
-            writeln!(self.text, "ok: {case}: {answers} answers")?;
-        } else {
-            writeln!(
-                self.text,
-                "ok: {case}: {answers} answers, {wrong} wrong on purpose"
-            )?;
+        write!(self.text, ", {wrong} wrong{behind}")
+    }
+
+    /// Tells of the case.
+    fn put_case(&mut self) -> Result<(), AllocError> {
+        let is_right = self.tally.is_right();
+        self.put_answers(if is_right { "ok" } else { "FAILED" })?;
+        if !is_right {
+            self.put_wrong("")?;
+        } else if self.tally.wrong > 0 {
+            self.put_wrong(" on purpose")?;
         }
+        self.text.push_str("\n")?;
         self.text.push_str(self.findings.as_str())
     }
 

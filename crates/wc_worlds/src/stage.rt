@@ -1,6 +1,7 @@
 //! What rows act on.
 
 use crate::items::put_items;
+use crate::letting::put;
 use crate::names::Names;
 use crate::stop::Stop;
 use std::alloc::Global;
@@ -30,9 +31,9 @@ impl Stage {
 
     /// A case begins. What has a name keeps it.
     pub fn begin(&mut self, alloc: Global) {
-        self.bytes = Bytes::new(alloc);
-        self.graph = Graph::new(alloc);
-        self.world = World::new(alloc);
+        put(&mut self.bytes, Bytes::new(alloc));
+        put(&mut self.graph, Graph::new(alloc));
+        put(&mut self.world, World::new(alloc));
     }
 
     /// The bytes are those of these items.

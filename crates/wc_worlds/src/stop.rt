@@ -3,7 +3,7 @@
 use std::alloc::AllocError;
 
 /// Why a row isn't played.
-#[derive(Clone, Copy, PartialEq, Eq)]
+#[derive(Clone, Copy)]
 pub enum Stop {
     /// Memory ran out.
     OutOfMemory,

@@ -1,7 +1,7 @@
 //! Worlds: the changes that they take and refuse, and what they tell.
 
 use crate::changes::changes_of;
-use crate::letting::let_go;
+use crate::letting::{let_go, listed, put};
 use crate::stop::Stop;
 use crate::telling::{put_done, put_error, put_line};
 use std::alloc::Global;
@@ -49,7 +49,7 @@ fn worsen_names(alloc: Global, names: &mut Words) {
 fn worsen_value(alloc: Global, value: &mut Value) {
     let mut outside = Values::new(alloc);
     let _pushed = outside.push(mem::replace(value, Value::Int(0)));
-    *value = Value::List(outside);
+    put(value, Value::List(outside));
 }
 
 /// A job has failed six times.
@@ -62,7 +62,7 @@ fn worsen_part(part: &mut Part) {
 /// Makes a change one that no bytes spell, if there is such a one.
 fn worsen(alloc: Global, change: &mut Change) {
     match change {
-        Change::Library(_library, names) => worsen_names(alloc, names),
+        Change::Library(_, names) => worsen_names(alloc, names),
         Change::Data(value) => worsen_value(alloc, value),
         Change::Set(set) => worsen_part(&mut set.part),
         _ => {}
@@ -71,12 +71,11 @@ fn worsen(alloc: Global, change: &mut Change) {
 
 /// The last change alone, made one that no bytes spell.
 fn worst(alloc: Global, changes: Changes) -> Changes {
-    let mut worst = Changes::new(alloc);
-    if let Some(mut change) = changes.into_vec().pop() {
-        worsen(alloc, &mut change);
-        let _pushed = worst.push(change);
+    let mut last = changes.into_vec().pop();
+    if let Some(change) = &mut last {
+        worsen(alloc, change);
     }
-    worst
+    listed(alloc, last)
 }
 
 /// Tells whether a world takes the last change that bytes spell, made one that no bytes spell, or why not.

@@ -1,15 +1,15 @@
 use Rattle.std.proofs.Common.{refl, subst}
 use Rattle.wc_cli.specs.Words.{command_of}
-use Rattle.wc_engine.specs.Outside.{turns_of}
+use Rattle.wc_act.specs.Outside.{turns_of}
 use Rattle.wc_plan.specs.Plans.{Plans}
 use Rattle.wc_plan.specs.declared.deed.Plan.{Plan}
 use Rattle.wc_plan.specs.declared.deed.Plan.TheVariants as plan
 use Rattle.wc_plan.specs.declared.reply.Reply.{Reply}
-use Rattle.wc_engine.proofs.Answered.{plan_counts, plan_no_fault, told_no_fault, act_counts, act_no_refusal, act_undone}
-use Rattle.wc_engine.proofs.Exchanged.{asked_by, asked_none}
-use Rattle.wc_engine.proofs.Moments.{made, made_unasked}
-use Rattle.wc_engine.proofs.Unwriting.{none_asked}
-use Rattle.wc_engine.proofs.Idle.{plan_idle}
+use Rattle.wc_act.proofs.Answered.{plan_counts, plan_no_fault, told_no_fault, act_counts, act_no_refusal, act_undone}
+use Rattle.wc_act.proofs.Exchanged.{asked_by, asked_none}
+use Rattle.wc_act.proofs.Moments.{made, made_unasked}
+use Rattle.wc_act.proofs.Unwriting.{none_asked}
+use Rattle.wc_act.proofs.Idle.{plan_idle}
 use Rattle.wc_engine.proofs.serving.answer.Goals as goal
 
 -- ---- there is no plan

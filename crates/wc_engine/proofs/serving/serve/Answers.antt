@@ -1,19 +1,19 @@
 use Rattle.std.proofs.Common.{◌≡◌, sym, subst, ◌∙◌}
 use Rattle.wc_cli.specs.Words.{command_of}
-use Rattle.wc_engine.specs.Outside.{exchange, ServesOutside}
-use Rattle.wc_engine.specs.Owed.{visit}
+use Rattle.wc_act.specs.Outside.{exchange, ServesOutside}
+use Rattle.wc_act.specs.Owed.{visit}
 use Rattle.wc_plan.specs.Replies.{OwesStatus}
-use Rattle.wc_engine.specs.Statuses.{IsDoneOrFull}
+use Rattle.wc_act.specs.Statuses.{IsDoneOrFull}
 use Rattle.wc_plan.specs.declared.reply.Reply.{Reply}
 use Rattle.wc_plan.specs.declared.status.Status.{Status}
 use Rattle.wc_plan.specs.declared.status.Status.TheVariants as status
-use Rattle.wc_engine.proofs.Acknowledging.{owed_ok, stands_done}
-use Rattle.wc_engine.proofs.Exchanged.{owed_done}
-use Rattle.wc_engine.proofs.Exits.{durable_same, stay_sound}
-use Rattle.wc_engine.proofs.Undamaged.{owed_tells, ends_whole, ends_faultless}
-use Rattle.wc_engine.proofs.Once.{owed_once}
-use Rattle.wc_engine.proofs.Replied.{owed_replied, done_owed}
-use Rattle.wc_engine.proofs.Unwriting.{row_undone}
+use Rattle.wc_act.proofs.Acknowledging.{owed_ok, stands_done}
+use Rattle.wc_act.proofs.Exchanged.{owed_done}
+use Rattle.wc_act.proofs.Exits.{durable_same, stay_sound}
+use Rattle.wc_act.proofs.Undamaged.{owed_tells, ends_whole, ends_faultless}
+use Rattle.wc_act.proofs.Once.{owed_once}
+use Rattle.wc_act.proofs.Replied.{owed_replied, done_owed}
+use Rattle.wc_act.proofs.Unwriting.{row_undone}
 use Rattle.wc_engine.proofs.serving.serve.Goals as goal
 
 pub finish-requires : goal.finish-requires

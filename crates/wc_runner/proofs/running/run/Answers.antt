@@ -2,8 +2,8 @@ use Rattle.std.proofs.Common.{◌≡◌, ◌<◌, suc, true, Result, Ok, Err, su
 use Rattle.wc_world.specs.Room.{Holding}
 use Rattle.wc_machine.specs.Asking.{need}
 use Rattle.wc_core.specs.Ready.{is_ready_at}
-use Rattle.wc_next.specs.Next.{ComesNext}
-use Rattle.wc_next.specs.declared.next.Next.TheVariants.{Turn, Rest}
+use Rattle.wc_core.specs.Next.{ComesNext}
+use Rattle.wc_core.specs.declared.next.Next.TheVariants.{Turn, Rest}
 use Rattle.wc_runner.specs.Asked.{AsksOnce, IsAsked}
 use Rattle.wc_runner.specs.declared.error.RunError.{RunError}
 use Rattle.wc_runner.specs.Outside.{in_run}

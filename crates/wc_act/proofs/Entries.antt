@@ -1,0 +1,291 @@
+-- What an event makes of a store.
+use Rattle.std.proofs.Common.{◌≡◌, inl, inr, ◌++◌, ◌≤◌, ◌+◌, ℕ, suc, true, false, List, [], ◌∷◌, length, map, Result, Ok, Err, Option, Some, None, IfOk, IsTrue, refl, sym, ap, subst, ◌∙◌, arith, lit≤}
+use Rattle.std.specs.Prelude.{◌≢◌, ◌==◌, All, IsSome}
+use Rattle.std.specs.List.{AllByRecursion}
+use Rattle.std.proofs.lemmas.Bool.{eq-eqb, eqb-true}
+use Rattle.std.proofs.lemmas.List.Elements.{All-nil, All-cons}
+use Rattle.std.proofs.lemmas.List.{length-append, length-map}
+use Rattle.wc_disk.specs.declared.disk.Disk as disk
+use Rattle.wc_value.specs.declared.process.ProcessState.{ProcessState}
+use Rattle.wc_value.specs.Spelling.{depth}
+use Rattle.wc_syntax.specs.Findings.{head_of}
+use Rattle.wc_syntax.specs.declared.definition.Definition.{Definition}
+use Rattle.wc_meaning.specs.Inputs.{bad_input}
+use Rattle.wc_graph.specs.declared.link.LinkType.{LinkType}
+use Rattle.wc_calculation.specs.Rules.{Values}
+use Rattle.wc_state.specs.declared.record.What.{What}
+use Rattle.wc_world.specs.declared.change.Change.{Change}
+use Rattle.wc_world.specs.World.{World}
+use Rattle.wc_world.specs.Accepted.{IsAccepted, IsReached, then_changes}
+use Rattle.wc_world.specs.Applied.{applied}
+use Rattle.wc_machine.specs.Continues.{Continues}
+use Rattle.wc_machine.specs.Sound.{IsSound}
+use Rattle.wc_machine.specs.Submitting.{data_change, links_from, Submits, submitted_number}
+use Rattle.wc_state.specs.Ranges.{AreLimits}
+use Rattle.wc_refusal.specs.Refusals.{HasRoom}
+use Rattle.wc_refusal.specs.declared.error.TurnError.{TurnError}
+use Rattle.wc_refusal.specs.declared.error.TurnError.TheVariants as turn_error
+use Rattle.wc_store.specs.Refusals.{byte_limit, committed_bytes, RefusesCommit, IsUnchanged, is_live_after}
+use Rattle.wc_store.specs.declared.error.StoreError.{StoreError}
+use Rattle.wc_store.specs.declared.error.StoreError.TheVariants as error
+use Rattle.wc_store.specs.declared.store.Store.{Store}
+use Rattle.wc_store.specs.Held.{is_plain, IsHeld, a_world}
+use Rattle.wc_store.specs.Stores.{StandsFor, other}
+use Rattle.wc_machine.specs.Machine.{Event, pause, play, kill, submits as submits_by}
+use Rattle.wc_core.specs.Refusals.{RefusesMark}
+use Rattle.wc_machine.proofs.Submitted.{data_node, new_nodes, submission_gives}
+use Rattle.wc_act.proofs.Asking.{submission_some, submits_of}
+use Rattle.wc_world.specs.Records.{kind_of_definition, process_node}
+use Rattle.wc_plan.specs.declared.deed.Asked.{Asked}
+use Rattle.wc_plan.specs.declared.deed.Asked.TheVariants as asked
+use Rattle.wc_plan.specs.declared.reply.Reply.{Reply}
+use Rattle.wc_plan.specs.declared.status.Cause.{Cause}
+use Rattle.wc_plan.specs.declared.status.Cause.TheVariants as cause
+use Rattle.wc_plan.specs.declared.submission.Submission.{Submission}
+use Rattle.wc_act.specs.Crashes.{AreDurable, Keeps}
+use Rattle.wc_act.specs.Entries.{IsStorable}
+use Rattle.wc_act.specs.Events.{Changes, RefusesAsked, IsRefusedFor, IsMadeBy, TellsAlone, Enters, IsLine, line_of, limits_of, process_of}
+use Rattle.wc_plan.specs.Replies.{prints, refuses}
+use Rattle.wc_act.specs.Stored.{Hold, greatest_limits, is_full}
+use Rattle.wc_act.specs.Opening.{IsTold, process_reply, store_reply, turn_reply}
+use Rattle.wc_plan.specs.Plans.{IsReadyAsked}
+use Rattle.wc_plan.specs.Submits.{IsReady, IsWithinLimits}
+use Rattle.wc_act.proofs.Doing.{journal_held, goes_on_journal, some_is}
+
+-- ---- limits
+
+pub greatest_ranges : AreLimits greatest_limits
+greatest_ranges = record { some_nodes = lit≤ tt; few_nodes = lit≤ tt; some_bytes = lit≤ tt; few_bytes = lit≤ tt; later = lit≤ tt; soon = lit≤ tt }
+
+-- ---- the changes of a submission
+
+pub all_shallow : (is : Values) → AllByRecursion IsWithinLimits is → All (λ i. depth i.1 ≤ 32) is
+all_shallow [] h = All-nil (λ i. depth i.1 ≤ 32)
+all_shallow (i ∷ is) h = All-cons (λ j. depth j.1 ≤ 32) i is h.0.1 (all_shallow is h.1)
+
+plain_values : (is : Values) (rest : List Change) → is_plain rest ≡ true → is_plain (map data_change is ++ rest) ≡ true
+plain_values [] rest h = h
+plain_values (i ∷ is) rest h = plain_values is rest h
+
+plain_links : (type : LinkType) (source pid : ℕ) (is : Values) → is_plain (links_from type source pid is) ≡ true
+plain_links type source pid [] = refl
+plain_links type source pid (i ∷ is) = plain_links type (suc source) pid is
+
+submission_plain : (w : World) (library : List Definition) (caching : List (List ℕ)) (name : List ℕ) (inputs : Values) (cs : List Change)
+    → Submits w library caching name inputs cs → is_plain cs ≡ true
+submission_plain w library caching name inputs cs s =
+    ap is_plain s.changes ∙ plain_values inputs _ (plain_links _ _ _ inputs)
+
+keeps_entered : (w : World) (cs : List Change) → IsReached w → IsAccepted w cs → Continues w (applied w cs)
+    → (IsSound w → IsSound (applied w cs)) → Keeps w (applied w cs)
+keeps_entered w cs reached accepted continues sound is_sound =
+    record { sound = sound is_sound; continues = continues; reached = then_changes w cs reached accepted }
+
+-- a submission is an event of the machine
+pub result_leads : {E : Type 0} (w : World) (s : Submission) (result : Result (List Change) E) → IfOk result (Submits w s.library s.caching s.name s.inputs)
+    → IfOk result (Changes w (asked.Submit s))
+result_leads w s (Ok cs) h = submits_by s.library s.caching s.name s.inputs cs h
+result_leads w s (Err e) h = h
+
+pub result_submitted : {E : Type 0} (w : World) (s : Submission) (result : Result (List Change) E) → IsReached w
+    → IfOk result (Submits w s.library s.caching s.name s.inputs) → IfOk result (IsAccepted w)
+    → IfOk result (λ cs. Continues w (applied w cs)) → IfOk result (λ cs. IsSound w → IsSound (applied w cs))
+    → IfOk result (λ cs. HasRoom s.limits.max_nodes (applied w cs)) → IfOk result (λ cs. cs ≢ [] → IsStorable (asked.Submit s) w cs)
+result_submitted w s (Ok cs) reached submits accepted continues sound room =
+    λ some. record {
+      leads = submits_by s.library s.caching s.name s.inputs cs submits;
+      some = some;
+      room = room;
+      accepted = accepted;
+      plain = submission_plain w s.library s.caching s.name s.inputs cs submits;
+      keeps = keeps_entered w cs reached accepted continues sound;
+    }
+result_submitted w s (Err e) reached submits accepted continues sound room = submits
+
+pub made_by : (a : Asked) (w : World) (cs : List Change) → IsStorable a w cs → IsMadeBy a w (applied w cs)
+made_by a w cs s = record { changes = cs; leads = s.leads; some = s.some; accepted = s.accepted; after = refl; nodes = s.room.0 }
+
+-- ---- no changes
+
+submitted_told : (w : World) (s : Submission) (e : TurnError) → IsReady s → RefusesAsked (asked.Submit s) w e → IsTold None e
+submitted_told w s turn_error.NotReady ready refused = refused
+submitted_told w s (turn_error.Full what count limit) ready refused = tt
+submitted_told w s turn_error.UnknownProcess ready refused = absurd refused
+submitted_told w s (turn_error.Ended state) ready refused = absurd refused
+submitted_told w s turn_error.UnknownName ready refused =
+    let both : Some (ready.callable.defined) ≡ None = sym ready.callable.named ∙ refused in absurd (cc)
+submitted_told w s (turn_error.BadInputs port) ready refused =
+    let found : Some refused.0 ≡ Some (ready.callable.defined) = sym refused.1 ∙ ready.callable.named in
+    let same : refused.0 ≡ ready.callable.defined = cc in
+    let both : None ≡ Some port = sym ready.callable.fits ∙ ap (λ (d : Definition). bad_input (head_of d).inputs s.inputs) (sym same) ∙ refused.2 in
+    absurd (cc)
+submitted_told w s turn_error.OutOfMemory ready refused = tt
+
+mark_told : (w : World) (event : Event) (pid : ℕ) (e : TurnError) → RefusesMark w event pid e → IsTold (Some pid) e
+mark_told w event pid turn_error.NotReady refused = refused
+mark_told w event pid (turn_error.Full what count limit) refused = tt
+mark_told w event pid turn_error.UnknownProcess refused = refl
+mark_told w event pid (turn_error.Ended state) refused = refl
+mark_told w event pid turn_error.UnknownName refused = refused
+mark_told w event pid (turn_error.BadInputs port) refused = refused
+mark_told w event pid turn_error.OutOfMemory refused = tt
+
+-- what is ready has no changes only for what may be told, or where memory runs out
+pub is_told : (a : Asked) (w : World) (e : TurnError) → IsReadyAsked a → RefusesAsked a w e → IsTold (process_of a) e
+is_told (asked.Submit s) w e ready refused = submitted_told w s e ready refused
+is_told (asked.Pause pid) w e ready refused = mark_told w (pause pid) pid e refused
+is_told (asked.Play pid) w e ready refused = mark_told w (play pid) pid e refused
+is_told (asked.Kill pid) w e ready refused = mark_told w (kill pid) pid e refused
+
+-- the event is refused for a cause, which is told
+abbrev IsRefusedAs : Asked → World → Reply → Type 0
+IsRefusedAs a w r = (c : Cause) × IsRefusedFor a w c × (r ≡ refuses c)
+
+unknown_told : (a : Asked) (w : World) (r : Reply) → RefusesAsked a w turn_error.UnknownProcess → process_reply (process_of a) cause.UnknownProcess ≡ Some r → IsRefusedAs a w r
+unknown_told (asked.Submit s) w r refused reply = absurd refused
+unknown_told (asked.Pause pid) w r refused reply = (cause.UnknownProcess pid, inl (refused, refl), sym (some_is (refuses (cause.UnknownProcess pid)) r reply))
+unknown_told (asked.Play pid) w r refused reply = (cause.UnknownProcess pid, inl (refused, refl), sym (some_is (refuses (cause.UnknownProcess pid)) r reply))
+unknown_told (asked.Kill pid) w r refused reply = (cause.UnknownProcess pid, inl (refused, refl), sym (some_is (refuses (cause.UnknownProcess pid)) r reply))
+
+ended_told : (a : Asked) (w : World) (s : ProcessState) (r : Reply) → RefusesAsked a w (turn_error.Ended s) → process_reply (process_of a) (λ n. cause.Ended n s) ≡ Some r → IsRefusedAs a w r
+ended_told (asked.Submit x) w s r refused reply = absurd refused
+ended_told (asked.Pause pid) w s r refused reply = (cause.Ended pid s, inr (s, refused, refl), sym (some_is (refuses (cause.Ended pid s)) r reply))
+ended_told (asked.Play pid) w s r refused reply = (cause.Ended pid s, inr (s, refused, refl), sym (some_is (refuses (cause.Ended pid s)) r reply))
+ended_told (asked.Kill pid) w s r refused reply = (cause.Ended pid s, inr (s, refused, refl), sym (some_is (refuses (cause.Ended pid s)) r reply))
+
+pub refusal_alone : (a : Asked) (w : World) (e : TurnError) (r : Reply) → RefusesAsked a w e → turn_reply (process_of a) e ≡ Some r → TellsAlone a w r
+refusal_alone a w turn_error.NotReady r refused reply = absurd (cc)
+refusal_alone a w (turn_error.Full what count limit) r refused reply = inr (inr (what, count, limit, refused, sym (some_is (is_full what count limit) r reply)))
+refusal_alone a w turn_error.UnknownProcess r refused reply = inr (inl (unknown_told a w r refused reply))
+refusal_alone a w (turn_error.Ended state) r refused reply = inr (inl (ended_told a w state r refused reply))
+refusal_alone a w turn_error.UnknownName r refused reply = absurd (cc)
+refusal_alone a w (turn_error.BadInputs port) r refused reply = absurd (cc)
+refusal_alone a w turn_error.OutOfMemory r refused reply = absurd (cc)
+
+-- ---- its line
+
+submission_nodes : (w : World) (s : Submission) (cs : List Change) → Submits w s.library s.caching s.name s.inputs cs → length (applied w cs).nodes ≡ submitted_number w s.inputs
+submission_nodes w s cs p =
+    let new = new_nodes w s.library s.caching s.name s.inputs p.definition in
+    let gives : length (applied w cs).nodes ≡ length (w.nodes ++ new)
+    = ap (λ (c : List Change). length (applied w c).nodes) p.changes ∙ ap (λ (v : World). length v.nodes) (submission_gives w s.library s.caching s.name s.inputs p.definition) in
+    let both : length (w.nodes ++ new) ≡ length w.nodes + length new = length-append w.nodes new in
+    let parts : length new ≡ length (map data_node s.inputs) + 1 = length-append (map data_node s.inputs) (process_node (kind_of_definition p.definition) ∷ []) in
+    let each : length (map data_node s.inputs) ≡ length s.inputs = length-map s.inputs data_node in
+    omega (arith, gives, both, parts, each)
+
+number_fits : (w : World) (s : Submission) (cs : List Change) → IsReady s → Submits w s.library s.caching s.name s.inputs cs
+    → HasRoom s.limits.max_nodes (applied w cs) → 4294967296 ≤ submitted_number w s.inputs → ⊥
+number_fits w s cs ready p room long =
+    let nodes = submission_nodes w s cs p in
+    let few : length (applied w cs).nodes ≤ s.limits.max_nodes = room.0 in
+    let most : s.limits.max_nodes ≤ 8000000 = ready.limits.few_nodes in
+    omega (arith, nodes, few, most, long)
+
+-- where the event may be stored, or has no changes, there is a line
+pub line_there : (a : Asked) (w : World) (cs : List Change) (line : Option (List ℕ)) → IsReadyAsked a → Changes w a cs → (cs ≢ [] → IsStorable a w cs) → IsLine a w line → IsSome line
+line_there a w cs (Some text) ready leads storable is = refl
+line_there (asked.Submit s) w cs None ready leads storable long =
+    let room : HasRoom s.limits.max_nodes (applied w cs) = (storable (submission_some w s cs leads)).room in
+    absurd (number_fits w s cs ready (submits_of w s cs leads) room long)
+line_there (asked.Pause pid) w cs None ready leads storable long = absurd long
+line_there (asked.Play pid) w cs None ready leads storable long = absurd long
+line_there (asked.Kill pid) w cs None ready leads storable long = absurd long
+
+line_written : (a : Asked) (w : World) (line : Option (List ℕ)) (text : List ℕ) → IsLine a w line → line ≡ Some text → text ≡ line_of a w
+line_written a w (Some t) text is same = let it : text ≡ t = cc in it ∙ is
+line_written a w None text is same = absurd (cc)
+
+no_changes : (cs : List Change) → (length cs == 0) ≡ true → cs ≡ []
+no_changes [] h = refl
+no_changes (c ∷ cs) h = let none : suc (length cs) ≡ 0 = eqb-true (suc (length cs)) 0 h in absurd (omega (arith, none))
+
+some_changes : (cs : List Change) → (length cs == 0) ≡ false → cs ≢ []
+some_changes cs h none = let zero : (length cs == 0) ≡ true = eq-eqb (length cs) 0 (ap length none) in cc (h, zero)
+
+-- an event with changes, which may be stored
+pub stored_entry : (a : Asked) (w : World) (cs : List Change) (line : Option (List ℕ)) (text : List ℕ) → (cs ≢ [] → IsStorable a w cs) → (length cs == 0) ≡ false → IsLine a w line
+    → line ≡ Some text → IsStorable a w cs × (text ≡ line_of a w)
+stored_entry a w cs line text storable some is same = (storable (some_changes cs some), line_written a w line text is same)
+
+-- an event with no changes
+pub idle_alone : (a : Asked) (w : World) (cs : List Change) (line : Option (List ℕ)) (text : List ℕ) (r : Reply) → Changes w a cs → (length cs == 0) ≡ true → IsLine a w line
+    → line ≡ Some text → r ≡ prints text → TellsAlone a w r
+idle_alone a w cs line text r leads none is same reply = inl (subst (Changes w a) (no_changes cs none) leads, reply ∙ ap prints (line_written a w line text is same))
+
+-- ---- what was done
+
+module _ {D : Type 0} (g : disk.Ghosts D) where
+  pub has_entered : (a : Asked) (store new : Store) (cs : List Change) (one two one_new two_new : D) (r : Reply) → IsStorable a store.world.world cs
+      → StandsFor g new one_new two_new → new.world.world ≡ applied store.world.world cs
+      → (length (applied store.world.world cs).nodes ≤ (limits_of a).max_nodes) × (committed_bytes store.journal cs ≤ byte_limit store.journal.version (limits_of a).max_bytes)
+      → new.journal.end + 1 ≡ committed_bytes store.journal cs
+      → (new.place ≡ store.place) × (new.journal.generation ≡ store.journal.generation) × (new.journal.version ≡ store.journal.version)
+      → StandsFor g store one two → other store.place one_new two_new ≡ other store.place one two → r ≡ prints (line_of a store.world.world)
+      → Enters a (g.seen one, g.seen two) store.world.world (g.seen one_new, g.seen two_new) r
+  has_entered a store new cs one two one_new two_new r storable stands same fits longer place before untouched reply = inl (record {
+    changes = cs;
+    submits = storable.leads;
+    some = storable.some;
+    held = subst (λ (w : World). Hold (g.seen one_new, g.seen two_new) (a_world w)) same stands.held;
+    fits = record {
+      nodes = fits.0;
+      journal = new.journal;
+      kept = journal_held g new one_new two_new stands;
+      bytes = subst (λ (n : ℕ). new.journal.end + 1 ≤ byte_limit n (limits_of a).max_bytes) (sym place.2)
+          (subst (λ (n : ℕ). n ≤ byte_limit store.journal.version (limits_of a).max_bytes) (sym longer) fits.1);
+    };
+    journal = store.journal;
+    next = new.journal;
+    goes = goes_on_journal g store new one two one_new two_new before stands place untouched;
+    longer = longer;
+    reply = reply;
+  })
+
+  -- nothing is stored
+  pub stays_alone : (a : Asked) (store : Store) (one two : D) (r : Reply) → StandsFor g store one two → TellsAlone a store.world.world r
+      → Enters a (g.seen one, g.seen two) store.world.world (g.seen one, g.seen two) r
+  stays_alone a store one two r stands tells = inr (record { tells = inl tells; held = stands.held; still = refl })
+
+  overlong : (a : Asked) (store : Store) (cs : List Change) (what : What) (count limit : ℕ) (one two one_new two_new : D) (r : Reply) → StandsFor g store one two
+      → IsStorable a store.world.world cs
+      → RefusesCommit store.journal (limits_of a) store.world.world cs (error.Full what count limit) → one_new ≡ one → two_new ≡ two → is_full what count limit ≡ r → Enters a (g.seen one, g.seen two) store.world.world (g.seen one_new, g.seen two_new) r
+  overlong a store cs what count limit one two one_new two_new r stands storable refused same same_too reply = inr (record {
+    tells = inr (
+      what,
+      count,
+      limit,
+      (store.journal, journal_held g store one two stands, record { changes = cs; submits = storable.leads; some = storable.some; room = storable.room; refused = refused }),
+      sym reply,
+    );
+    held = subst (λ (x : D). IsHeld (g.seen one_new) (g.seen x) (a_world store.world.world)) (sym same_too)
+        (subst (λ (x : D). IsHeld (g.seen x) (g.seen two) (a_world store.world.world)) (sym same) stands.held);
+    still = λ i. (g.seen (same i), g.seen (same_too i));
+  })
+
+  pub refused_entry : {E : Type 0} (a : Asked) (store : Store) (cs : List Change) (e : StoreError) (one two one_new two_new : D) (result : Result Reply E)
+      → (IsTrue (g.tells one) → IsTrue (g.tells two) → StandsFor g store one two) → IsStorable a store.world.world cs
+      → RefusesCommit store.journal (limits_of a) store.world.world cs e → IsUnchanged {T = Unit {0}} (Err e) one one_new → IsUnchanged {T = Unit {0}} (Err e) two two_new
+      → IfOk result (λ r. store_reply e ≡ Some r)
+      → IfOk result (λ r. IsTrue (g.tells one) → IsTrue (g.tells two) → Enters a (g.seen one, g.seen two) store.world.world (g.seen one_new, g.seen two_new) r)
+  refused_entry a store cs e one two one_new two_new (Err x) stands storable refused same same_too reply = reply
+  refused_entry a store cs error.DiskFault one two one_new two_new (Ok r) stands storable refused same same_too reply = absurd (cc)
+  refused_entry a store cs (error.Damaged disk at found) one two one_new two_new (Ok r) stands storable refused same same_too reply = absurd refused
+  refused_entry a store cs (error.Full what count limit) one two one_new two_new (Ok r) stands storable refused same same_too reply =
+      λ told told_too. overlong a store cs what count limit one two one_new two_new r (stands told told_too) storable refused same same_too (some_is (is_full what count limit) r reply)
+  refused_entry a store cs error.AlreadyThere one two one_new two_new (Ok r) stands storable refused same same_too reply = absurd refused
+  refused_entry a store cs error.OutOfMemory one two one_new two_new (Ok r) stands storable refused same same_too reply = absurd (cc)
+
+  -- a store that isn't as a disk failed stands for its disks
+  pub refused_durable : {E : Type 0} (T : Type 0) (e : StoreError) (new : Store) (A B : Type 0) (one_new two_new : D) (result : Result Reply E) → IfOk result (λ r. store_reply e ≡ Some r)
+      → new.live ≡ is_live_after {T = T} (Err e) true → (new.live ≡ true → A → B → StandsFor g new one_new two_new)
+      → IfOk result (λ r. A → B → AreDurable g one_new two_new)
+  refused_durable T e new A B one_new two_new (Err x) reply live stands = reply
+  refused_durable T error.DiskFault new A B one_new two_new (Ok r) reply live stands = absurd (cc)
+  refused_durable T (error.Damaged disk at found) new A B one_new two_new (Ok r) reply live stands =
+      λ told told_too. let s = stands live told told_too in record { durable_one = s.durable_one; durable_two = s.durable_two }
+  refused_durable T (error.Full what count limit) new A B one_new two_new (Ok r) reply live stands =
+      λ told told_too. let s = stands live told told_too in record { durable_one = s.durable_one; durable_two = s.durable_two }
+  refused_durable T error.AlreadyThere new A B one_new two_new (Ok r) reply live stands =
+      λ told told_too. let s = stands live told told_too in record { durable_one = s.durable_one; durable_two = s.durable_two }
+  refused_durable T error.OutOfMemory new A B one_new two_new (Ok r) reply live stands = absurd (cc)

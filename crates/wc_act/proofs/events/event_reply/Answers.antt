@@ -1,0 +1,125 @@
+use Rattle.std.proofs.Common.{◌≡◌, ◌≤◌, inl, inr, length, IsTrue, refl, ap, subst, ◌∙◌}
+use Rattle.wc_state.specs.declared.record.Limits.{Limits}
+use Rattle.wc_world.specs.World.{World}
+use Rattle.wc_world.specs.Applied.{applied}
+use Rattle.wc_store.specs.Refusals.{byte_limit, committed_bytes, RefusesCommit}
+use Rattle.wc_act.specs.declared.events.Entry.TheVariants as entry
+use Rattle.wc_plan.specs.declared.reply.Reply.{Reply}
+use Rattle.wc_act.specs.Entries.{IsEntryOf}
+use Rattle.wc_act.specs.Events.{MayHappen, TellsAlone}
+use Rattle.wc_plan.specs.Replies.{prints}
+use Rattle.wc_act.specs.Undone.{IsBeforeStoring}
+use Rattle.wc_act.proofs.Entries.{has_entered, made_by, refused_durable, refused_entry, stays_alone}
+use Rattle.wc_act.proofs.Leaving.{standing, committed}
+use Rattle.wc_act.proofs.Shaping.{refused_commit}
+use Rattle.wc_act.proofs.Unwriting.{refused_untouched}
+use Rattle.wc_act.proofs.events.event_reply.Goals as goal
+
+-- ---- memory ran out
+
+pub returns-in_err-reply-clause-kept : goal.returns-in_err-reply-clause-kept
+returns-in_err-reply-clause-kept g c =
+    λ told told_too.
+    standing g.D.Disk g.met.D.Disk.only_now c.worlds_are_kept.ensures.reached c.worlds_are_kept.ensures.same c.args.store.now c.args.one.now c.args.two.now (c.requires.stands told told_too)
+    (MayHappen c.args.asked) (λ images. inl refl)
+
+-- ---- nothing is stored
+
+pub returns-in-Told-clause-does : goal.returns-in-Told-clause-does
+returns-in-Told-clause-does g c =
+    λ told told_too.
+    let w : c.world.result.now.world ≡ c.args.store.now.world.world = λ i. (c.world.ensures i).world in
+    stays_alone g.D.Disk c.args.asked c.args.store.now c.args.one.now c.args.two.now c.in-Told.reply (c.requires.stands told told_too)
+    (subst (λ (v : World). TellsAlone c.args.asked v c.in-Told.reply) w (subst (IsEntryOf c.args.asked c.world.result.now.world) c.in-Told.is c.in_ok-reply.ensures))
+
+pub returns-in-Told-clause-may : goal.returns-in-Told-clause-may
+returns-in-Told-clause-may g c =
+    (c.world.result.now.world, inr (inl (subst (IsEntryOf c.args.asked c.world.result.now.world) c.in-Told.is c.in_ok-reply.ensures)))
+
+pub returns-in-Told-clause-kept : goal.returns-in-Told-clause-kept
+returns-in-Told-clause-kept g c =
+    λ told told_too.
+    standing g.D.Disk g.met.D.Disk.only_now c.worlds_are_kept.ensures.reached c.worlds_are_kept.ensures.same c.args.store.now c.args.one.now c.args.two.now (c.requires.stands told told_too)
+    (MayHappen c.args.asked) (λ images. inl refl)
+
+pub returns-in-Told-clause-durable : goal.returns-in-Told-clause-durable
+returns-in-Told-clause-durable g c = λ told told_too. let s = c.requires.stands told told_too in record { durable_one = s.durable_one; durable_two = s.durable_two }
+
+-- ---- changes are stored
+
+pub returns-in-Ok-clause-does : goal.returns-in-Ok-clause-does
+returns-in-Ok-clause-does g c =
+    λ told told_too.
+    let s = c.args.store.now in
+    let a = c.args.asked in
+    let cs = c.in-Stored.changes in
+    let w : c.world.result.now.world ≡ s.world.world = λ i. (c.world.ensures i).world in
+    let e = subst (λ (v : World). IsEntryOf a v (entry.Stored cs c.in-Stored.line)) w (subst (IsEntryOf a c.world.result.now.world) c.in-Stored.is c.in_ok-reply.ensures) in
+    has_entered g.D.Disk a s c.commit.new.self cs c.args.one.now c.args.two.now c.commit.new.one c.commit.new.two c.print.result e.0 (c.commit.ensures.still c.in-Ok.ensures.live told told_too)
+    c.in-Ok.ensures.world
+    (subst (λ (l : Limits). (length (applied s.world.world cs).nodes ≤ l.max_nodes) × (committed_bytes s.journal cs ≤ byte_limit s.journal.version l.max_bytes)) c.limits_of-limits.ensures.value
+    c.in-Ok.ensures.fits) c.in-Ok.ensures.longer c.commit.ensures.place (c.requires.stands told told_too) (c.commit.ensures.any_moment told told_too).untouched
+    (c.print.ensures ∙ ap prints e.1)
+
+pub returns-in-Ok-clause-may : goal.returns-in-Ok-clause-may
+returns-in-Ok-clause-may g c =
+    let e = subst (IsEntryOf c.args.asked c.world.result.now.world) c.in-Stored.is c.in_ok-reply.ensures in
+    (c.world.result.now.world, inl (c.in-Stored.changes, e.0.leads, c.print.ensures ∙ ap prints e.1))
+
+pub returns-in-Ok-clause-kept : goal.returns-in-Ok-clause-kept
+returns-in-Ok-clause-kept g c =
+    λ told told_too.
+    let s = c.args.store.now in
+    let a = c.args.asked in
+    let cs = c.in-Stored.changes in
+    let w : c.world.result.now.world ≡ s.world.world = λ i. (c.world.ensures i).world in
+    let e = subst (λ (v : World). IsEntryOf a v (entry.Stored cs c.in-Stored.line)) w (subst (IsEntryOf a c.world.result.now.world) c.in-Stored.is c.in_ok-reply.ensures) in
+    committed g.D.Disk g.met.D.Disk.only_now c.worlds_are_kept.ensures.reached c.worlds_are_kept.ensures.same s c.args.one.now c.args.two.now (c.requires.stands told told_too)
+    (MayHappen a) c.limits_of-limits.result cs c.commit.new.one c.commit.new.two (λ images. inl refl) (λ images. inr (made_by a s.world.world cs e.0)) e.0.keeps (c.commit.ensures.any_moment told told_too)
+
+pub returns-in-Ok-clause-untouched : goal.returns-in-Ok-clause-untouched
+returns-in-Ok-clause-untouched g c = λ ends. absurd (subst (λ (r : Reply). IsBeforeStoring r.status) c.print.ensures ends)
+
+-- ---- the commit is refused
+
+pub returns-in-Err-clause-does : goal.returns-in-Err-clause-does
+returns-in-Err-clause-does g c =
+    let s = c.args.store.now in
+    let a = c.args.asked in
+    let cs = c.in-Stored.changes in
+    let w : c.world.result.now.world ≡ s.world.world = λ i. (c.world.ensures i).world in
+    let e = subst (λ (v : World). IsEntryOf a v (entry.Stored cs c.in-Stored.line)) w (subst (IsEntryOf a c.world.result.now.world) c.in-Stored.is c.in_ok-reply.ensures) in
+    refused_entry g.D.Disk a s cs c.in-Err.error c.args.one.now c.args.two.now c.commit.new.one c.commit.new.two c.refused.result c.requires.stands e.0
+    (subst (λ (l : Limits). RefusesCommit s.journal l s.world.world cs c.in-Err.error) c.limits_of-limits.ensures.value c.in-Err.ensures.refused)
+    c.in-Err.ensures.untouched_one c.in-Err.ensures.untouched_two c.refused.ensures.reply
+
+pub returns-in-Err-clause-may : goal.returns-in-Err-clause-may
+returns-in-Err-clause-may g c =
+    let s = c.args.store.now in
+    let a = c.args.asked in
+    let cs = c.in-Stored.changes in
+    let w : c.world.result.now.world ≡ s.world.world = λ i. (c.world.ensures i).world in
+    let e = subst (λ (v : World). IsEntryOf a v (entry.Stored cs c.in-Stored.line)) w (subst (IsEntryOf a c.world.result.now.world) c.in-Stored.is c.in_ok-reply.ensures) in
+    refused_commit a s.journal s.world.world cs c.in-Err.error c.refused.result e.0
+    (subst (λ (l : Limits). RefusesCommit s.journal l s.world.world cs c.in-Err.error) c.limits_of-limits.ensures.value c.in-Err.ensures.refused) c.refused.ensures.reply
+
+pub returns-in-Err-clause-kept : goal.returns-in-Err-clause-kept
+returns-in-Err-clause-kept g c =
+    λ told told_too.
+    let s = c.args.store.now in
+    let a = c.args.asked in
+    let cs = c.in-Stored.changes in
+    let w : c.world.result.now.world ≡ s.world.world = λ i. (c.world.ensures i).world in
+    let e = subst (λ (v : World). IsEntryOf a v (entry.Stored cs c.in-Stored.line)) w (subst (IsEntryOf a c.world.result.now.world) c.in-Stored.is c.in_ok-reply.ensures) in
+    committed g.D.Disk g.met.D.Disk.only_now c.worlds_are_kept.ensures.reached c.worlds_are_kept.ensures.same s c.args.one.now c.args.two.now (c.requires.stands told told_too)
+    (MayHappen a) c.limits_of-limits.result cs c.commit.new.one c.commit.new.two (λ images. inl refl) (λ images. inr (made_by a s.world.world cs e.0)) e.0.keeps (c.commit.ensures.any_moment told told_too)
+
+pub returns-in-Err-clause-durable : goal.returns-in-Err-clause-durable
+returns-in-Err-clause-durable g c =
+    refused_durable g.D.Disk (Unit {0}) c.in-Err.error c.commit.new.self (IsTrue (g.D.Disk.tells c.args.one.now)) (IsTrue (g.D.Disk.tells c.args.two.now)) c.commit.new.one c.commit.new.two
+    c.refused.result c.refused.ensures.reply c.in-Err.ensures.live c.commit.ensures.still
+
+pub returns-in-Err-clause-untouched : goal.returns-in-Err-clause-untouched
+returns-in-Err-clause-untouched g c =
+    refused_untouched g.D.Disk (Unit {0}) IsBeforeStoring (λ never. never) c.in-Err.error c.args.one.now c.args.two.now c.commit.new.one c.commit.new.two c.in-Err.ensures.untouched_one
+    c.in-Err.ensures.untouched_two c.refused.result c.refused.ensures.fault

@@ -1,0 +1,176 @@
+-- What each deed promises: one row each.
+use Rattle.std.specs.Prelude.{◌≡◌, ◌⊎◌, ◌+◌, ℕ, false, true, List}
+use Rattle.wc_state.specs.declared.record.What.{What}
+use Rattle.wc_world.specs.World.{World, empty}
+use Rattle.wc_runner.specs.Running.{TakesTurns}
+use Rattle.wc_store.specs.Held.{Standing}
+use Rattle.wc_store.specs.Preparing.{HasGeneration}
+use Rattle.wc_store.specs.Refusals.{RefusesPack}
+use Rattle.wc_store.specs.declared.error.StoreError.TheVariants.{Full}
+use Rattle.wc_report.specs.Lines.{initialised_text, submitted_text, paused_text, playing_text, killed_text, packed_text}
+use Rattle.wc_plan.specs.declared.deed.Asked.{Asked}
+use Rattle.wc_plan.specs.declared.deed.Asked.TheVariants as asked
+use Rattle.wc_plan.specs.declared.deed.Begin.{Begin}
+use Rattle.wc_plan.specs.declared.deed.Begin.TheVariants as begin
+use Rattle.wc_plan.specs.declared.deed.Deed.{Deed}
+use Rattle.wc_plan.specs.declared.deed.Deed.TheVariants as deed
+use Rattle.wc_cli.specs.declared.command.View.{View}
+use Rattle.wc_plan.specs.declared.deed.RunOptions.{RunOptions}
+use Rattle.wc_plan.specs.declared.deed.Work.{Work}
+use Rattle.wc_plan.specs.declared.deed.Work.TheVariants as work
+use Rattle.wc_plan.specs.declared.reply.Reply.{Reply}
+use Rattle.wc_plan.specs.declared.status.Cause.TheVariants as cause
+use Rattle.wc_plan.specs.declared.status.Status.{Status}
+use Rattle.wc_drill.specs.Drilled.{Drills}
+use Rattle.wc_act.specs.Acknowledged.{HasProcess, HasMark, IsKilled}
+use Rattle.wc_act.specs.Drilling.{DrillAt, IsToldDrilled, MayDrill}
+use Rattle.wc_act.specs.Events.{MayHappen, MayEnter, Enters}
+use Rattle.wc_act.specs.Opening.{NoWorld, TellsDamage}
+use Rattle.wc_plan.specs.Replies.{refuses, prints}
+use Rattle.wc_act.specs.Running.{widest, MayRun, Runs}
+use Rattle.wc_act.specs.Stored.{Fits, Images, is_full, InitAt, AtStore, Packs}
+use Rattle.wc_act.specs.Undone.{IsBeforeStoring, IsBeforeTurns, IsBeforePacking}
+use Rattle.wc_act.specs.Views.{Shows, ShowsStill}
+
+-- ---- what is done on a store that is there
+
+pub record WorkRow : Type 1 where
+  -- what it may make of the world, in which images, at any moment
+  pub makes : World → World → Images → Type 0
+  -- what it has done, from what the disks read as at entry to what they read as at exit, and its reply
+  pub does : Images → World → Images → Reply → Type 0
+  -- its reply, where a disk doesn't tell its bytes
+  pub may : Reply → Type 0
+  -- one reply at most is owed for what the disks read as at entry and at exit
+  pub certain : Type 0
+  -- the statuses with which nothing was written
+  pub undone : Status → Type 0
+  -- what the world has that is held at exit, once this text is written with status Ok
+  pub acknowledges : List ℕ → World → Type 0
+
+-- the world is the same, in any images
+abbrev pub Stays : World → World → Images → Type 0
+Stays w v images = v ≡ w
+
+abbrev pub view_row : View → WorkRow
+view_row v = record {
+  makes = Stays;
+  does = ShowsStill v;
+  may = λ r. (w : World) × Shows v w r;
+  certain = Unit {0};
+  undone = λ s. Unit {0};
+  acknowledges = λ text w. Unit {0};
+}
+
+-- the process that is submitted is there, with the number that was written; or the process of the number that was written is paused, plays,
+-- or is killed
+abbrev pub HasHappened : Asked → List ℕ → World → Type 0
+HasHappened (asked.Submit s) text w = (pid : ℕ) × (text ≡ submitted_text pid) × HasProcess w pid s
+HasHappened (asked.Pause pid) text w = (text ≡ paused_text pid) × HasMark w pid true
+HasHappened (asked.Play pid) text w = (text ≡ playing_text pid) × HasMark w pid false
+HasHappened (asked.Kill pid) text w = (text ≡ killed_text pid) × IsKilled w pid
+
+abbrev pub event_row : Asked → WorkRow
+event_row a = record {
+  makes = MayHappen a;
+  does = Enters a;
+  may = MayEnter a;
+  certain = Unit {0};
+  undone = IsBeforeStoring;
+  acknowledges = HasHappened a;
+}
+
+-- the same world, or what at most as many turns and rests as are given make of it, where it and its journal in the images are within the run's
+-- limits
+abbrev pub TakesSome : RunOptions → World → World → Images → Type 0
+TakesSome o w v images = (v ≡ w) ⊎ (TakesTurns (widest o.limits) o.turns w v × Fits o.limits images v)
+
+-- any ready process may be the one for which the store is too full, so that its reply isn't certain
+abbrev pub run_row : RunOptions → WorkRow
+run_row o = record {
+  makes = TakesSome o;
+  does = Runs o;
+  may = MayRun o;
+  certain = ⊥;
+  undone = IsBeforeTurns;
+  acknowledges = λ text w. Unit {0};
+}
+
+-- the next generation of a world's journal, or it would be too great, or else the snapshot too long
+abbrev pub MayPack : Reply → Type 0
+MayPack r = (generation : ℕ) × (w : World) × (
+    (HasGeneration generation w × (r ≡ prints (packed_text (generation + 1))))
+    ⊎ ((what : What) × (count : ℕ) × (limit : ℕ) × RefusesPack generation w (Full what count limit) × (r ≡ is_full what count limit)))
+
+abbrev pub pack_row : WorkRow
+pack_row = record {
+  makes = Stays;
+  does = Packs;
+  may = MayPack;
+  certain = Unit {0};
+  undone = IsBeforePacking;
+  acknowledges = λ text w. Unit {0};
+}
+
+abbrev pub work_row : Work → WorkRow
+work_row (work.View v) = view_row v
+work_row (work.Event a) = event_row a
+work_row (work.Run o) = run_row o
+work_row work.Pack = pack_row
+
+-- ---- deeds
+
+pub record Row : Type 1 where
+  -- with which worlds it may begin a store, at any moment, where there is none
+  pub begins : World → Type 0
+  pub makes : World → World → Images → Type 0
+  -- what it has done, by what the disks hold at entry
+  pub does : Images → Standing → Images → Reply → Type 0
+  pub may : Reply → Type 0
+  pub certain : Type 0
+  pub undone : Status → Type 0
+  pub acknowledges : List ℕ → World → Type 0
+
+-- the world is the empty one
+abbrev pub IsEmpty : World → Type 0
+IsEmpty v = v ≡ empty
+
+-- any ready process may be the one for which the store is too full, so that its reply isn't certain
+abbrev pub drill_row : (seed count : ℕ) → Row
+drill_row seed count = record {
+  begins = Drills seed count;
+  makes = Stays;
+  does = DrillAt seed count;
+  may = λ r. MayDrill seed count r ⊎ ((r ≡ refuses cause.StoreExists) ⊎ TellsDamage r);
+  certain = ⊥;
+  undone = IsBeforeTurns;
+  acknowledges = IsToldDrilled seed count;
+}
+
+abbrev pub begin_row : Begin → Row
+begin_row begin.Init = record {
+  begins = IsEmpty;
+  makes = Stays;
+  does = InitAt;
+  may = λ r. (r ≡ prints initialised_text) ⊎ ((r ≡ refuses cause.StoreExists) ⊎ TellsDamage r);
+  certain = Unit {0};
+  undone = IsBeforeStoring;
+  acknowledges = λ text w. Unit {0};
+}
+begin_row (begin.Drill seed count) = drill_row seed count
+
+-- where there is no store, or a disk is damaged, this is told and nothing is done
+abbrev pub on_store : WorkRow → Row
+on_store k = record {
+  begins = λ v. ⊥;
+  makes = k.makes;
+  does = λ before. AtStore before (k.does before);
+  may = λ r. NoWorld r ⊎ k.may r;
+  certain = k.certain;
+  undone = k.undone;
+  acknowledges = k.acknowledges;
+}
+
+abbrev pub row : Deed → Row
+row (deed.Begin b) = begin_row b
+row (deed.Work w) = on_store (work_row w)

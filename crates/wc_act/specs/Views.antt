@@ -1,0 +1,64 @@
+-- What a view of a world replies.
+use Rattle.std.specs.Prelude.{◌≡◌, ◌⊎◌, ℕ, List, length, Option, Some, None}
+use Rattle.wc_value.specs.declared.process.Tree.{Tree}
+use Rattle.wc_world.specs.World.{World}
+use Rattle.wc_world.specs.Records.{find_record}
+use Rattle.wc_world.specs.Trees.{recorded_tree}
+use Rattle.wc_graph.specs.Walks.{IsAcyclic}
+use Rattle.wc_machine.specs.Created.{IsCreatedByInputs}
+use Rattle.wc_verify.specs.Faults.{IsLeastDisagreement, IsLeastOnCycle, IsLowestWrong}
+use Rattle.wc_report.specs.Lines.{cycle_text, wrong_value_text, verified_text}
+use Rattle.wc_report.specs.Lists.{list_text}
+use Rattle.wc_report.specs.Trees.{tree_text}
+use Rattle.wc_show.specs.Shows.{show_text, graph_text}
+use Rattle.wc_cli.specs.declared.command.View.{View}
+use Rattle.wc_cli.specs.declared.command.View.TheVariants as view
+use Rattle.wc_plan.specs.declared.reply.Reply.{Reply}
+use Rattle.wc_plan.specs.declared.status.Cause.TheVariants as cause
+use Rattle.wc_plan.specs.declared.status.Fault.{Fault}
+use Rattle.wc_plan.specs.declared.status.Fault.TheVariants as fault
+use Rattle.wc_plan.specs.declared.status.Status.TheVariants as status
+use Rattle.wc_plan.specs.Replies.{refuses, prints}
+use Rattle.wc_act.specs.Stored.{Images}
+
+-- a process is shown by its recorded tree, if there is such a process
+abbrev pub ShowsTree : ℕ → World → Reply → Type 0
+ShowsTree pid w r =
+    ((find_record pid w.records ≡ None) × (r ≡ refuses (cause.UnknownProcess pid)))
+    ⊎ ((t : Tree) × (recorded_tree w pid ≡ Some t) × (r ≡ prints (tree_text t)))
+
+-- a node is shown, if there is such a node
+abbrev pub node_reply : ℕ → Option (List ℕ) → Reply
+node_reply node None = refuses (cause.UnknownNode node)
+node_reply node (Some text) = prints text
+
+-- ---- what is checked
+
+abbrev pub fault_text : Fault → List ℕ
+fault_text (fault.Cycle node) = cycle_text node
+fault_text (fault.Value pid) = wrong_value_text pid
+
+-- the world isn't sound
+abbrev pub finds : Fault → Reply
+finds f = record { status = status.Unsound f; text = fault_text f }
+
+-- A cycle of data provenance is found before a calculation that isn't as its inputs give it. Where there is neither, the nodes and the links
+-- are counted, and equal requests have equal results or the least two that disagree are told.
+pub data Verifies (w : World) : Reply → Type 0 where
+  cycle : (node : ℕ) → IsLeastOnCycle w.links (Some node) → Verifies w (finds (fault.Cycle node))
+  value : (pid : ℕ) → IsAcyclic w.links → IsLowestWrong w (Some pid) → Verifies w (finds (fault.Value pid))
+  verified : (disagreement : Option (ℕ × ℕ)) → IsAcyclic w.links → IsCreatedByInputs w → IsLeastDisagreement w disagreement
+      → Verifies w (prints (verified_text (length w.nodes) (length w.links) disagreement))
+
+-- each process has its line; a process has its tree; a node has its lines; each node and each link has its line; the world is
+-- checked
+abbrev pub Shows : View → World → Reply → Type 0
+Shows view.List w r = r ≡ prints (list_text w.records)
+Shows (view.Tree pid) w r = ShowsTree pid w r
+Shows (view.Show node) w r = r ≡ node_reply node (show_text w node)
+Shows view.Graph w r = r ≡ prints (graph_text w)
+Shows view.Verify w r = Verifies w r
+
+-- the disks read as before
+abbrev pub ShowsStill : View → Images → World → Images → Reply → Type 0
+ShowsStill v before w after r = (after ≡ before) × Shows v w r

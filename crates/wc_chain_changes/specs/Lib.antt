@@ -1,0 +1,3 @@
+pub mod Known
+pub mod Called
+pub mod Coming

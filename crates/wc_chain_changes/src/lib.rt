@@ -1,0 +1,16 @@
+//! What a work chain comes to, as changes of a world: it goes on, submits calls and waits for them, or ends.
+#![tactic(auto)]
+
+mod arguments;
+mod calls;
+mod children;
+mod coming;
+mod counting;
+mod ending;
+mod known;
+mod room;
+mod setting;
+
+pub use children::caller_of;
+pub use coming::{come_to, going};
+pub use known::known_at;

@@ -1,3 +1,0 @@
-pub mod Instead
-pub mod Touching
-pub mod Laws

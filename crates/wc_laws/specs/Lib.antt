@@ -1,0 +1,12 @@
+pub mod TurnLaws
+pub mod Instead
+pub mod Touching
+pub mod FramingLaws
+pub mod View
+pub mod Nodes
+pub mod OutlineLaws
+pub mod Results
+pub mod ResultLaws
+pub mod Starting
+pub mod Coming
+pub mod CachingLaws

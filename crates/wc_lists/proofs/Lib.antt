@@ -1,6 +1,0 @@
-pub mod Sources
-pub mod Turns
-pub mod KilledOnce
-pub mod NoChanges
-pub mod Happening
-pub mod KilledFuel

@@ -1,3 +1,0 @@
-pub mod Killed
-pub mod Happening
-pub mod Laws

@@ -1,6 +1,0 @@
-mod Held
-mod Free
-mod Ready
-mod Due
-mod Chosen
-mod Going

@@ -8,7 +8,7 @@ use wc_io::{
     write_all,
 };
 use wc_questions::{filled, first_word};
-use wc_value::{Files, Keyed, List, Text};
+use wc_value::{Files, Keyed, Text};
 
 /// The file `a` with the content `12`.
 fn one_file(alloc: Global) -> Result<Files, AllocError> {

@@ -248,7 +248,7 @@ impl Outside {
         filled(outside, put)
     }
 
-    /// What another transport was told, and the calls that were made of it, take the place of those here.
+    /// What another transport was told, and the calls that were made of it, come here, where no call was made yet.
     fn put_rest(&mut self, other: &Outside) -> Result<(), AllocError>
         ensures { self.new.faults ≡ self.old.faults }
     {

@@ -9,7 +9,7 @@ use crate::player::Player;
 use crate::program::Program;
 use std::alloc::AllocError;
 use std::mem;
-use wc_transcript::{Answer, Call, Deed, Device, Event, Left, Side, Stage, Step};
+use wc_transcript::{Answer, Call, Deed, Device, Event, Left, Stage, Step};
 use wc_value::List;
 
 /// What a crash leaves of disk one and of disk two.

@@ -66,7 +66,7 @@ fn result(alloc: Global) -> Result<JobResult, AllocError> {
     })
 }
 
-/// Puts the state of a calculation that has ended.
+/// Puts the state of a calculation.
 fn put_state(shown: &mut Shown, state: &ProcessState) {
     match state {
         ProcessState::Finished(status) => shown.put_item(status),

@@ -79,8 +79,8 @@ impl Draft {
         }
     }
 
-    /// No block is open.
-    fn close(&self) -> Result<(), Mistake> {
+    /// A block that is open is a mistake.
+    fn check_closed(&self) -> Result<(), Mistake> {
         match self.block {
             Block::None => Ok(()),
             _ => Err(Mistake::Block),
@@ -89,7 +89,7 @@ impl Draft {
 
     /// The transcript before is whole, and one of this name begins.
     pub fn begin(&mut self, alloc: Global, name: &str) -> Result<(), Mistake> {
-        self.close()?;
+        self.check_closed()?;
         Ok(self.transcripts.begin(begun(alloc, name)?)?)
     }
 
@@ -131,7 +131,7 @@ impl Draft {
 
     /// The transcripts.
     pub fn finish(&mut self, alloc: Global) -> Result<List<Transcript>, Mistake> {
-        self.close()?;
+        self.check_closed()?;
         let transcripts = mem::replace(&mut self.transcripts, Growing::new(alloc));
         Ok(transcripts.finish()?)
     }

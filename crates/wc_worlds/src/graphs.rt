@@ -4,7 +4,7 @@ use crate::changes::changes_of;
 use crate::letting::let_go;
 use crate::stop::Stop;
 use crate::telling::{put_done, put_error};
-use std::alloc::{AllocError, Global};
+use std::alloc::Global;
 use wc_graph::{Graph, GraphError, Link, LinkType, NodeKind};
 use wc_value::{Duplicate, Text, Value};
 use wc_world::Change;

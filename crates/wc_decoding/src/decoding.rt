@@ -1,3 +1,5 @@
+//! Reading from canonical bytes, from left to right: the first place that can't be read is refused.
+
 ghost use Rattle.std.specs.Prelude.{◌≡◌, ◌+◌, ◌≤◌, ◌<◌, length, true, IfOk};
 ghost use Rattle.wc_value.specs.Ascending.{goes_last};
 ghost use Rattle.wc_value.specs.Spelling.{depth};

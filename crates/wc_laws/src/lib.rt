@@ -1,6 +1,6 @@
-//! Laws of single turns, whatever the world: that a turn comes to one list of changes, what a run sees of what was before it, what one advance
-//! of an outline does beside the run of the whole, what recorded results and agreeing tables say, and what it means to take another
-//! calculation's outcome.
+//! Laws of single events and of what a world records: that a turn of a consistent world comes to one list of changes, what a run sees of what
+//! was before it, what one advance of an outline does beside the run of the whole, what recorded results and agreeing tables say of a sound
+//! world, and what it means there to take another calculation's outcome.
 #![tactic(auto)]
 
 mod caching;

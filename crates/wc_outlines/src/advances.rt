@@ -5,10 +5,10 @@ use crate::libraries::library;
 use crate::shown::put_answer;
 use std::alloc::{AllocError, Global};
 use wc_outline::{Advanced, advance, is_chain};
-use wc_questions::{both, first_word, let_go};
+use wc_questions::first_word;
 use wc_state::{Awaits, Checkpoint, Env};
 use wc_syntax::Checked;
-use wc_value::Text;
+use wc_value::{Text, both, let_go};
 
 /// Where an advance begins: the frames, how many calls were made, and the depth of the chain.
 #[derive(Clone, Copy)]

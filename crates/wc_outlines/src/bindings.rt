@@ -4,9 +4,8 @@ use crate::given::checkpoint;
 use crate::shown::put_checkpoint;
 use std::alloc::{AllocError, Global};
 use wc_outline::bind;
-use wc_questions::let_go;
 use wc_state::{Await, Awaits, Checkpoint};
-use wc_value::Text;
+use wc_value::{Text, let_go};
 
 /// A child that is awaited: its key, whether it is appended, and its number. A plus stands before the number where it is, and
 /// a colon where it isn't.

@@ -1,12 +1,11 @@
 //! A work chain in the midst of its outline: its environment and its checkpoint.
 
 use std::alloc::{AllocError, Global};
-use wc_questions::{both, done, filled};
 use wc_state::{
     Awaits, Checkpoint, Child, Children, Context, CtxRef, Env, Frame, Frames, Ids, Item, Items,
     Named, NodeValue, Outs,
 };
-use wc_value::{ProcessState, Text, Value};
+use wc_value::{ProcessState, Text, Value, both, done, filled};
 
 /// Puts a number with its node under a label.
 fn put_number(

@@ -7,8 +7,8 @@ use wc_io::{
     ClockPacer, FileShelf, MemoryPacer, MemoryShelf, MemorySink, Pacer, Shelf, StdoutSink,
     write_all,
 };
-use wc_questions::{filled, first_word};
-use wc_value::{Files, Keyed, Text};
+use wc_questions::first_word;
+use wc_value::{Files, Keyed, Text, filled};
 
 /// The file `a` with the content `12`.
 fn one_file(alloc: Global) -> Result<Files, AllocError> {

@@ -4,9 +4,8 @@ use crate::shown::shown;
 use crate::values::folder;
 use crate::words::word;
 use std::alloc::{AllocError, Global};
-use wc_questions::filled;
 use wc_report::tree_lines;
-use wc_value::{Branches, Fields, ProcessState, Reason, Text, Tree, Value};
+use wc_value::{Branches, Fields, ProcessState, Reason, Text, Tree, Value, filled};
 
 /// A process that left and called nothing.
 fn ended(alloc: Global, definition: &str, state: ProcessState) -> Result<Tree, AllocError> {

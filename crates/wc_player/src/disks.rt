@@ -1,10 +1,9 @@
 //! The two disks, in memory.
 
-use crate::letting::{both, put};
 use std::alloc::{AllocError, Global};
 use wc_disk::{MemoryDisk, Pick};
 use wc_transcript::{Left, Side};
-use wc_value::{Bytes, List};
+use wc_value::{Bytes, List, both, put};
 
 /// The two disks.
 #[derive(Drop)]

@@ -3,10 +3,9 @@
 ghost use Rattle.std.specs.Prelude.{◌≡◌, ◌+◌, ◌==◌, [], length, if◌then◌else◌, IfOk, OnOk};
 
 use crate::called::Called;
-use crate::letting::filled;
 use std::alloc::{AllocError, Global};
 use wc_transcript::Answer;
-use wc_value::List;
+use wc_value::{List, filled};
 
 /// The line of a step, and the number of the repetition.
 #[derive(Clone, Copy)]

@@ -2,13 +2,14 @@
 
 use crate::error::PlayError;
 use crate::findings::Place;
-use crate::letting::{both, filled, put_given};
 use crate::player::{Player, numbers_at, words_of};
 use crate::program::Program;
 use std::alloc::{AllocError, Global};
 use wc_state::Task;
 use wc_transcript::{Named, Number, Row};
-use wc_value::{Duplicate, Files, JobResult, Request, Rows, Table, Text, Words};
+use wc_value::{
+    Duplicate, Files, JobResult, Request, Rows, Table, Text, Words, both, filled, put_given,
+};
 
 /// Puts files in a repetition.
 fn put_files(

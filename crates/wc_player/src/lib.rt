@@ -8,7 +8,6 @@ mod disks;
 mod error;
 mod findings;
 mod jobs;
-mod letting;
 mod machine;
 mod outside;
 mod player;

@@ -3,13 +3,15 @@
 use crate::called::Called;
 use crate::clock::Clock;
 use crate::disks::{Disks, bytes_of};
-use crate::letting::{both, filled, put, put_given};
 use crate::outside::Outside;
 use crate::program::{Program, Sipping};
 use std::alloc::{AllocError, Global};
 use wc_io::{MemoryShelf, MemorySink};
 use wc_transcript::{Left, Side};
-use wc_value::{Bytes, Duplicate, Files, List, Rows, Table, TableError, Text, Words};
+use wc_value::{
+    Bytes, Duplicate, Files, List, Rows, Table, TableError, Text, Words, both, filled, put,
+    put_given,
+};
 
 /// A shelf, a sink, two disks, a transport and a clock, on which the program is called.
 #[derive(Drop)]

@@ -5,11 +5,10 @@ ghost use Rattle.std.specs.List.{list_any};
 ghost use Rattle.wc_io.specs.Counts.{counted, RisesByOne};
 ghost use Rattle.wc_transport.specs.Outside.{CountsTaskFault};
 
-use crate::letting::{both, filled, put, put_given};
 use std::alloc::{AllocError, Global};
 use wc_state::Task;
 use wc_transport::{Busy, Progress, TableTransport, TaskError, Transport};
-use wc_value::{Duplicate, JobResult, List, Request, Table};
+use wc_value::{Duplicate, JobResult, List, Request, Table, both, filled, put, put_given};
 
 /// The numbers of the calls that are to fail, counted from a call on.
 #[derive(Drop)]

@@ -4,12 +4,11 @@ use crate::called::Called;
 use crate::disks::{Disks, bytes_of};
 use crate::error::PlayError;
 use crate::findings::{Findings, Place, told_bytes};
-use crate::letting::{filled, put};
 use crate::machine::Machine;
 use crate::program::Program;
 use std::alloc::{AllocError, Global};
 use wc_transcript::{Answer, Call, Content, Deed, Device, Number, Side, Step};
-use wc_value::{Bytes, List, TableError, Text, Words};
+use wc_value::{Bytes, List, TableError, Text, Words, filled, put};
 
 /// The machine, what was found, and what was asked.
 #[derive(Drop)]

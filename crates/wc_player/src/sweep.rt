@@ -3,14 +3,13 @@
 use crate::called::Called;
 use crate::error::PlayError;
 use crate::findings::Place;
-use crate::letting::put;
 use crate::machine::Machine;
 use crate::player::Player;
 use crate::program::Program;
 use std::alloc::AllocError;
 use std::mem;
 use wc_transcript::{Answer, Call, Deed, Device, Event, Left, Stage, Step};
-use wc_value::List;
+use wc_value::{List, put};
 
 /// What a crash leaves of disk one and of disk two.
 const PICKS: [(Left, Left); 5] = [

@@ -2,11 +2,10 @@
 
 use crate::error::PlayError;
 use crate::findings::Place;
-use crate::letting::put;
 use crate::player::{Player, block_of, numbers_at, place_at};
 use crate::program::Program;
 use wc_transcript::{Content, Deed, Left, Side, Step};
-use wc_value::Text;
+use wc_value::{Text, put};
 
 impl<P: Program + Drop> Player<P> {
     /// The shelf has a file.

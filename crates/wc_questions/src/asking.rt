@@ -1,9 +1,9 @@
 //! Questions are asked, and the answers compared with those that are right.
 
-use crate::letting::filled;
 use crate::report::Report;
 use crate::row::{Line, line_of};
 use std::alloc::{AllocError, Global};
+use wc_value::filled;
 
 /// What answers questions.
 pub trait Answers {

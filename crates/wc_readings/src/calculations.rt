@@ -1,7 +1,6 @@
 //! Calculations of files that no command takes, or on inputs that none gives.
 
 use crate::lists::fields_of;
-use crate::rows::{filled, let_go};
 use crate::shown::Shown;
 use crate::syntax::library_of;
 use crate::values::put_json;
@@ -9,7 +8,9 @@ use std::alloc::{AllocError, Global};
 use wc_calculation::{Parsed, calculate, calculate_job, parse_result, request_of};
 use wc_expression::Outcome;
 use wc_syntax::{Definition, Job};
-use wc_value::{Bytes, Fields, Files, JobResult, ProcessState, Text, Value, Values};
+use wc_value::{
+    Bytes, Fields, Files, JobResult, ProcessState, Text, Value, Values, filled, let_go,
+};
 
 /// The items of a list in which a list of these items stands.
 fn list_of(alloc: Global, items: Values) -> Result<Values, AllocError> {

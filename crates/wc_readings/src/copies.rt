@@ -1,11 +1,11 @@
 //! Copies of trees, states and plain values.
 
 use crate::lists::put_facts;
-use crate::rows::{both, filled, let_go};
 use crate::shown::Shown;
 use std::alloc::{AllocError, Global};
 use wc_value::{
-    Branches, Duplicate, Fields, Kind, ProcessState, Reason, Text, Tree, same_state, same_tree,
+    Branches, Duplicate, Fields, Kind, ProcessState, Reason, Text, Tree, both, filled, let_go,
+    same_state, same_tree,
 };
 
 /// A copy, through the bound alone.

@@ -1,10 +1,11 @@
 //! The lists that values are made of.
 
-use crate::rows::let_go;
 use crate::shown::Shown;
 use crate::values::put_json;
 use std::alloc::{AllocError, Global};
-use wc_value::{Boxed, Duplicate, Fields, Roomy, Text, Value, Words, same_fields, same_words};
+use wc_value::{
+    Boxed, Duplicate, Fields, Roomy, Text, Value, Words, let_go, same_fields, same_words,
+};
 
 /// Puts what is so and what isn't.
 pub fn put_facts(shown: &mut Shown, facts: &[(&str, bool)]) {

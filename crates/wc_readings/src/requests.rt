@@ -1,10 +1,9 @@
 //! Tables of requests and results.
 
-use crate::rows::let_go;
 use crate::shown::Shown;
 use std::alloc::{AllocError, Global};
 use wc_json::table_from_json;
-use wc_value::{Duplicate, Request, Rows, Table, TableError, encode_request};
+use wc_value::{Duplicate, Request, Rows, Table, TableError, encode_request, let_go};
 
 /// The bytes of a request in hexadecimal digits.
 fn spelled(alloc: Global, request: &Request) -> Result<String, AllocError> {

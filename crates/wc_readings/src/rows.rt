@@ -2,20 +2,7 @@
 
 use crate::answers::answer;
 use std::alloc::{AllocError, Global};
-
-/// Lets a value go. Its type isn't taken apart here, so that whoever calls this is cheaper to prove.
-pub fn let_go<T: Drop>(_value: T) {}
-
-/// A value, where it was filled. Else it is let go.
-pub fn filled<T: Drop>(value: T, filling: Result<(), AllocError>) -> Result<T, AllocError> {
-    filling?;
-    Ok(value)
-}
-
-/// Both, where there is the second. Where there is none the first is let go.
-pub fn both<A: Drop, B>(first: A, second: Result<B, AllocError>) -> Result<(A, B), AllocError> {
-    Ok((first, second?))
-}
+use wc_value::filled;
 
 /// The character for which a sign stands.
 fn meant(sign: char) -> char {

@@ -1,12 +1,11 @@
 //! Bytes as values and texts, and JSON as values.
 
-use crate::rows::let_go;
 use crate::shown::Shown;
 use std::alloc::{AllocError, Global};
 use wc_decoding::decode;
 use wc_json::{JsonError, from_json, to_json};
 use wc_value::{
-    Bytes, Duplicate, Kind, Text, Value, encode, is_within, is_within_depth, same_value,
+    Bytes, Duplicate, Kind, Text, Value, encode, is_within, is_within_depth, let_go, same_value,
 };
 
 /// The bytes of hexadecimal digits, or none where something else stands there.

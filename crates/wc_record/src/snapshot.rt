@@ -176,21 +176,29 @@ fn changes_of(world: &World) -> Result<usize, AllocError>
     Ok(count)
 }
 
-/// The bytes of a world's snapshot. The world isn't copied.
-pub fn write_snapshot(alloc: Global, world: &World) -> Result<Bytes, AllocError>
-    ensures spelled { IfOk result (λ bytes. bytes ≡ spelled (snapshot world.now.world)) }
+/// Puts the bytes of a world's snapshot.
+fn put_snapshot(alloc: Global, out: &mut Bytes, world: &World) -> Result<(), AllocError>
+    ensures spelled { OnOk result (out.new ≡ out.old ++ spelled (snapshot world.now.world)) }
     ensures written { OnOk result (IsWritten (snapshot world.now.world)) }
 {
     reached_worlds_are_consistent();
     let graph = world.graph();
     let records = world.records().as_slice();
+    put_count(out, changes_of(world)?)?;
+    put_libraries(alloc, out, world.libraries().as_slice())?;
+    put_nodes(out, graph.nodes().as_slice(), records)?;
+    put_links(out, graph.links().as_slice())?;
+    put_sets(out, records)?;
+    put_kepts(out, records)?;
+    put_batches(out, world.batches())
+}
+
+/// The bytes of a world's snapshot. The world isn't copied.
+pub fn write_snapshot(alloc: Global, world: &World) -> Result<Bytes, AllocError>
+    ensures spelled { IfOk result (λ bytes. bytes ≡ spelled (snapshot world.now.world)) }
+    ensures written { OnOk result (IsWritten (snapshot world.now.world)) }
+{
     let mut out = Bytes::new(alloc);
-    put_count(&mut out, changes_of(world)?)?;
-    put_libraries(alloc, &mut out, world.libraries().as_slice())?;
-    put_nodes(&mut out, graph.nodes().as_slice(), records)?;
-    put_links(&mut out, graph.links().as_slice())?;
-    put_sets(&mut out, records)?;
-    put_kepts(&mut out, records)?;
-    put_batches(&mut out, world.batches())?;
+    put_snapshot(alloc, &mut out, world)?;
     Ok(out)
 }

@@ -2,12 +2,11 @@
 
 use crate::deed::{Call, Deed, Step, Transcript};
 use crate::growing::Growing;
-use crate::letting::let_go;
 use crate::mistake::Mistake;
 use crate::names::Names;
 use std::alloc::{AllocError, Global};
 use std::mem;
-use wc_value::{List, Text};
+use wc_value::{List, Text, let_go};
 
 /// In which block a line stands.
 #[derive(Clone, Copy)]

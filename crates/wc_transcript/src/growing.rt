@@ -1,8 +1,7 @@
 //! Items that are read one after another, each of which may go on until the next one begins.
 
-use crate::letting::{filled, put};
 use std::alloc::{AllocError, Global};
-use wc_value::List;
+use wc_value::{List, filled, put};
 
 /// The items that are whole, and the one that may go on.
 #[derive(Drop)]

@@ -4,11 +4,11 @@ ghost use Rattle.std.specs.Prelude.{◌<◌, IfSome};
 
 use crate::content::Content;
 use crate::cutting::cut_word;
-use crate::letting::filled;
 use crate::mistake::Mistake;
 use crate::names::Names;
 use crate::said::Said;
 use std::alloc::Global;
+use wc_value::filled;
 
 /// Puts what stands behind a backslash.
 fn put_escaped(content: &mut Content, byte: u8) -> Result<(), Mistake> {

@@ -8,7 +8,6 @@ mod deed;
 mod draft;
 mod growing;
 mod items;
-mod letting;
 mod lines;
 mod mistake;
 mod names;

@@ -3,14 +3,13 @@
 use crate::cutting::{cut_word, only_word};
 use crate::deed::{Step, Transcript};
 use crate::draft::Draft;
-use crate::letting::let_go;
 use crate::lines::Lines;
 use crate::mistake::{Mistake, ReadError};
 use crate::rows::read_rows;
 use crate::said::only;
 use crate::steps::{read_block, read_deed, read_items};
 use std::alloc::Global;
-use wc_value::List;
+use wc_value::{List, let_go};
 
 /// Bytes get a name, by items.
 fn name_items(

@@ -4,14 +4,13 @@ use crate::content::Content;
 use crate::cutting::{cut_word, only_word};
 use crate::growing::Growing;
 use crate::items::put_items;
-use crate::letting::filled;
 use crate::lines::Lines;
 use crate::mistake::Mistake;
 use crate::names::Names;
 use crate::row::{Named, Row};
 use crate::steps::read_words;
 use std::alloc::Global;
-use wc_value::{List, Text};
+use wc_value::{List, Text, filled};
 
 /// Content of the items of a line.
 fn content_of(alloc: Global, names: &Names, items: &str) -> Result<Content, Mistake> {

@@ -2,13 +2,12 @@
 
 use crate::cutting::{cut_word, two_words};
 use crate::deed::{Deed, Device, Event, Left, Side};
-use crate::letting::filled;
 use crate::mistake::Mistake;
 use crate::number::Number;
 use crate::said::{Said, only, pair};
 use std::alloc::Global;
 use wc_state::Task;
-use wc_value::List;
+use wc_value::{List, filled};
 
 /// The disk that a word names.
 impl Said for Side {

@@ -4,7 +4,6 @@ use crate::content::Content;
 use crate::cutting::{cut_word, only_word};
 use crate::deed::{Answer, Call, Deed, Side, Stage};
 use crate::items::{put_items, put_word};
-use crate::letting::filled;
 use crate::lines::Lines;
 use crate::mistake::Mistake;
 use crate::names::Names;
@@ -12,7 +11,7 @@ use crate::row::Row;
 use crate::said::Said;
 use crate::simple::read_simple;
 use std::alloc::{AllocError, Global};
-use wc_value::{Duplicate, List, Text};
+use wc_value::{Duplicate, List, Text, filled};
 
 /// Puts the indented lines below, each with its end.
 fn put_block(content: &mut Content, below: &mut Lines<'_>) -> Result<(), AllocError> {

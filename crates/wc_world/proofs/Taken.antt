@@ -1,5 +1,6 @@
 -- A draft that took all changes of a batch.
-use Rattle.std.proofs.Common.{◌≡◌, ◌<◌, List, None, refl, sym, subst, ◌∙◌}
+use Rattle.std.proofs.Common.{◌≡◌, ◌<◌, List, None, Result, Ok, Err, refl, sym, subst, ◌∙◌, true≢false}
+use Rattle.std.specs.Prelude.{IsOk, OnOk}
 use Rattle.wc_world.specs.declared.change.Change.{Change}
 use Rattle.wc_world.specs.declared.draft.Draft.{Draft}
 use Rattle.wc_world.specs.declared.terms.Terms.{Terms}
@@ -13,6 +14,11 @@ use Rattle.wc_world.specs.Playing.{ApplyBy}
 pub reached_settled : (w : World) → IsReached w → unsettled w.links w.records ≡ None
 reached_settled _ nothing = refl
 reached_settled _ (then_changes w cs reached accepted) = accepted.settled
+
+-- what holds where there is a value, where there is one
+pub where_ok : {A E P : Type 0} (r : Result A E) → IsOk r → OnOk r P → P
+where_ok (Ok x) h p = p
+where_ok (Err e) h p = absurd (true≢false (sym h))
 
 -- what is known of a draft that took all changes
 pub record IsPlayed (w : World) (cs : List Change) (t : Terms) (first last : Draft) : Type 0 where

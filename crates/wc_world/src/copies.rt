@@ -6,7 +6,7 @@ use crate::change::{Change, Changes};
 use crate::played::Played;
 use crate::world::{Libraries, World};
 use std::alloc::{AllocError, Global};
-use wc_value::Duplicate;
+use wc_value::{Duplicate, both};
 
 /// A copy of a change.
 fn copy_change(change: &Change) -> Result<Change, AllocError>
@@ -50,8 +50,8 @@ impl World {
         ensures { IfOk result (λ copy. copy ≡ self.now.world) }
     {
         let graph = self.graph.copy(alloc)?;
-        let records = self.records.copy(alloc)?;
-        let libraries = copy_libraries(alloc, &self.libraries)?;
+        let lists = both(graph, self.records.copy(alloc))?;
+        let ((graph, records), libraries) = both(lists, copy_libraries(alloc, &self.libraries))?;
         Ok(Played {
             graph,
             records,

@@ -5,9 +5,9 @@ ghost use Rattle.wc_world.specs.declared.error.WorldError.{WorldError};
 ghost use Rattle.wc_world.specs.declared.error.WorldError.TheVariants as error;
 ghost use Rattle.wc_world.specs.Applied.{changed, applied, begun};
 ghost use Rattle.wc_world.specs.Fits.{unsettled};
-ghost use Rattle.wc_world.specs.Accepted.{IsAccepted, IsRefused, IsReached};
+ghost use Rattle.wc_world.specs.Accepted.{setting, IsAccepted, IsRefused, IsReached};
 ghost use Rattle.wc_world.specs.Calls.{AwaitsCalled};
-ghost use Rattle.wc_world.specs.Drafts.{drafted, Ascends, AreSettledBut};
+ghost use Rattle.wc_world.specs.Drafts.{drafted, Ascends, AreSettledBut, Tells};
 ghost use Rattle.wc_world.specs.Playing.{ApplyBy, FirstRefusedBy};
 
 use crate::applying::count;
@@ -19,6 +19,7 @@ use crate::played::Played;
 use crate::terms::Terms;
 use crate::world::World;
 use std::alloc::{AllocError, Global};
+use wc_value::{both, done, filled};
 
 /// The most batches that a world takes.
 const MOST_BATCHES: u32 = 4_000_000_000;
@@ -95,6 +96,21 @@ impl Played {
         self.libraries.reserve(need.libraries)
     }
 
+    /// What the changes are taken by, with room for them, where one batch more isn't too many.
+    fn ready(&mut self, alloc: Global, changes: &Changes) -> Result<Terms, WorldError>
+        ensures same { self.new ≡ self.old }
+        ensures few { OnOk result (self.old.batches < 4000000000) }
+        ensures tells { IfOk result (λ terms. Tells terms (setting self.old changes.now)) }
+        ensures refused { IfErr result (λ e. (e ≡ error.OutOfMemory) ⊎ IsRefused self.old changes.now e) }
+    {
+        if self.batches >= MOST_BATCHES {
+            return Err(WorldError::BadRecord(0));
+        }
+        let terms = self.terms(alloc, changes.as_slice())?;
+        let reserved = self.reserve(changes);
+        Ok(filled(terms, reserved)?)
+    }
+
     /// What changes make of it, or else the first reason why it doesn't take them: one batch too many, the first change that
     /// doesn't apply to the world as those before it left it, or the first process that isn't settled after the last one.
     /// Each change is tested once, against what stands.
@@ -103,14 +119,11 @@ impl Played {
         ensures after { IfOk result (λ after. after ≡ applied played changes) }
         ensures refused { IfErr result (λ e. (e ≡ error.OutOfMemory) ⊎ IsRefused played changes e) }
     {
-        if played.batches >= MOST_BATCHES {
-            return Err(WorldError::BadRecord(0));
-        }
-        let terms = played.terms(alloc, changes.as_slice())?;
-        played.reserve(&changes)?;
+        let ready = played.ready(alloc, &changes);
+        let ((played, changes), terms) = both((played, changes), ready)?;
         let mut draft = played.begin(alloc);
-        draft.take_all(alloc, &terms, changes)?;
-        draft.settle()
+        let taken = draft.take_all(alloc, &terms, changes);
+        filled(draft, taken)?.settle()
     }
 }
 
@@ -122,8 +135,8 @@ impl World {
         ensures ok { OnOk result (IsAccepted self.now.world changes.now) }
         ensures refused { IfErr result (λ e. (e ≡ error.OutOfMemory) ⊎ IsRefused self.now.world changes.now e) }
     {
-        let copied = self.copy(alloc)?;
-        Played::play(alloc, copied, copy_changes(alloc, changes)?)?;
-        Ok(())
+        let copied = both(self.copy(alloc)?, copy_changes(alloc, changes))?;
+        let (played, changes) = copied;
+        done(Played::play(alloc, played, changes))
     }
 }

@@ -1,11 +1,11 @@
 //! Cases, which are made of rows.
 
-use crate::letting::{filled, let_go};
 use crate::report::Report;
 use crate::rows::play_row;
 use crate::stage::Stage;
 use crate::stop::Stop;
 use std::alloc::{AllocError, Global};
+use wc_value::{filled, let_go};
 
 /// Puts what there is to be told of a row that isn't played.
 fn put_stop(told: &mut String, stop: Stop) -> Result<(), AllocError> {

@@ -1,11 +1,10 @@
 //! Changes and snapshots as bytes.
 
-use crate::letting::let_go;
 use crate::stop::Stop;
 use crate::telling::{put_error, put_line};
 use std::alloc::{AllocError, Global};
 use wc_record::{LastLibrary, RecordError, read_changes, write_changes, write_snapshot};
-use wc_value::Bytes;
+use wc_value::{Bytes, let_go};
 use wc_world::{Changes, World};
 
 /// The changes that bytes spell. This says nothing of the call, so that no row carries what it promises.

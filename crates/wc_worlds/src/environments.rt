@@ -1,13 +1,12 @@
 //! The environments of processes.
 
-use crate::letting::let_go;
 use crate::stop::Stop;
 use crate::telling::{put_error, put_line};
 use std::alloc::Global;
 use wc_report::{state_text, value_text};
 use wc_state::{Child, Env, Item, Named};
 use wc_trees::env_of;
-use wc_value::Duplicate;
+use wc_value::{Duplicate, let_go};
 use wc_world::World;
 
 /// Tells labels with their nodes.

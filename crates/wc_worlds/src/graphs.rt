@@ -1,12 +1,11 @@
 //! Graphs: their nodes, and the links that they take and refuse.
 
 use crate::changes::changes_of;
-use crate::letting::let_go;
 use crate::stop::Stop;
 use crate::telling::{put_done, put_error};
 use std::alloc::Global;
 use wc_graph::{Graph, GraphError, Link, LinkType, NodeKind};
-use wc_value::{Duplicate, Text, Value};
+use wc_value::{Duplicate, Text, Value, let_go};
 use wc_world::Change;
 
 /// The node that a letter stands for, by what its kind begins with: data, calculation or workflow.

@@ -7,7 +7,6 @@ mod changes;
 mod environments;
 mod graphs;
 mod items;
-mod letting;
 mod names;
 mod report;
 mod rows;

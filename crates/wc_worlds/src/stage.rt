@@ -1,12 +1,11 @@
 //! What rows act on.
 
 use crate::items::put_items;
-use crate::letting::put;
 use crate::names::Names;
 use crate::stop::Stop;
 use std::alloc::Global;
 use wc_graph::Graph;
-use wc_value::Bytes;
+use wc_value::{Bytes, put};
 use wc_world::World;
 
 /// What rows act on: bytes, and those that have names, a graph, and a world.

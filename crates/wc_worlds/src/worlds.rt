@@ -1,7 +1,6 @@
 //! Worlds: the changes that they take and refuse, and what they tell.
 
 use crate::changes::changes_of;
-use crate::letting::{let_go, listed, put};
 use crate::stop::Stop;
 use crate::telling::{put_done, put_error, put_line};
 use std::alloc::Global;
@@ -10,7 +9,7 @@ use wc_graph::NodeKind;
 use wc_report::{state_text, tree_lines, value_text};
 use wc_state::Part;
 use wc_trees::tree_of;
-use wc_value::{Text, Value, Values, Words};
+use wc_value::{List, Text, Value, Values, Words, let_go, put};
 use wc_world::{Change, Changes, World, WorldError};
 
 /// Tells whether a world takes changes, or why not.
@@ -67,6 +66,15 @@ fn worsen(alloc: Global, change: &mut Change) {
         Change::Set(set) => worsen_part(&mut set.part),
         _ => {}
     }
+}
+
+/// A list of an item, if there is one. Where memory runs out the list is empty.
+fn listed<T: Drop>(alloc: Global, item: Option<T>) -> List<T> {
+    let mut list = List::new(alloc);
+    if let Some(item) = item {
+        let _pushed = list.push(item);
+    }
+    list
 }
 
 /// The last change alone, made one that no bytes spell.

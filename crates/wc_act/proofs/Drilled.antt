@@ -10,8 +10,8 @@ use Rattle.wc_store.specs.declared.place.Place.TheVariants.{One}
 use Rattle.wc_runner.specs.Leaves.{SomeTurns}
 use Rattle.wc_runner.specs.Trips as trips
 use Rattle.wc_runner.specs.declared.running.RunEnd.TheVariants.{AllEnded, Spent, Resting}
-use Rattle.wc_generated.specs.Draws.{sum_of_squares}
-use Rattle.wc_generated.specs.Texts.{drilled_text}
+use Rattle.wc_drill.specs.Draws.{sum_of_squares}
+use Rattle.wc_drill.specs.Texts.{drilled_text}
 use Rattle.wc_drill.specs.Drilled as drilled
 use Rattle.wc_drill.specs.Drilled.{Drills, HasDrilled, outside, turns_of}
 use Rattle.wc_drill.specs.Leaves.{DrilledBeside, HoldsOnOne, HoldsNow, IsBegun, IsOfDrill, RefusedLeaves, AreDurable as AreNow}

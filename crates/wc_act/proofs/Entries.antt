@@ -12,7 +12,7 @@ use Rattle.wc_syntax.specs.Findings.{head_of}
 use Rattle.wc_syntax.specs.declared.definition.Definition.{Definition}
 use Rattle.wc_meaning.specs.Inputs.{bad_input}
 use Rattle.wc_graph.specs.declared.link.LinkType.{LinkType}
-use Rattle.wc_calculation.specs.Rules.{Values}
+use Rattle.wc_semantics.specs.Rules.{Values}
 use Rattle.wc_state.specs.declared.record.What.{What}
 use Rattle.wc_world.specs.declared.change.Change.{Change}
 use Rattle.wc_world.specs.World.{World}
@@ -22,9 +22,9 @@ use Rattle.wc_machine.specs.Continues.{Continues}
 use Rattle.wc_machine.specs.Sound.{IsSound}
 use Rattle.wc_machine.specs.Submitting.{data_change, links_from, Submits, submitted_number}
 use Rattle.wc_state.specs.Ranges.{AreLimits}
-use Rattle.wc_refusal.specs.Refusals.{HasRoom}
-use Rattle.wc_refusal.specs.declared.error.TurnError.{TurnError}
-use Rattle.wc_refusal.specs.declared.error.TurnError.TheVariants as turn_error
+use Rattle.wc_machine.specs.Refusals.{HasRoom}
+use Rattle.wc_machine.specs.declared.error.TurnError.{TurnError}
+use Rattle.wc_machine.specs.declared.error.TurnError.TheVariants as turn_error
 use Rattle.wc_store.specs.Refusals.{byte_limit, committed_bytes, RefusesCommit, IsUnchanged, is_live_after}
 use Rattle.wc_store.specs.declared.error.StoreError.{StoreError}
 use Rattle.wc_store.specs.declared.error.StoreError.TheVariants as error

@@ -15,8 +15,8 @@ use Rattle.wc_world.specs.declared.change.Change.{Change}
 use Rattle.wc_world.specs.Records.{find_record, has_ended}
 use Rattle.wc_machine.specs.Killing.{kill_changes}
 use Rattle.wc_machine.specs.Machine.{pause_changes, play_changes, submits}
-use Rattle.wc_refusal.specs.Refusals.{AreTooMany, FullOfBatches, HasRoom, IsOneBatchTooMany}
-use Rattle.wc_refusal.specs.declared.error.TurnError.TheVariants as turn_error
+use Rattle.wc_machine.specs.Refusals.{AreTooMany, FullOfBatches, HasRoom, IsOneBatchTooMany}
+use Rattle.wc_machine.specs.declared.error.TurnError.TheVariants as turn_error
 use Rattle.wc_core.specs.Refusals.{AreChangesOf}
 use Rattle.wc_store.specs.declared.error.StoreError.TheVariants.{Full}
 use Rattle.wc_store.specs.Choosing.{on}

@@ -16,7 +16,7 @@ use Rattle.wc_plan.specs.declared.status.Status.{Status}
 use Rattle.wc_plan.specs.declared.status.Status.TheVariants as status
 use Rattle.wc_plan.specs.Replies.{prints, IsReplied}
 use Rattle.wc_act.specs.Views.{Shows, ShowsTree, Verifies, cycle, value, verified, finds, node_reply}
-use Rattle.wc_show.specs.Shows.{show_text}
+use Rattle.wc_report.specs.Shows.{show_text}
 
 -- ---- statuses
 

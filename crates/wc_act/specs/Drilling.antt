@@ -8,8 +8,8 @@ use Rattle.wc_store.specs.declared.place.Place.TheVariants.{One}
 use Rattle.wc_runner.specs.declared.error.RunError.TheVariants.{Full}
 use Rattle.wc_runner.specs.declared.running.RunEnd.{RunEnd}
 use Rattle.wc_runner.specs.declared.running.RunEnd.TheVariants.{AllEnded, Spent, Resting}
-use Rattle.wc_generated.specs.Draws.{sum_of_squares}
-use Rattle.wc_generated.specs.Texts.{drilled_text}
+use Rattle.wc_drill.specs.Draws.{sum_of_squares}
+use Rattle.wc_drill.specs.Texts.{drilled_text}
 use Rattle.wc_drill.specs.Drilled.{Drills, HasDrilled}
 use Rattle.wc_drill.specs.Refusals.{IsHeldUp, IsSpent, IsTooFullFor}
 use Rattle.wc_drill.specs.declared.error.DrillError.{DrillError}

@@ -4,7 +4,7 @@ use Rattle.wc_world.specs.declared.change.Change.{Change}
 use Rattle.wc_world.specs.World.{World}
 use Rattle.wc_world.specs.Accepted.{IsAccepted}
 use Rattle.wc_world.specs.Applied.{applied}
-use Rattle.wc_refusal.specs.Refusals.{HasRoom}
+use Rattle.wc_machine.specs.Refusals.{HasRoom}
 use Rattle.wc_store.specs.Held.{is_plain}
 use Rattle.wc_plan.specs.declared.deed.Asked.{Asked}
 use Rattle.wc_act.specs.declared.events.Entry.{Entry}

@@ -11,9 +11,9 @@ use Rattle.wc_world.specs.Applied.{applied}
 use Rattle.wc_world.specs.Records.{find_record}
 use Rattle.wc_machine.specs.Machine.{Event, Leads, submit, pause, play, kill}
 use Rattle.wc_machine.specs.Submitting.{submitted_number}
-use Rattle.wc_refusal.specs.Refusals.{HasEndedAs, HasRoom, RefusesSubmission}
-use Rattle.wc_refusal.specs.declared.error.TurnError.{TurnError}
-use Rattle.wc_refusal.specs.declared.error.TurnError.TheVariants as turn_error
+use Rattle.wc_machine.specs.Refusals.{HasEndedAs, HasRoom, RefusesSubmission}
+use Rattle.wc_machine.specs.declared.error.TurnError.{TurnError}
+use Rattle.wc_machine.specs.declared.error.TurnError.TheVariants as turn_error
 use Rattle.wc_core.specs.Refusals.{RefusesMark}
 use Rattle.wc_store.specs.declared.error.StoreError.TheVariants as store_error
 use Rattle.wc_store.specs.Held.{a_world}

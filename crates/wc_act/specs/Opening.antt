@@ -2,8 +2,8 @@
 use Rattle.std.specs.Prelude.{◌≡◌, ◌⊎◌, ℕ, true, IsSome, Option, Some, None, Result, Err}
 use Rattle.wc_disk.specs.declared.disk.Disk as disk
 use Rattle.wc_journal.specs.declared.error.Found.{Found}
-use Rattle.wc_refusal.specs.declared.error.TurnError.{TurnError}
-use Rattle.wc_refusal.specs.declared.error.TurnError.TheVariants as turn_error
+use Rattle.wc_machine.specs.declared.error.TurnError.{TurnError}
+use Rattle.wc_machine.specs.declared.error.TurnError.TheVariants as turn_error
 use Rattle.wc_store.specs.declared.error.StoreError.{StoreError}
 use Rattle.wc_store.specs.declared.error.StoreError.TheVariants as store_error
 use Rattle.wc_store.specs.Held.{Standing, nothing, damage, a_world}

@@ -10,7 +10,7 @@ use Rattle.wc_verify.specs.Faults.{IsLeastDisagreement, IsLeastOnCycle, IsLowest
 use Rattle.wc_report.specs.Lines.{cycle_text, wrong_value_text, verified_text}
 use Rattle.wc_report.specs.Lists.{list_text}
 use Rattle.wc_report.specs.Trees.{tree_text}
-use Rattle.wc_show.specs.Shows.{show_text, graph_text}
+use Rattle.wc_report.specs.Shows.{show_text, graph_text}
 use Rattle.wc_cli.specs.declared.command.View.{View}
 use Rattle.wc_cli.specs.declared.command.View.TheVariants as view
 use Rattle.wc_plan.specs.declared.reply.Reply.{Reply}

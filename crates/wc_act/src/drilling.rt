@@ -17,8 +17,7 @@ use crate::error::ActError;
 use crate::opening::{damaged, full};
 use std::alloc::{AllocError, Global};
 use wc_disk::Disk;
-use wc_drill::{DrillError, drill, drills_are_sound};
-use wc_generated::{drilled_text, sum_of_squares};
+use wc_drill::{DrillError, drill, drilled_text, drills_are_sound, sum_of_squares};
 use wc_plan::{Cause, Reply, Status, print, refuse};
 use wc_value::Text;
 

@@ -4,13 +4,14 @@ ghost use Rattle.std.specs.Prelude.{◌≡◌, IfOk};
 ghost use Rattle.wc_graph.specs.Walks.{IsAcyclic};
 ghost use Rattle.wc_machine.specs.Created.{IsCreatedByInputs};
 ghost use Rattle.wc_act.specs.Views.{Shows, ShowsTree, Verifies, finds, node_reply};
-ghost use Rattle.wc_show.specs.Shows.{show_text};
+ghost use Rattle.wc_report.specs.Shows.{show_text};
 
 use std::alloc::{AllocError, Global};
 use wc_cli::View;
 use wc_plan::{Cause, Fault, Reply, Status, print, refuse};
-use wc_report::{cycle_text, list_text, tree_lines, verified_text, wrong_value_text};
-use wc_show::{graph_text, show_text};
+use wc_report::{
+    cycle_text, graph_text, list_text, show_text, tree_lines, verified_text, wrong_value_text,
+};
 use wc_trees::tree_of;
 use wc_verify::{find_cycle, find_disagreement, find_wrong_value};
 use wc_world::{World, WorldError};

@@ -5,7 +5,7 @@ use Rattle.wc_value.specs.Ascending.{put}
 use Rattle.wc_value.specs.declared.value.Value.{Value}
 use Rattle.wc_value.specs.declared.value.Value.TheVariants as value
 use Rattle.wc_syntax.specs.declared.definition.Definition.{Definition}
-use Rattle.wc_calculation.specs.Rules.{Values}
+use Rattle.wc_semantics.specs.Rules.{Values}
 use Rattle.wc_state.specs.declared.record.ProcessKind.{ProcessKind}
 use Rattle.wc_state.specs.declared.record.ProcessRecord.{ProcessRecord}
 use Rattle.wc_world.specs.World.{World}

@@ -12,11 +12,11 @@ use Rattle.sha2.specs.Sha256.{sha256}
 use Rattle.wc_value.specs.Spelling.{spelling}
 use Rattle.wc_value.proofs.Puts.{same_name}
 use Rattle.wc_syntax.specs.Printing.{printed_definition}
-use Rattle.wc_seals.specs.declared.marking.Sealed.{Sealed}
-use Rattle.wc_seals.specs.Keys.{key_value}
-use Rattle.wc_seals.specs.Order.{is_seal, is_in, has_digest, IsPartOf}
-use Rattle.wc_seals.proofs.Exact.{places_rise}
-use Rattle.wc_seals.proofs.Orders.{seal_tests}
+use Rattle.wc_keys.specs.declared.marking.Sealed.{Sealed}
+use Rattle.wc_keys.specs.SealKeys.{key_value}
+use Rattle.wc_keys.specs.Order.{is_seal, is_in, has_digest, IsPartOf}
+use Rattle.wc_keys.proofs.Exact.{places_rise}
+use Rattle.wc_keys.proofs.Orders.{seal_tests}
 use Rattle.wc_state.specs.declared.record.ProcessRecord.{ProcessRecord}
 use Rattle.wc_world.specs.World.{World}
 use Rattle.wc_world.specs.Consistent.{IsConsistent}

@@ -9,7 +9,7 @@ use Rattle.wc_value.specs.Spelling.{spelling}
 use Rattle.wc_value.proofs.Readback.{one_front}
 use Rattle.wc_syntax.specs.declared.definition.Definition.{Definition}
 use Rattle.wc_syntax.specs.Printing.{printed_definition}
-use Rattle.wc_calculation.specs.Rules.{Values}
+use Rattle.wc_semantics.specs.Rules.{Values}
 use Rattle.wc_state.specs.declared.record.ProcessRecord.{ProcessRecord}
 use Rattle.wc_world.specs.World.{World}
 use Rattle.wc_machine.specs.Recorded.{its_definition, recorded_inputs}

@@ -4,11 +4,11 @@ use Rattle.wc_value.specs.Spelling.{spelling}
 use Rattle.wc_value.specs.Spells.{Spells}
 use Rattle.wc_syntax.specs.declared.definition.Definition.{Definition}
 use Rattle.wc_syntax.specs.Printing.{printed_definition}
-use Rattle.wc_calculation.specs.Rules.{Values}
+use Rattle.wc_semantics.specs.Rules.{Values}
 use Rattle.wc_state.specs.declared.record.ProcessRecord.{ProcessRecord}
 use Rattle.wc_world.specs.World.{World}
 use Rattle.wc_machine.specs.Recorded.{its_definition, recorded_inputs}
-pub use Rattle.wc_seals.specs.Keys.{key_value}
+pub use Rattle.wc_keys.specs.SealKeys.{key_value}
 
 -- these bytes are the canonical bytes of that dictionary
 pub record IsKey (text : List ℕ) (inputs : Values) (key : List ℕ) : Type 0 where

@@ -12,7 +12,7 @@ ghost use Rattle.wc_cache.specs.Keys.{IsKeyOf};
 use crate::keys::key_of_process;
 use crate::sources::is_valid;
 use std::alloc::{AllocError, Global};
-use wc_seals::digest_of;
+use wc_keys::digest_of;
 use wc_state::ProcessRecord;
 use wc_world::{World, reached_worlds_are_consistent};
 

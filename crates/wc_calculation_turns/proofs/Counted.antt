@@ -1,13 +1,13 @@
 -- How many nodes and batches a world has after the turn of a calculation.
 use Rattle.std.proofs.Common.{◌≡◌, ℕ, suc, ◌+◌, List, [], ◌∷◌, ◌++◌, length, refl, ap, ◌∙◌}
-use Rattle.wc_calculation.specs.Rules.{Values}
+use Rattle.wc_semantics.specs.Rules.{Values}
 use Rattle.wc_state.specs.declared.record.ProcessRecord.{ProcessRecord}
 use Rattle.wc_world.specs.declared.change.Change.{Change}
 use Rattle.wc_world.specs.World.{World}
 use Rattle.wc_world.specs.Applied.{applied}
 use Rattle.wc_world.specs.After.{nodes_in}
 use Rattle.wc_machine.specs.Ending.{creations, end_of}
-use Rattle.wc_refusal.proofs.Counted.{HasNoCount, nodes_more, one_batch}
+use Rattle.wc_machine.proofs.Counted.{HasNoCount, nodes_more, one_batch}
 use Rattle.wc_calculation_turns.specs.declared.courses.Course.{Course}
 use Rattle.wc_calculation_turns.specs.declared.courses.Course.TheVariants as course
 use Rattle.wc_calculation_turns.specs.Courses.{added_nodes, course_changes}

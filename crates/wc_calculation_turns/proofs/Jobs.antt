@@ -13,10 +13,10 @@ use Rattle.wc_syntax.specs.declared.definition.Function.{Function}
 use Rattle.wc_syntax.specs.declared.definition.Job.{Job}
 use Rattle.wc_expression.specs.declared.outcome.Outcome.{Outcome}
 use Rattle.wc_expression.specs.declared.outcome.Outcome.TheVariants.{Gives, Faults}
-use Rattle.wc_calculation.specs.declared.outcomes.Parsed.{Parsed}
-use Rattle.wc_calculation.specs.Outcomes.{excepted}
-use Rattle.wc_calculation.specs.Requests.{request}
-use Rattle.wc_calculation.proofs.Bare.{parsed_bare, request_bare}
+use Rattle.wc_semantics.specs.declared.outcomes.Parsed.{Parsed}
+use Rattle.wc_semantics.specs.Outcomes.{excepted}
+use Rattle.wc_semantics.specs.Requests.{request}
+use Rattle.wc_semantics.proofs.BareCalculations.{parsed_bare, request_bare}
 use Rattle.wc_state.specs.declared.record.JobPart.{JobPart}
 use Rattle.wc_state.specs.declared.record.Part.{Part}
 use Rattle.wc_state.specs.declared.record.Part.TheVariants as part

@@ -8,9 +8,9 @@ use Rattle.wc_world.specs.Records.{find_record}
 use Rattle.wc_machine.specs.declared.answer.TaskAnswer.{TaskAnswer}
 use Rattle.wc_machine.specs.Turning.{TurnGives}
 use Rattle.wc_laws.proofs.OneList.{one_list}
-use Rattle.wc_refusal.specs.Refusals.{AreFew, FullOf, HasRoom, NoneHolds, RefusesCounts}
-use Rattle.wc_refusal.specs.declared.error.TurnError.{TurnError}
-use Rattle.wc_refusal.proofs.Rooms.{full_for, has_room_for, none_full}
+use Rattle.wc_machine.specs.Refusals.{AreFew, FullOf, HasRoom, NoneHolds, RefusesCounts}
+use Rattle.wc_machine.specs.declared.error.TurnError.{TurnError}
+use Rattle.wc_machine.proofs.Rooms.{full_for, has_room_for, none_full}
 use Rattle.wc_calculation_turns.specs.declared.courses.Course.{Course}
 use Rattle.wc_calculation_turns.specs.Courses.{added_nodes, course_changes}
 use Rattle.wc_calculation_turns.proofs.Counted.{nodes_after, batches_after}

@@ -4,9 +4,9 @@ use Rattle.wc_value.specs.declared.process.Request.{Request}
 use Rattle.wc_syntax.specs.declared.definition.Job.{Job}
 use Rattle.wc_expression.specs.declared.outcome.Outcome.{Outcome}
 use Rattle.wc_expression.specs.declared.outcome.Outcome.TheVariants.{Gives, Faults}
-use Rattle.wc_calculation.specs.declared.outcomes.Parsed.{Parsed}
-use Rattle.wc_calculation.specs.Outcomes.{excepted, parsed}
-use Rattle.wc_calculation.specs.Rules.{Values}
+use Rattle.wc_semantics.specs.declared.outcomes.Parsed.{Parsed}
+use Rattle.wc_semantics.specs.Outcomes.{excepted, parsed}
+use Rattle.wc_semantics.specs.Rules.{Values}
 use Rattle.wc_state.specs.declared.record.JobPart.{JobPart}
 use Rattle.wc_state.specs.declared.record.ProcessRecord.{ProcessRecord}
 use Rattle.wc_world.specs.declared.change.Change.{Change}

@@ -1,12 +1,12 @@
 //! What the turn of a calculation comes to, before there are changes.
 
 ghost use Rattle.std.specs.Prelude.{◌≡◌, []};
-ghost use Rattle.wc_calculation.specs.Outcomes.{excepted};
+ghost use Rattle.wc_semantics.specs.Outcomes.{excepted};
 ghost use Rattle.wc_calculation_turns.specs.Courses.{added_nodes, own_end};
 
 use std::alloc::Global;
-use wc_calculation::Parsed;
 use wc_job::JobStep;
+use wc_semantics::Parsed;
 use wc_value::{Fields, ProcessState, Reason};
 
 /// How a calculation ends.

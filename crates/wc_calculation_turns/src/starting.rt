@@ -1,7 +1,7 @@
 //! What the first turn of a calculation comes to.
 
 ghost use Rattle.std.specs.Prelude.{◌≡◌, ℕ, Some, None, IfOk, IsSome};
-ghost use Rattle.wc_calculation.specs.Requests.{request};
+ghost use Rattle.wc_semantics.specs.Requests.{request};
 ghost use Rattle.wc_state.specs.declared.record.ProcessRecord.{ProcessRecord};
 ghost use Rattle.wc_world.specs.Records.{find_record};
 ghost use Rattle.wc_laws.specs.CachingLaws.{MayStart};
@@ -13,9 +13,9 @@ ghost use Rattle.wc_calculation_turns.specs.Courses.{begun, cloned, course_chang
 use crate::courses::{Course, End, excepts, own_end};
 use std::alloc::{AllocError, Global};
 use wc_cache::{definition_of, recorded_inputs, source_of};
-use wc_calculation::{Parsed, calculate, request_of};
 use wc_expression::Outcome;
 use wc_job::JobStep;
+use wc_semantics::{Parsed, calculate, request_of};
 use wc_state::{JobPart, ProcessRecord, Task};
 use wc_syntax::{Definition, Job};
 use wc_trees::tree_of;

@@ -7,7 +7,7 @@ ghost use Rattle.wc_world.specs.Records.{find_record, is_calculation};
 ghost use Rattle.wc_machine.specs.Asking.{fits, need};
 ghost use Rattle.wc_machine.specs.Readiness.{is_ready};
 ghost use Rattle.wc_machine.specs.Turning.{TurnGives};
-ghost use Rattle.wc_refusal.specs.Refusals.{FullOf, HasRoom, NoneHolds};
+ghost use Rattle.wc_machine.specs.Refusals.{FullOf, HasRoom, NoneHolds};
 ghost use Rattle.wc_calculation_turns.specs.Courses.{course_changes};
 
 use crate::courses::{Course, added_nodes};
@@ -15,8 +15,7 @@ use crate::ending::course_changes;
 use crate::starting::started;
 use crate::waiting::{task_of, waited};
 use std::alloc::{AllocError, Global};
-use wc_machine::TaskAnswer;
-use wc_refusal::{TurnError, check_room};
+use wc_machine::{TaskAnswer, TurnError, check_room};
 use wc_state::{Limits, ProcessRecord};
 use wc_world::{Changes, World, reached_worlds_are_consistent};
 

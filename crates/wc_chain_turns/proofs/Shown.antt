@@ -22,9 +22,9 @@ use Rattle.wc_machine.specs.Calling.{Arguments, kind_named, call_link, caching_i
 use Rattle.wc_machine.specs.Stepping.{node, plain, Call}
 use Rattle.wc_machine.specs.Submitting.{input_link}
 use Rattle.wc_outline.specs.Shown.{shown_arguments, shown_call, shown}
-use Rattle.wc_chain_changes.specs.declared.children.Caller.{Caller}
-use Rattle.wc_chain_changes.specs.Called.{data_of, links_of, number_at, waited, kind_at, one_call, all_calls}
-use Rattle.wc_chain_changes.specs.Coming.{Outs, is_now, is_missing, lacks, status, return_link, comes_to}
+use Rattle.wc_changes.specs.declared.children.Caller.{Caller}
+use Rattle.wc_changes.specs.Called.{data_of, links_of, number_at, waited, kind_at, one_call, all_calls}
+use Rattle.wc_changes.specs.Coming.{Outs, is_now, is_missing, lacks, status, return_link, comes_to}
 
 -- ---- arguments
 

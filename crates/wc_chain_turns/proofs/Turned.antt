@@ -34,14 +34,14 @@ use Rattle.wc_machine.specs.Turning.{TurnGives, StandsAt, advances, binds}
 use Rattle.wc_outline.specs.declared.calls.Advanced.{Advanced}
 use Rattle.wc_outline.specs.Places.{chain_of}
 use Rattle.wc_outline.specs.Shown.{shown}
-use Rattle.wc_refusal.specs.Refusals.{FullOf, HasRoom, NoneHolds}
-use Rattle.wc_refusal.specs.declared.error.TurnError.{TurnError}
-use Rattle.wc_refusal.specs.declared.error.TurnError.TheVariants as error
-use Rattle.wc_refusal.proofs.Rooms.{none_full}
+use Rattle.wc_machine.specs.Refusals.{FullOf, HasRoom, NoneHolds}
+use Rattle.wc_machine.specs.declared.error.TurnError.{TurnError}
+use Rattle.wc_machine.specs.declared.error.TurnError.TheVariants as error
+use Rattle.wc_machine.proofs.Rooms.{none_full}
 use Rattle.wc_laws.specs.TurnLaws.{OneListOfChanges}
-use Rattle.wc_chain_changes.specs.declared.children.Caller.{Caller}
-use Rattle.wc_chain_changes.specs.Known.{known_at}
-use Rattle.wc_chain_changes.specs.Coming.{is_now, comes_to, CallsFew}
+use Rattle.wc_changes.specs.declared.children.Caller.{Caller}
+use Rattle.wc_changes.specs.Known.{known_at}
+use Rattle.wc_changes.specs.Coming.{is_now, comes_to, CallsFew}
 use Rattle.wc_chain_turns.specs.Turned.{Gives, HasChain, HasCheckpoint}
 use Rattle.wc_chain_turns.proofs.Shown.{comes_shown}
 use Rattle.wc_chain_turns.proofs.Kept.{KeepsCount, advance_keeps}

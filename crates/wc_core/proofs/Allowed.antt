@@ -2,16 +2,16 @@
 use Rattle.std.proofs.Common.{◌≡◌, ℕ, List, Some, None, refl, sym, ap, subst, ◌∙◌}
 use Rattle.wc_syntax.specs.Findings.{definition_named}
 use Rattle.wc_syntax.specs.declared.definition.Definition.{Definition}
-use Rattle.wc_calculation.specs.Rules.{Values}
+use Rattle.wc_semantics.specs.Rules.{Values}
 use Rattle.wc_meaning.specs.Inputs.{bad_input}
 use Rattle.wc_syntax.specs.Findings.{head_of}
 use Rattle.wc_world.specs.declared.change.Change.{Change}
 use Rattle.wc_world.specs.World.{World}
 use Rattle.wc_world.specs.Applied.{applied}
 use Rattle.wc_machine.specs.Submitting.{Submits, submission}
-use Rattle.wc_refusal.specs.Refusals.{HasRoom, NoneHolds, RefusesSubmission}
-use Rattle.wc_refusal.specs.declared.error.TurnError.TheVariants as error
-use Rattle.wc_refusal.proofs.Rooms.{has_room}
+use Rattle.wc_machine.specs.Refusals.{HasRoom, NoneHolds, RefusesSubmission}
+use Rattle.wc_machine.specs.declared.error.TurnError.TheVariants as error
+use Rattle.wc_machine.proofs.Rooms.{has_room}
 
 module _ (w : World) (library : List Definition) (caching : List (List ℕ)) (name : List ℕ) (inputs : Values) (cs : List Change) (s : Submits w library caching name inputs cs) where
   same_definition : (d : Definition) → definition_named name library ≡ Some d → d ≡ s.definition

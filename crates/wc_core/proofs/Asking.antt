@@ -11,9 +11,9 @@ use Rattle.wc_syntax.specs.declared.definition.Definition.TheVariants as definit
 use Rattle.wc_syntax.specs.declared.definition.Function.{Function}
 use Rattle.wc_syntax.specs.declared.definition.Job.{Job}
 use Rattle.wc_expression.specs.declared.outcome.Outcome.{Outcome}
-use Rattle.wc_calculation.specs.Requests.{request}
-use Rattle.wc_calculation.specs.Rules.{Values}
-use Rattle.wc_calculation.proofs.Bare.{request_bare}
+use Rattle.wc_semantics.specs.Requests.{request}
+use Rattle.wc_semantics.specs.Rules.{Values}
+use Rattle.wc_semantics.proofs.BareCalculations.{request_bare}
 use Rattle.wc_state.specs.declared.record.Part.{Part}
 use Rattle.wc_state.specs.declared.record.Part.TheVariants as part
 use Rattle.wc_state.specs.declared.record.ProcessKind.{ProcessKind}
@@ -29,8 +29,8 @@ use Rattle.wc_machine.specs.declared.answer.TaskAnswer.{TaskAnswer}
 use Rattle.wc_machine.specs.declared.answer.TaskAnswer.TheVariants as answer
 use Rattle.wc_machine.specs.Asking.{Need, nothing, with_request, need_at, need, is_nothing, fits}
 use Rattle.wc_machine.specs.Recorded.{its_definition, recorded_inputs, recorded_request, request_by}
-use Rattle.wc_refusal.specs.Refusals.{NoneHolds}
-use Rattle.wc_refusal.specs.declared.error.TurnError.TheVariants as error
+use Rattle.wc_machine.specs.Refusals.{NoneHolds}
+use Rattle.wc_machine.specs.declared.error.TurnError.TheVariants as error
 use Rattle.wc_core.specs.Asks.{asks_of, task_at}
 use Rattle.wc_core.specs.Refusals.{RefusesNeed}
 

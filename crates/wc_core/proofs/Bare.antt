@@ -5,7 +5,7 @@ use Rattle.wc_syntax.specs.Bare.{bare_definition, bare_library}
 use Rattle.wc_syntax.specs.Findings.{head_of, definition_named}
 use Rattle.wc_syntax.specs.declared.definition.Definition.{Definition}
 use Rattle.wc_syntax.specs.declared.definition.Port.{Port}
-use Rattle.wc_calculation.specs.Rules.{Values}
+use Rattle.wc_semantics.specs.Rules.{Values}
 use Rattle.wc_semantics.proofs.Bare.{inputs_bare, named_bare}
 use Rattle.wc_meaning.specs.Inputs.{bad_input}
 use Rattle.wc_meaning.proofs.Bare.{bad_bare}

@@ -3,14 +3,14 @@ use Rattle.std.proofs.Common.{◌≡◌, ℕ, suc, ◌+◌, List, [], ◌∷◌,
 use Rattle.wc_syntax.specs.Findings.{is_among}
 use Rattle.wc_syntax.specs.declared.definition.Definition.{Definition}
 use Rattle.wc_graph.specs.declared.link.LinkType.{LinkType}
-use Rattle.wc_calculation.specs.Rules.{Values}
+use Rattle.wc_semantics.specs.Rules.{Values}
 use Rattle.wc_world.specs.declared.change.Change.{Change}
 use Rattle.wc_world.specs.World.{World}
 use Rattle.wc_world.specs.Applied.{applied}
 use Rattle.wc_world.specs.After.{nodes_in}
 use Rattle.wc_world.specs.Records.{kind_of_definition}
 use Rattle.wc_machine.specs.Submitting.{data_change, input_link, links_from, submitted_number, submission}
-use Rattle.wc_refusal.proofs.Counted.{HasNoCount, nodes_more, one_batch}
+use Rattle.wc_machine.proofs.Counted.{HasNoCount, nodes_more, one_batch}
 use Rattle.wc_core.specs.Submitted.{root}
 
 data_counts : (is : Values) (cs : List Change) → HasNoCount cs → HasNoCount (map data_change is ++ cs)

@@ -1,6 +1,6 @@
 -- What follows of the changes of a submission for which there is room.
 use Rattle.std.proofs.Common.{◌≡◌, ℕ, ◌+◌, ◌≤◌, List, length, sym, subst, ◌∙◌, arith}
-use Rattle.wc_calculation.specs.Rules.{Values}
+use Rattle.wc_semantics.specs.Rules.{Values}
 use Rattle.wc_syntax.specs.declared.definition.Definition.{Definition}
 use Rattle.wc_world.specs.declared.change.Change.{Change}
 use Rattle.wc_world.specs.World.{World}
@@ -12,8 +12,8 @@ use Rattle.wc_machine.specs.Submitting.{Submits, submitted_number}
 use Rattle.wc_machine.proofs.SubmittedAccepted.{submissions_are_accepted}
 use Rattle.wc_machine.proofs.SubmittedContinues.{submissions_continue}
 use Rattle.wc_laws.proofs.Submissions.{any_submission}
-use Rattle.wc_refusal.specs.Refusals.{HasRoom}
-use Rattle.wc_refusal.proofs.Rooms.{has_places}
+use Rattle.wc_machine.specs.Refusals.{HasRoom}
+use Rattle.wc_machine.proofs.Rooms.{has_places}
 use Rattle.wc_core.proofs.Counted.{nodes_submitted, batches_submitted}
 
 module _ (w : World) (library : List Definition) (caching : List (List ℕ)) (name : List ℕ) (inputs : Values) (cs : List Change) (s : Submits w library caching name inputs cs) (reached : IsReached w) where

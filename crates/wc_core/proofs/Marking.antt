@@ -16,14 +16,14 @@ use Rattle.wc_machine.specs.Killing.{kill_changes}
 use Rattle.wc_machine.specs.Laws.{HasPlaces}
 use Rattle.wc_machine.specs.Machine.{Event, IsLive, Leads, after_changes, kill, kills, marked, pause, pauses, pause_changes, play, plays, play_changes, renewed}
 use Rattle.wc_machine.specs.Sound.{IsSound}
-use Rattle.wc_soundness.proofs.KillOrder.{all_below, change_of, changes_are}
-use Rattle.wc_soundness.proofs.Calculations.{pause_accepted, play_accepted}
-use Rattle.wc_soundness.proofs.AcceptedKills.{kill_accepted}
-use Rattle.wc_refusal.specs.Refusals.{FullOfBatches, NoneHolds, RefusesLive}
-use Rattle.wc_refusal.specs.declared.error.TurnError.{TurnError}
-use Rattle.wc_refusal.specs.declared.error.TurnError.TheVariants as error
-use Rattle.wc_refusal.proofs.Counted.{nodes_more}
-use Rattle.wc_refusal.proofs.Rooms.{none_full_batch}
+use Rattle.wc_laws.proofs.KillOrder.{all_below, change_of, changes_are}
+use Rattle.wc_laws.proofs.CalculationEvents.{pause_accepted, play_accepted}
+use Rattle.wc_laws.proofs.AcceptedKills.{kill_accepted}
+use Rattle.wc_machine.specs.Refusals.{FullOfBatches, NoneHolds, RefusesLive}
+use Rattle.wc_machine.specs.declared.error.TurnError.{TurnError}
+use Rattle.wc_machine.specs.declared.error.TurnError.TheVariants as error
+use Rattle.wc_machine.proofs.Counted.{nodes_more}
+use Rattle.wc_machine.proofs.Rooms.{none_full_batch}
 use Rattle.wc_core.specs.Refusals.{AreChangesOf, RefusesMark}
 use Rattle.wc_core.proofs.Happening.{its_changes, leaves_sound}
 use Rattle.wc_core.proofs.Turns.{found_itself}

@@ -2,17 +2,17 @@
 use Rattle.std.proofs.Common.{◌≡◌, ℕ, ◌+◌, List, length, Some, None, true, refl}
 use Rattle.wc_syntax.specs.Findings.{head_of, definition_named}
 use Rattle.wc_syntax.specs.declared.definition.Definition.{Definition}
-use Rattle.wc_calculation.specs.Rules.{Values}
+use Rattle.wc_semantics.specs.Rules.{Values}
 use Rattle.wc_state.specs.declared.record.What.{What}
 use Rattle.wc_meaning.specs.Inputs.{bad_input}
 use Rattle.wc_world.specs.World.{World}
 use Rattle.wc_world.specs.Applied.{applied}
 use Rattle.wc_machine.specs.Submitting.{AreInputs, IsKeptLibrary, submission}
 use Rattle.wc_world.specs.Fits.{names_ascend}
-use Rattle.wc_refusal.specs.declared.error.TurnError.{TurnError}
-use Rattle.wc_refusal.specs.declared.error.TurnError.TheVariants as error
-use Rattle.wc_refusal.specs.Refusals.{AreFew, AreTooMany, HasRoom, IsFull, RefusesCounts, RefusesSubmission}
-use Rattle.wc_refusal.proofs.Rooms.{said_of}
+use Rattle.wc_machine.specs.declared.error.TurnError.{TurnError}
+use Rattle.wc_machine.specs.declared.error.TurnError.TheVariants as error
+use Rattle.wc_machine.specs.Refusals.{AreFew, AreTooMany, HasRoom, IsFull, RefusesCounts, RefusesSubmission}
+use Rattle.wc_machine.proofs.Rooms.{said_of}
 use Rattle.wc_core.proofs.Counted.{nodes_submitted, batches_submitted}
 
 module _ (w : World) (library : List Definition) (caching : List (List ℕ)) (name : List ℕ) (inputs : Values) (most : ℕ) where

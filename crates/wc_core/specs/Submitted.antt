@@ -2,7 +2,7 @@
 use Rattle.std.specs.Prelude.{◌≡◌, ℕ, suc, Bool, List, [], length, Some, None}
 use Rattle.wc_syntax.specs.Findings.{head_of, definition_named}
 use Rattle.wc_syntax.specs.declared.definition.Definition.{Definition}
-use Rattle.wc_calculation.specs.Rules.{Values}
+use Rattle.wc_semantics.specs.Rules.{Values}
 use Rattle.wc_state.specs.declared.record.ProcessKind.{ProcessKind}
 use Rattle.wc_meaning.specs.Inputs.{bad_input}
 use Rattle.wc_world.specs.declared.change.Change.{Change}

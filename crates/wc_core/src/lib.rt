@@ -19,4 +19,4 @@ pub use readiness::{is_ready, ready};
 pub use standing::{Standing, standing_of};
 pub use submitting::submit_changes;
 pub use turning::turn;
-pub use wc_refusal::TurnError;
+pub use wc_machine::TurnError;

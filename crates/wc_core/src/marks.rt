@@ -7,13 +7,13 @@ ghost use Rattle.wc_machine.specs.Continues.{Continues};
 ghost use Rattle.wc_machine.specs.Killing.{kill_changes as changes_of_kill};
 ghost use Rattle.wc_machine.specs.Machine.{after_changes, kill, marked, pause, pause_changes as changes_of_pause, play, play_changes as changes_of_play, renewed};
 ghost use Rattle.wc_machine.specs.Sound.{IsSound};
-ghost use Rattle.wc_refusal.specs.Refusals.{FullOfBatches, NoneHolds};
+ghost use Rattle.wc_machine.specs.Refusals.{FullOfBatches, NoneHolds};
 ghost use Rattle.wc_core.specs.Refusals.{AreChangesOf, RefusesMark};
 
 use std::alloc::{AllocError, Global};
+use wc_changes::kill;
 use wc_job::anew;
-use wc_kill_changes::kill;
-use wc_refusal::{TurnError, check_batch, live_process};
+use wc_machine::{TurnError, check_batch, live_process};
 use wc_state::{Part, ProcessRecord};
 use wc_value::Duplicate;
 use wc_world::{Change, Changes, SetProcess, World, reached_worlds_are_consistent};

@@ -4,15 +4,15 @@ ghost use Rattle.std.specs.Prelude.{◌≡◌, Some, IfOk, IfErr, IsSome, OnOk};
 ghost use Rattle.wc_world.specs.Records.{find_record};
 ghost use Rattle.wc_machine.specs.Asking.{with_request};
 ghost use Rattle.wc_machine.specs.Recorded.{recorded_request};
-ghost use Rattle.wc_refusal.specs.Refusals.{NoneHolds};
+ghost use Rattle.wc_machine.specs.Refusals.{NoneHolds};
 ghost use Rattle.wc_core.specs.Asks.{asks_of, asks_task, task_at, IsNeedAt};
 ghost use Rattle.wc_core.specs.Refusals.{RefusesNeed};
 
 use std::alloc::{AllocError, Global};
 use wc_cache::{definition_of, recorded_inputs};
-use wc_calculation::request_of;
 use wc_expression::Outcome;
-use wc_refusal::TurnError;
+use wc_machine::TurnError;
+use wc_semantics::request_of;
 use wc_state::{Part, ProcessRecord, Task};
 use wc_syntax::Definition;
 use wc_value::{ProcessState, Request};

@@ -13,13 +13,13 @@ ghost use Rattle.wc_machine.specs.Continues.{Continues};
 ghost use Rattle.wc_machine.specs.Sound.{IsSound};
 ghost use Rattle.wc_machine.specs.Submitting.{data_change, input_link, links_from, submitted_number, submission, Submits};
 ghost use Rattle.wc_state.specs.Ranges.{AreLimits};
-ghost use Rattle.wc_refusal.specs.Refusals.{HasRoom, NoneHolds, RefusesSubmission, RefusesName};
+ghost use Rattle.wc_machine.specs.Refusals.{HasRoom, NoneHolds, RefusesSubmission, RefusesName};
 ghost use Rattle.wc_core.specs.Submitted.{root, Takes};
 
 use std::alloc::{AllocError, Global};
 use wc_graph::{Link, LinkType};
+use wc_machine::{TurnError, check_room};
 use wc_meaning::{find_bad_input, find_definition, head};
-use wc_refusal::{TurnError, check_room};
 use wc_state::{Limits, ProcessKind};
 use wc_syntax::{Checked, Definition};
 use wc_value::{Duplicate, Fields, Text, Words};

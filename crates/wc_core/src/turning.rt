@@ -11,8 +11,8 @@ ghost use Rattle.wc_machine.specs.Machine.{turn};
 ghost use Rattle.wc_machine.specs.Readiness.{is_ready};
 ghost use Rattle.wc_machine.specs.Sound.{IsSound, OutputsAscend};
 ghost use Rattle.wc_machine.specs.Turning.{TurnGives};
-ghost use Rattle.wc_soundness.specs.ListLaws.{AreItsChanges};
-ghost use Rattle.wc_refusal.specs.Refusals.{FullOf, HasRoom, NoneHolds};
+ghost use Rattle.wc_laws.specs.ListLaws.{AreItsChanges};
+ghost use Rattle.wc_machine.specs.Refusals.{FullOf, HasRoom, NoneHolds};
 ghost use Rattle.wc_core.specs.Asks.{FitsAt};
 ghost use Rattle.wc_core.specs.Refusals.{RefusesTurn};
 
@@ -20,8 +20,7 @@ use crate::readiness::is_ready;
 use std::alloc::Global;
 use wc_calculation_turns::calculation_turn;
 use wc_chain_turns::chain_turn;
-use wc_machine::TaskAnswer;
-use wc_refusal::TurnError;
+use wc_machine::{TaskAnswer, TurnError};
 use wc_state::{Limits, Part, ProcessKind, ProcessRecord};
 use wc_world::{Changes, World, reached_worlds_are_consistent};
 

@@ -8,7 +8,7 @@ use Rattle.wc_syntax.specs.declared.definition.Definition.{Definition}
 use Rattle.wc_syntax.specs.declared.definition.Definition.TheVariants as definition
 use Rattle.wc_journal.specs.declared.journal.Journal.{Journal}
 use Rattle.wc_state.specs.declared.record.Limits.{Limits}
-use Rattle.wc_calculation.specs.Rules.{Values}
+use Rattle.wc_semantics.specs.Rules.{Values}
 use Rattle.wc_meaning.specs.Inputs.{bad_input}
 use Rattle.wc_world.specs.declared.change.Change.{Change}
 use Rattle.wc_world.specs.declared.change.Change.TheVariants as change
@@ -17,11 +17,11 @@ use Rattle.wc_world.specs.Accepted.{IsAccepted}
 use Rattle.wc_world.specs.Applied.{applied}
 use Rattle.wc_machine.specs.Machine.{Leads, submits}
 use Rattle.wc_machine.specs.Submitting.{Submits}
-use Rattle.wc_soundness.specs.AcceptedLaws.{IsPlain}
-use Rattle.wc_soundness.proofs.Parts.{events_are_plain}
-use Rattle.wc_refusal.specs.Refusals.{HasRoom, RefusesSubmission}
-use Rattle.wc_refusal.specs.declared.error.TurnError.{TurnError}
-use Rattle.wc_refusal.specs.declared.error.TurnError.TheVariants as turn_error
+use Rattle.wc_laws.specs.AcceptedLaws.{IsPlain}
+use Rattle.wc_laws.proofs.Parts.{events_are_plain}
+use Rattle.wc_machine.specs.Refusals.{HasRoom, RefusesSubmission}
+use Rattle.wc_machine.specs.declared.error.TurnError.{TurnError}
+use Rattle.wc_machine.specs.declared.error.TurnError.TheVariants as turn_error
 use Rattle.wc_store.specs.Held.{is_plain}
 use Rattle.wc_store.specs.declared.error.StoreError.TheVariants as store_error
 use Rattle.wc_runner.specs.Refusals.{Counts, RefusesStored, is_live_after}
@@ -29,8 +29,8 @@ use Rattle.wc_runner.specs.Turning.{IsRoomOrMemory, of_turn}
 use Rattle.wc_runner.specs.declared.error.RunError.{RunError}
 use Rattle.wc_runner.specs.declared.error.RunError.TheVariants.{DiskFault, Full, OutOfMemory}
 use Rattle.wc_runner.proofs.Journals.{commit_by}
-use Rattle.wc_generated.specs.Library.{chain_inputs, chain_name, library, pair}
-use Rattle.wc_generated.proofs.Given.{named}
+use Rattle.wc_drill.specs.Library.{chain_inputs, chain_name, library, pair}
+use Rattle.wc_drill.proofs.Given.{named}
 use Rattle.wc_drill.specs.Drilled.{IsSubmitted, submits_chain, usual_limits}
 use Rattle.wc_drill.specs.Storing.{IsCrowded, IsStorable, RefusesChain}
 

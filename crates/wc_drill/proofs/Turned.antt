@@ -18,8 +18,8 @@ use Rattle.wc_runner.specs.Outside.{Outside, in_run}
 use Rattle.wc_runner.specs.Refusals.{RefusesRun}
 use Rattle.wc_runner.specs.Running.{TakesTurns, TakesAll, TakesUpTo, TakesWithin, EndsAs, FitsAfter}
 use Rattle.wc_runner.proofs.Widened.{Widens, step_widened, turns_widened}
-use Rattle.wc_generated.specs.Squares.{square_rows}
-use Rattle.wc_generated.proofs.Rows.{row_is_squared}
+use Rattle.wc_drill.specs.Squares.{square_rows}
+use Rattle.wc_drill.proofs.Rows.{row_is_squared}
 use Rattle.wc_drill.specs.Drilled.{outside, usual_limits}
 use Rattle.wc_drill.specs.Running.{EndsSo, TakesJust}
 

@@ -12,7 +12,7 @@ use Rattle.wc_runner.specs.declared.error.RunError.TheVariants.{DiskFault, Full,
 use Rattle.wc_runner.specs.Leaves.{LeavesWorlds, of_world}
 use Rattle.wc_runner.proofs.Leaving.{leaves_on, stands_leaves}
 use Rattle.wc_runner.specs.Refusals.{Counts}
-use Rattle.wc_generated.specs.Draws.{first_number, second_number}
+use Rattle.wc_drill.specs.Draws.{first_number, second_number}
 use Rattle.wc_drill.specs.Drilled.{IsSubmitted, Submitted, none, one_more}
 use Rattle.wc_drill.specs.Refusals.{RefusesChains}
 use Rattle.wc_drill.specs.Storing.{IsOrSubmitted, RefusesChain, SubmittedSome}

@@ -10,9 +10,9 @@ use Rattle.wc_core.specs.Standing.{is_any_live}
 use Rattle.wc_runner.specs.Leaves.{SomeTurns}
 use Rattle.wc_runner.specs.Outside.{Outside}
 use Rattle.wc_runner.specs.Running.{TakesTurns}
-use Rattle.wc_generated.specs.Draws.{first_number, second_number}
-use Rattle.wc_generated.specs.Library.{library, chain_name, chain_inputs}
-use Rattle.wc_generated.specs.Squares.{IsSquared}
+use Rattle.wc_drill.specs.Draws.{first_number, second_number}
+use Rattle.wc_drill.specs.Library.{library, chain_name, chain_inputs}
+use Rattle.wc_drill.specs.Squares.{IsSquared}
 
 -- ---- what is fixed
 

@@ -4,3 +4,8 @@ pub mod Running
 pub mod Refusals
 pub mod Leaves
 pub mod Sound
+pub mod Library
+pub mod Squares
+pub mod Draws
+pub mod Texts
+pub mod GeneratedRefusals

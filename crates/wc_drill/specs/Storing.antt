@@ -6,7 +6,7 @@ use Rattle.wc_world.specs.World.{World}
 use Rattle.wc_world.specs.Accepted.{IsAccepted}
 use Rattle.wc_world.specs.Applied.{applied}
 use Rattle.wc_machine.specs.Machine.{Leads}
-use Rattle.wc_refusal.specs.Refusals.{IsFull}
+use Rattle.wc_machine.specs.Refusals.{IsFull}
 use Rattle.wc_store.specs.Held.{is_plain}
 use Rattle.wc_store.specs.Refusals.{RefusesCommit}
 use Rattle.wc_store.specs.declared.error.StoreError.TheVariants as store_error

@@ -1,12 +1,23 @@
-//! A drill: a store made from a number, in which generated chains are submitted and run.
+//! A drill: a store made from a number, in which generated chains are submitted and run; with the library of these chains, the
+//! numbers that are drawn for them, the table of their jobs, and the text of a drill.
 #![tactic(auto)]
 
 mod drilling;
 mod error;
+mod inputs;
 mod laws;
+mod library;
+mod numbers;
 mod running;
+mod squares;
 mod submitting;
+mod text;
 
 pub use drilling::drill;
 pub use error::DrillError;
+pub use inputs::{chain_inputs, chain_name};
 pub use laws::drills_are_sound;
+pub use library::chain_library;
+pub use numbers::{next_numbers, sum_of_squares};
+pub use squares::square_table;
+pub use text::drilled_text;

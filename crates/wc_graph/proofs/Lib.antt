@@ -2,3 +2,14 @@ pub mod Correct
 pub mod Walking
 pub mod Indexing
 pub mod Labelling
+pub mod JoinedWalks
+pub mod Flooding
+pub mod Restoring
+pub mod Reaching
+pub mod Nearing
+pub mod Exactly
+pub mod Linked
+pub mod Settling
+pub mod Counting
+pub mod Ready
+pub mod Placing

@@ -5,3 +5,9 @@ pub mod Index
 pub mod Broken
 pub mod Walks
 pub mod Labels
+pub mod Choice
+pub mod Near
+pub mod Flood
+pub mod Reached
+pub mod Cycle
+pub mod Order

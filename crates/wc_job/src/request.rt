@@ -21,7 +21,7 @@ fn request_of_definition(
     ensures { IfOk result (λ asked. request_by (option_copied definition.entry) inputs.now ≡ Some asked) }
 {
     match definition {
-        Some(Definition::Job(job)) => wc_calculation::request_of(alloc, job, inputs),
+        Some(Definition::Job(job)) => wc_semantics::request_of(alloc, job, inputs),
         _ => unreachable!(),
     }
 }

@@ -8,7 +8,7 @@ use Rattle.std.specs.Ordering.{nat_cmp}
 use Rattle.std.proofs.lemmas.Map.Lookups.{exact_unsigned, exact_bytes, exact_pairs}
 use Rattle.sha2.specs.declared.Sha256.{Sha256}
 use Rattle.sha2.specs.Hashers.{Holds256}
-use Rattle.wc_seals.specs.Keys.{key_start}
+use Rattle.wc_keys.specs.SealKeys.{key_start}
 use Rattle.wc_fits.specs.World.{Known}
 use Rattle.wc_keys.specs.Beginnings.{Place, place_cmp, text_at, AreBegun}
 

@@ -5,3 +5,13 @@ pub mod HashersKept
 pub mod TextDigests
 pub mod OneEntry
 pub mod SealEntries
+pub mod Added
+pub mod KeySpelled
+pub mod Orders
+pub mod Sorting
+pub mod Parts
+pub mod Exact
+pub mod Gaps
+pub mod Joined
+pub mod Moving
+pub mod TwoLists

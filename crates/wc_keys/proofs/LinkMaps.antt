@@ -25,7 +25,7 @@ use Rattle.wc_graph.specs.Rules.{IsLinkCorrect}
 use Rattle.wc_graph.specs.Index.{Skips, target_of}
 use Rattle.wc_graph.specs.declared.node.NodeKind.{NodeKind}
 use Rattle.wc_graph.specs.declared.link.Link.{Link}
-use Rattle.wc_seals.proofs.Orders.{same_digest}
+use Rattle.wc_keys.proofs.Orders.{same_digest}
 use Rattle.wc_fits.proofs.LinkWalks.{Passes, walk_begins, walk_on}
 use Rattle.wc_keys.specs.Ports.{input_value, is_behind, plain_inputs, entries_behind, entry_by, with_input, input_links, LinkMap, by_port, links_in, link_bytes}
 use Rattle.wc_keys.proofs.Ports.{names_in_order, less_is_before, weaker, is_given, not_given, input_first, none_left}

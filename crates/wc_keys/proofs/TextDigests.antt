@@ -12,10 +12,10 @@ use Rattle.wc_syntax.specs.Printing.{printed_definition}
 use Rattle.wc_graph.specs.declared.node.NodeKind.{NodeKind}
 use Rattle.wc_graph.specs.declared.link.Link.{Link}
 use Rattle.wc_state.specs.declared.record.ProcessRecord.{ProcessRecord}
-use Rattle.wc_seals.specs.Hashing.{Adds}
-use Rattle.wc_seals.specs.Keys.{key_start, key_value}
-use Rattle.wc_seals.proofs.Added.{adds_both}
-use Rattle.wc_seals.proofs.KeySpelled.{key_spelled}
+use Rattle.wc_keys.specs.Hashing.{Adds}
+use Rattle.wc_keys.specs.SealKeys.{key_start, key_value}
+use Rattle.wc_keys.proofs.Added.{adds_both}
+use Rattle.wc_keys.proofs.KeySpelled.{key_spelled}
 use Rattle.wc_fits.specs.World.{Known}
 use Rattle.wc_fits.specs.Records.{definition_in}
 use Rattle.wc_keys.specs.Beginnings.{text_at, IsDigestOf}

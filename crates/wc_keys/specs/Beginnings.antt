@@ -11,7 +11,7 @@ use Rattle.sha2.specs.Hashers.{Holds256}
 use Rattle.wc_value.specs.Spelling.{spelling}
 use Rattle.wc_value.specs.declared.value.Value.{Value}
 use Rattle.wc_syntax.specs.Printing.{printed_definition}
-use Rattle.wc_seals.specs.Keys.{key_start, key_value}
+use Rattle.wc_keys.specs.SealKeys.{key_start, key_value}
 use Rattle.wc_fits.specs.World.{Known}
 use Rattle.wc_fits.specs.Records.{definition_in}
 

@@ -11,9 +11,9 @@ use Rattle.wc_syntax.specs.Printing.{printed_definition}
 use Rattle.wc_graph.specs.declared.node.NodeKind.{NodeKind}
 use Rattle.wc_graph.specs.declared.link.Link.{Link}
 use Rattle.wc_state.specs.declared.record.ProcessRecord.{ProcessRecord}
-use Rattle.wc_seals.specs.declared.marking.Sealed.{Sealed}
-use Rattle.wc_seals.specs.Keys.{key_value}
-use Rattle.wc_seals.specs.Order.{AreSealsOf}
+use Rattle.wc_keys.specs.declared.marking.Sealed.{Sealed}
+use Rattle.wc_keys.specs.SealKeys.{key_value}
+use Rattle.wc_keys.specs.Order.{AreSealsOf}
 use Rattle.wc_fits.specs.World.{World, Known}
 use Rattle.wc_fits.specs.Records.{find_record, definition_in, is_calculation}
 use Rattle.wc_fits.specs.Values.{inputs_after, inputs_of, values_alone}

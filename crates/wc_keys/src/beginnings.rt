@@ -3,14 +3,14 @@
 ghost use Rattle.std.specs.Prelude.{◌≡◌, ℕ, List, Some, IfOk, OnOk};
 ghost use Rattle.std.specs.BTreeMap.{get};
 ghost use Rattle.sha2.specs.Hashers.{Holds256};
-ghost use Rattle.wc_seals.specs.Keys.{key_start};
+ghost use Rattle.wc_keys.specs.SealKeys.{key_start};
 ghost use Rattle.wc_fits.specs.World.{Known};
 ghost use Rattle.wc_keys.specs.Beginnings.{place_cmp, text_at, AreBegun};
 
+use crate::key_hasher;
 use sha2::Sha256;
 use std::alloc::{AllocError, Global};
 use std::collections::BTreeMap;
-use wc_seals::key_hasher;
 use wc_state::ProcessRecord;
 use wc_value::Text;
 

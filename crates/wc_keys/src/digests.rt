@@ -4,7 +4,7 @@ ghost use Rattle.std.specs.Prelude.{◌≡◌, ◌++◌, None, if◌then◌else�
 ghost use Rattle.std.specs.Option.{option_copied};
 ghost use Rattle.sha2.specs.Sha256.{sha256};
 ghost use Rattle.wc_value.specs.Spelling.{spelling};
-ghost use Rattle.wc_seals.specs.Keys.{key_value};
+ghost use Rattle.wc_keys.specs.SealKeys.{key_value};
 ghost use Rattle.wc_keys.specs.Beginnings.{text_at, AreBegun, IsDigestOf};
 ghost use Rattle.wc_keys.specs.Keys.{has_finished, is_finished_calculation, digest_by, digest_from, entry_of, entries_in};
 ghost use Rattle.wc_keys.specs.Ports.{plain_inputs};
@@ -12,13 +12,13 @@ ghost use Rattle.wc_keys.specs.Ports.{plain_inputs};
 use crate::beginnings::{Beginnings, begin};
 use crate::inputs::{count_inputs, put_inputs};
 use crate::links::{links_of, put_links};
+use crate::{Sealed, finish, key_hasher, put_count};
 use sha2::Sha256;
 use std::alloc::{AllocError, Global};
 use std::collections::BTreeMap;
 use wc_fits::{Known, is_calculation, library_at};
 use wc_graph::Graph;
 use wc_records::Records;
-use wc_seals::{Sealed, finish, key_hasher, put_count};
 use wc_state::ProcessRecord;
 use wc_value::{ProcessState, Text};
 

@@ -2,13 +2,25 @@
 //! inputs as the links have them, one after another in the order of their ports, and their entries are kept while a world
 //! changes.
 //!
-//! Contracts see the graph, the records and the libraries, of which a world is made.
+//! Contracts see the graph, the records and the libraries, of which a world is made, the entries in order, and how many of
+//! them there are places for.
 #![tactic(auto)]
 
 mod beginnings;
 mod digests;
+mod hashing;
 mod inputs;
+mod joining;
+mod keys;
+mod laws;
 mod links;
+mod marking;
 mod sealing;
+mod seals;
 
+pub use hashing::{digest_of, finish, put_count};
+pub use keys::{key_hasher, put_entry};
+pub use laws::seals_are_one;
+pub use marking::Sealed;
 pub use sealing::{seal, seals_of, unseal};
+pub use seals::Seals;

@@ -1,7 +1,7 @@
 //! The links of the inputs of a process that has very many, put in order once. That takes memory.
 
 ghost use Rattle.std.specs.Prelude.{◌≡◌, flat_map, IfOk, OnOk};
-ghost use Rattle.wc_seals.specs.Hashing.{Adds};
+ghost use Rattle.wc_keys.specs.Hashing.{Adds};
 ghost use Rattle.wc_keys.specs.Ports.{with_input, input_links, by_port, links_in, link_bytes};
 
 use crate::inputs::put_input;

@@ -1,16 +1,16 @@
 //! The entries of calculations that have finished: all at once, and one while a change is applied.
 
 ghost use Rattle.std.specs.Prelude.{◌≡◌, ◌≤◌, length, IfOk};
-ghost use Rattle.wc_seals.specs.Order.{AreSealsOf, without};
+ghost use Rattle.wc_keys.specs.Order.{AreSealsOf, without};
 ghost use Rattle.wc_fits.specs.Records.{Ascend};
 ghost use Rattle.wc_keys.specs.Keys.{digest_from};
 
+use crate::Seals;
 use crate::digests::{entries_in, entry_of};
 use std::alloc::{AllocError, Global};
 use wc_fits::{Known, Libraries};
 use wc_graph::Graph;
 use wc_records::Records;
-use wc_seals::Seals;
 
 /// The entries of all calculations that have finished, with a place for each process.
 pub fn seals_of(

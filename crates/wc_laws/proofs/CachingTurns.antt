@@ -10,10 +10,10 @@ use Rattle.wc_syntax.specs.declared.definition.Job.{Job}
 use Rattle.wc_expression.specs.declared.outcome.Outcome.TheVariants.{Faults}
 use Rattle.wc_graph.specs.Rules.{node_of}
 use Rattle.wc_graph.specs.declared.node.NodeKind.{NodeKind}
-use Rattle.wc_calculation.specs.declared.outcomes.Parsed.{Parsed}
-use Rattle.wc_calculation.specs.Outcomes.{excepted, calculated}
-use Rattle.wc_calculation.specs.Requests.{request}
-use Rattle.wc_calculation.specs.Rules.{Values}
+use Rattle.wc_semantics.specs.declared.outcomes.Parsed.{Parsed}
+use Rattle.wc_semantics.specs.Outcomes.{excepted, calculated}
+use Rattle.wc_semantics.specs.Requests.{request}
+use Rattle.wc_semantics.specs.Rules.{Values}
 use Rattle.wc_state.specs.declared.record.ProcessRecord.{ProcessRecord}
 use Rattle.wc_world.specs.World.{World}
 use Rattle.wc_world.specs.Accepted.{IsAccepted, Setting, setting, is_snapshot, is_source, kepts, kept_of, kept_started, kept_ended}

@@ -19,7 +19,7 @@ use Rattle.wc_expression.specs.declared.outcome.Outcome.{Outcome}
 use Rattle.wc_expression.specs.declared.outcome.Outcome.TheVariants.{Gives, Faults}
 use Rattle.wc_expression.specs.Outcomes.{◌>>=◌}
 use Rattle.wc_expression.specs.Val.{val, holds}
-use Rattle.wc_calculation.specs.Rules.{Values, is_taken, status_of}
+use Rattle.wc_semantics.specs.Rules.{Values, is_taken, status_of}
 use Rattle.wc_semantics.specs.Meaning.{takes_of, kinds_of}
 use Rattle.wc_semantics.specs.Run.{label, picked}
 use Rattle.wc_machine.specs.Advancing.{popped, past, at_head, first_block, numbered_arms, after_arms, other_number, chosen, turned, after_step, done, does, at_innermost, advance}

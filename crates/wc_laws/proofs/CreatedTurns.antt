@@ -4,9 +4,9 @@ use Rattle.std.proofs.lemmas.List.{length-append}
 use Rattle.wc_syntax.specs.declared.definition.Chain.{Chain}
 use Rattle.wc_syntax.specs.declared.definition.Definition.{Definition}
 use Rattle.wc_syntax.specs.declared.definition.Definition.TheVariants as definition
-use Rattle.wc_calculation.specs.declared.outcomes.Parsed.{Parsed}
-use Rattle.wc_calculation.specs.Outcomes.{excepted}
-use Rattle.wc_calculation.specs.Rules.{Values}
+use Rattle.wc_semantics.specs.declared.outcomes.Parsed.{Parsed}
+use Rattle.wc_semantics.specs.Outcomes.{excepted}
+use Rattle.wc_semantics.specs.Rules.{Values}
 use Rattle.wc_state.specs.declared.record.JobPart.{JobPart}
 use Rattle.wc_state.specs.declared.record.Part.TheVariants as part
 use Rattle.wc_state.specs.declared.record.ProcessKind.{ProcessKind}

@@ -9,7 +9,7 @@ use Rattle.wc_value.specs.declared.process.Tree.{Tree, Tree-F, out-Tree, out-rol
 use Rattle.wc_syntax.specs.Findings.{definition_named}
 use Rattle.wc_syntax.specs.declared.definition.Definition.{Definition}
 use Rattle.wc_graph.specs.declared.link.Link.{Link}
-use Rattle.wc_calculation.specs.Rules.{Values}
+use Rattle.wc_semantics.specs.Rules.{Values}
 use Rattle.wc_expression.specs.declared.outcome.Outcome.TheVariants.{Gives}
 use Rattle.wc_semantics.specs.Tables.{Label, Path}
 use Rattle.wc_state.specs.declared.record.ProcessRecord.{ProcessRecord}

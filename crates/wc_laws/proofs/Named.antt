@@ -29,7 +29,7 @@ use Rattle.wc_expression.specs.Contents.{Seen, bool_of}
 use Rattle.wc_expression.specs.Environment.{child, child_of, children, children_of}
 use Rattle.wc_expression.specs.Outcomes.{◌>>=◌, mapped, found}
 use Rattle.wc_expression.specs.Val.{Meant, form, limited, val, val_form, holds}
-use Rattle.wc_calculation.specs.Rules.{fits_port, fitting}
+use Rattle.wc_semantics.specs.Rules.{fits_port, fitting}
 use Rattle.wc_semantics.specs.Run.{picked}
 use Rattle.wc_semantics.specs.Statements.{names_data, datum, argument, output as run_output}
 use Rattle.wc_world.specs.Trees.{NamedValues}

@@ -4,10 +4,10 @@ use Rattle.std.specs.Prelude.{All, ◌==◌, ◌&&◌, if◌then◌else◌, nat_
 use Rattle.std.proofs.lemmas.Bool.{cases_eq, cases_lt, eqb-true}
 use Rattle.wc_value.specs.Ascending.{lookup}
 use Rattle.wc_syntax.specs.Findings.{definition_named}
-use Rattle.wc_calculation.specs.Outcomes.{calculated, parsed}
-use Rattle.wc_calculation.specs.Requests.{request}
-use Rattle.wc_calculation.specs.Rules.{Values}
-use Rattle.wc_calculation.specs.declared.outcomes.Parsed.{Parsed}
+use Rattle.wc_semantics.specs.Outcomes.{calculated, parsed}
+use Rattle.wc_semantics.specs.Requests.{request}
+use Rattle.wc_semantics.specs.Rules.{Values}
+use Rattle.wc_semantics.specs.declared.outcomes.Parsed.{Parsed}
 use Rattle.wc_state.specs.declared.record.ProcessRecord.{ProcessRecord}
 use Rattle.wc_world.specs.World.{World}
 use Rattle.wc_world.specs.Consistent.{IsConsistent, Stands, is_earlier_source, source_stands}

@@ -11,7 +11,7 @@ use Rattle.wc_value.proofs.Puts.{ascends_put}
 use Rattle.wc_graph.specs.declared.link.Link.{Link}
 use Rattle.wc_graph.specs.declared.node.NodeKind.{NodeKind}
 use Rattle.wc_graph.specs.declared.node.NodeKind.TheVariants as node
-use Rattle.wc_calculation.specs.Rules.{Values}
+use Rattle.wc_semantics.specs.Rules.{Values}
 use Rattle.wc_world.specs.Consistent.{IsShallow}
 use Rattle.wc_world.specs.Records.{is_output_of}
 use Rattle.wc_world.specs.Trees.{data_of, value_of}

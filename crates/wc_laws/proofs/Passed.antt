@@ -29,7 +29,7 @@ use Rattle.wc_state.specs.declared.record.Frame.{Frame}
 use Rattle.wc_expression.specs.declared.outcome.Outcome.{Outcome}
 use Rattle.wc_expression.specs.declared.outcome.Outcome.TheVariants.{Gives, Faults}
 use Rattle.wc_expression.specs.Val.{val, holds}
-use Rattle.wc_calculation.specs.Rules.{Values, is_taken, status_of}
+use Rattle.wc_semantics.specs.Rules.{Values, is_taken, status_of}
 use Rattle.wc_semantics.specs.Meaning.{takes_of, kinds_of}
 use Rattle.wc_semantics.specs.Run.{picked}
 use Rattle.wc_semantics.specs.Statements.{keyed}

@@ -2,10 +2,10 @@
 use Rattle.std.proofs.Common.{◌≡◌, ℕ, true, Option, Some, ap, subst, ◌∙◌}
 use Rattle.std.specs.Prelude.{codes, option_and_then}
 use Rattle.wc_value.specs.Ascending.{lookup}
-use Rattle.wc_calculation.specs.declared.outcomes.Parsed.{Parsed}
-use Rattle.wc_calculation.specs.Outcomes.{calculated, parsed}
-use Rattle.wc_calculation.specs.Requests.{request}
-use Rattle.wc_calculation.specs.Rules.{Values}
+use Rattle.wc_semantics.specs.declared.outcomes.Parsed.{Parsed}
+use Rattle.wc_semantics.specs.Outcomes.{calculated, parsed}
+use Rattle.wc_semantics.specs.Requests.{request}
+use Rattle.wc_semantics.specs.Rules.{Values}
 use Rattle.wc_state.specs.declared.record.ProcessRecord.{ProcessRecord}
 use Rattle.wc_world.specs.World.{World}
 use Rattle.wc_world.specs.Records.{find_record, has_ended}

@@ -13,7 +13,7 @@ use Rattle.wc_graph.specs.declared.link.Link.{Link}
 use Rattle.wc_graph.specs.declared.link.LinkType.{LinkType}
 use Rattle.wc_graph.specs.declared.link.LinkType.TheVariants as link
 use Rattle.wc_graph.specs.declared.node.NodeKind.{NodeKind}
-use Rattle.wc_calculation.specs.Rules.{Values}
+use Rattle.wc_semantics.specs.Rules.{Values}
 use Rattle.wc_semantics.specs.Meaning.{is_killed, meaning}
 use Rattle.wc_semantics.specs.Tables.{Label, Path, Table, Kills}
 use Rattle.wc_semantics.specs.declared.progress.Answer.{Answer}

@@ -7,8 +7,8 @@ use Rattle.std.proofs.lemmas.List.Elements.{All-nil, All-cons}
 use Rattle.wc_syntax.specs.declared.definition.Definition.{Definition}
 use Rattle.wc_graph.specs.declared.link.LinkType.TheVariants.{Create}
 use Rattle.wc_graph.specs.declared.node.NodeKind.{NodeKind}
-use Rattle.wc_calculation.specs.Rules.{Values}
-use Rattle.wc_calculation.specs.declared.outcomes.Parsed.{Parsed}
+use Rattle.wc_semantics.specs.Rules.{Values}
+use Rattle.wc_semantics.specs.declared.outcomes.Parsed.{Parsed}
 use Rattle.wc_state.specs.declared.record.ProcessKind.{ProcessKind}
 use Rattle.wc_state.specs.declared.record.ProcessKind.TheVariants as kind
 use Rattle.wc_state.specs.declared.record.ProcessRecord.{ProcessRecord}

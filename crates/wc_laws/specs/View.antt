@@ -9,7 +9,7 @@ use Rattle.wc_state.specs.declared.environment.Env.{Env}
 use Rattle.wc_state.specs.declared.environment.Item.{Item}
 use Rattle.wc_state.specs.declared.environment.Item.TheVariants as item
 use Rattle.wc_state.specs.declared.record.Checkpoint.{Checkpoint}
-use Rattle.wc_calculation.specs.Rules.{Values}
+use Rattle.wc_semantics.specs.Rules.{Values}
 use Rattle.wc_semantics.specs.declared.progress.Progress.{Progress}
 use Rattle.wc_semantics.specs.Tables.{Label}
 use Rattle.wc_world.specs.Trees.{NamedValues}

@@ -21,8 +21,8 @@ use Rattle.wc_expression.specs.declared.outcome.Outcome.TheVariants.{Gives, Faul
 use Rattle.wc_expression.specs.Outcomes.{◌>>=◌}
 use Rattle.wc_expression.specs.Val.{val}
 use Rattle.wc_expression.proofs.Within.{val_levels}
-use Rattle.wc_calculation.specs.Rules.{Values, End, env_of, bound, kind_of_port, fits_port, fitting, output_of, is_taken, status_of, run_rules}
-use Rattle.wc_calculation.specs.Outcomes.{concluded, calculated}
+use Rattle.wc_semantics.specs.Rules.{Values, End, env_of, bound, kind_of_port, fits_port, fitting, output_of, is_taken, status_of, run_rules}
+use Rattle.wc_semantics.specs.Outcomes.{concluded, calculated}
 use Rattle.wc_machine.specs.Submitting.{AreInputs}
 
 abbrev IsLow : List ℕ × Value → Type 0

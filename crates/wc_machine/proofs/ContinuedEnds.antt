@@ -1,7 +1,7 @@
 -- What the end of one process leaves of the records.
 use Rattle.std.proofs.Common.{◌≡◌, ℕ, ℤ, false, Option, Some, List, refl, sym, ap, ◌∙◌}
 use Rattle.std.specs.Prelude.{option_map}
-use Rattle.wc_calculation.specs.declared.outcomes.Parsed.{Parsed}
+use Rattle.wc_semantics.specs.declared.outcomes.Parsed.{Parsed}
 use Rattle.wc_state.specs.declared.record.ProcessRecord.{ProcessRecord}
 use Rattle.wc_world.specs.World.{World}
 use Rattle.wc_world.specs.Records.{find_record, has_ended, at_process}

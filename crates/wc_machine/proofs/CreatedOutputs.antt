@@ -17,7 +17,7 @@ use Rattle.wc_graph.specs.declared.link.Link.{Link}
 use Rattle.wc_graph.specs.declared.link.LinkType.TheVariants.{Create}
 use Rattle.wc_graph.specs.declared.node.NodeKind.{NodeKind}
 use Rattle.wc_graph.specs.declared.node.NodeKind.TheVariants as node
-use Rattle.wc_calculation.specs.Rules.{Values}
+use Rattle.wc_semantics.specs.Rules.{Values}
 use Rattle.wc_world.specs.Records.{calls, is_input_of, is_output_of}
 use Rattle.wc_world.specs.Fits.{has_output}
 use Rattle.wc_world.specs.Trees.{data_of, value_of, outputs_after, values_alone}

@@ -10,7 +10,7 @@ use Rattle.wc_syntax.specs.declared.definition.Definition.TheVariants as definit
 use Rattle.wc_syntax.specs.declared.definition.Job.{Job}
 use Rattle.wc_expression.specs.declared.outcome.Outcome.{Outcome}
 use Rattle.wc_expression.specs.declared.outcome.Outcome.TheVariants.{Gives, Faults}
-use Rattle.wc_calculation.specs.Requests.{request}
+use Rattle.wc_semantics.specs.Requests.{request}
 use Rattle.wc_state.specs.declared.record.JobPart.{JobPart}
 use Rattle.wc_state.specs.declared.record.Part.{Part}
 use Rattle.wc_state.specs.declared.record.Part.TheVariants as part

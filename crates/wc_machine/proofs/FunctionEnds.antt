@@ -5,8 +5,8 @@ use Rattle.wc_syntax.specs.declared.definition.Function.{Function}
 use Rattle.wc_syntax.specs.declared.definition.Port.{Port}
 use Rattle.wc_expression.specs.declared.outcome.Outcome.{Outcome}
 use Rattle.wc_expression.specs.declared.outcome.Outcome.TheVariants.{Gives, Faults}
-use Rattle.wc_calculation.specs.Rules.{Values, End, env_of, run_rules}
-use Rattle.wc_calculation.specs.Outcomes.{concluded, calculated}
+use Rattle.wc_semantics.specs.Rules.{Values, End, env_of, run_rules}
+use Rattle.wc_semantics.specs.Outcomes.{concluded, calculated}
 use Rattle.wc_world.specs.Records.{has_ended}
 use Rattle.wc_world.proofs.ReachedWorlds.{reached_is_consistent}
 use Rattle.wc_machine.specs.Continues.{Continues}

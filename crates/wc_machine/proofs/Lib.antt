@@ -23,3 +23,5 @@ pub mod FunctionEnds
 pub mod FunctionFuel
 pub mod FunctionMeaning
 pub mod FittingAnswers
+pub mod Counted
+pub mod Rooms

@@ -10,7 +10,7 @@ use Rattle.wc_syntax.specs.declared.definition.Definition.{Definition}
 use Rattle.wc_graph.specs.declared.link.Link.{Link}
 use Rattle.wc_graph.specs.declared.node.NodeKind.{NodeKind}
 use Rattle.wc_graph.specs.Rules.{HasRightEnds}
-use Rattle.wc_calculation.specs.Rules.{Values}
+use Rattle.wc_semantics.specs.Rules.{Values}
 use Rattle.wc_semantics.specs.Meaning.{is_killed, meaning}
 use Rattle.wc_semantics.specs.Tables.{Path, Table, Kills}
 use Rattle.wc_state.specs.declared.record.ProcessKind.{ProcessKind}

@@ -1,7 +1,7 @@
 -- A submission adds one process, to which its links lead.
 use Rattle.std.proofs.Common.{ℕ, ◌+◌, List, [], ◌∷◌, length, arith}
 use Rattle.wc_syntax.specs.declared.definition.Definition.{Definition}
-use Rattle.wc_calculation.specs.Rules.{Values}
+use Rattle.wc_semantics.specs.Rules.{Values}
 use Rattle.wc_state.specs.declared.record.ProcessKind.{ProcessKind}
 use Rattle.wc_world.specs.World.{World}
 use Rattle.wc_world.specs.Records.{kind_of_definition}

@@ -1,7 +1,7 @@
 -- The world after a submission continues the one before.
 use Rattle.std.proofs.Common.{ℕ, List, [], ◌∷◌, get_or, refl, sym, ap, ◌∙◌, subst, arith}
 use Rattle.wc_syntax.specs.declared.definition.Definition.{Definition}
-use Rattle.wc_calculation.specs.Rules.{Values}
+use Rattle.wc_semantics.specs.Rules.{Values}
 use Rattle.wc_world.specs.World.{World}
 use Rattle.wc_world.specs.Applied.{applied}
 use Rattle.wc_world.specs.Consistent.{IsConsistent}

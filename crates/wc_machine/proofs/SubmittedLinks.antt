@@ -19,7 +19,7 @@ use Rattle.wc_graph.specs.declared.node.NodeKind.{NodeKind}
 use Rattle.wc_graph.specs.declared.link.Link.{Link}
 use Rattle.wc_graph.specs.declared.link.LinkType.{LinkType}
 use Rattle.wc_graph.specs.declared.link.LinkType.TheVariants as link
-use Rattle.wc_calculation.specs.Rules.{Values}
+use Rattle.wc_semantics.specs.Rules.{Values}
 use Rattle.wc_state.specs.declared.record.ProcessKind.{ProcessKind}
 use Rattle.wc_state.specs.declared.record.ProcessKind.TheVariants as kind
 use Rattle.wc_world.specs.Records.{calls, gives_output, takes_input, is_input_of, is_output_of, process_node}

@@ -5,9 +5,9 @@ use Rattle.wc_value.specs.declared.process.ProcessState.TheVariants as state
 use Rattle.wc_syntax.specs.declared.definition.Definition.{Definition}
 use Rattle.wc_syntax.specs.declared.definition.Definition.TheVariants as definition
 use Rattle.wc_syntax.specs.declared.definition.Function.{Function}
-use Rattle.wc_calculation.specs.Outcomes.{calculated}
-use Rattle.wc_calculation.specs.Rules.{Values}
-use Rattle.wc_calculation.specs.declared.outcomes.Parsed.{Parsed}
+use Rattle.wc_semantics.specs.Outcomes.{calculated}
+use Rattle.wc_semantics.specs.Rules.{Values}
+use Rattle.wc_semantics.specs.declared.outcomes.Parsed.{Parsed}
 use Rattle.wc_state.specs.declared.record.JobPart.{JobPart}
 use Rattle.wc_state.specs.declared.record.ProcessRecord.{ProcessRecord}
 use Rattle.wc_state.specs.declared.record.Task.TheVariants as task

@@ -19,3 +19,4 @@ pub mod Asking
 pub mod Killing
 pub mod Machine
 pub mod Laws
+pub mod Refusals

@@ -8,7 +8,7 @@ use Rattle.wc_value.specs.declared.value.Value.{Value}
 use Rattle.wc_syntax.specs.declared.definition.Chain.{Chain}
 use Rattle.wc_syntax.specs.declared.definition.Definition.{Definition}
 use Rattle.wc_syntax.specs.declared.definition.Definition.TheVariants as definition
-use Rattle.wc_calculation.specs.Rules.{Values}
+use Rattle.wc_semantics.specs.Rules.{Values}
 use Rattle.wc_semantics.specs.declared.progress.Answer.{Answer}
 use Rattle.wc_semantics.specs.declared.progress.Answer.TheVariants.{Gave}
 use Rattle.wc_semantics.specs.declared.progress.Planned.{Planned}

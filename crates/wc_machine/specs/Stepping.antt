@@ -27,7 +27,7 @@ use Rattle.wc_expression.specs.Contents.{item}
 use Rattle.wc_expression.specs.Environment.{child, children}
 use Rattle.wc_expression.specs.Outcomes.{◌>>=◌, found}
 use Rattle.wc_expression.specs.Val.{val}
-use Rattle.wc_calculation.specs.Rules.{Values, fits_port, is_taken, status_of}
+use Rattle.wc_semantics.specs.Rules.{Values, fits_port, is_taken, status_of}
 use Rattle.wc_semantics.specs.Run.{label}
 use Rattle.wc_semantics.specs.Statements.{with_key}
 use Rattle.wc_semantics.specs.Tables.{Label}

@@ -18,8 +18,8 @@ use Rattle.wc_state.specs.declared.record.Part.TheVariants as part
 use Rattle.wc_state.specs.declared.record.ProcessRecord.{ProcessRecord}
 use Rattle.wc_state.specs.declared.record.Task.TheVariants as task
 use Rattle.wc_expression.specs.declared.outcome.Outcome.TheVariants.{Gives, Faults}
-use Rattle.wc_calculation.specs.Outcomes.{excepted, calculated, parsed}
-use Rattle.wc_calculation.specs.Requests.{request}
+use Rattle.wc_semantics.specs.Outcomes.{excepted, calculated, parsed}
+use Rattle.wc_semantics.specs.Requests.{request}
 use Rattle.wc_world.specs.declared.change.Change.{Change}
 use Rattle.wc_world.specs.declared.change.Change.TheVariants as change
 use Rattle.wc_world.specs.World.{World}

@@ -8,9 +8,9 @@ use Rattle.wc_syntax.specs.declared.definition.Definition.TheVariants as definit
 use Rattle.wc_syntax.specs.declared.definition.Function.{Function}
 use Rattle.wc_syntax.specs.declared.definition.Job.{Job}
 use Rattle.wc_syntax.specs.declared.outline.Stmt.{Stmt}
-use Rattle.wc_calculation.specs.Rules.{Values, kind_of_port}
-use Rattle.wc_calculation.specs.Requests.{request}
-use Rattle.wc_calculation.specs.Outcomes.{calculated, parsed}
+use Rattle.wc_semantics.specs.Rules.{Values, kind_of_port}
+use Rattle.wc_semantics.specs.Requests.{request}
+use Rattle.wc_semantics.specs.Outcomes.{calculated, parsed}
 use Rattle.wc_semantics.specs.declared.progress.Answer.{Answer}
 use Rattle.wc_semantics.specs.declared.progress.Answer.TheVariants.{Gave}
 use Rattle.wc_semantics.specs.declared.progress.Progress.{Progress}

@@ -8,8 +8,8 @@ use Rattle.wc_syntax.specs.Bare.{bare_port, bare_definition, bare_library}
 use Rattle.wc_syntax.specs.Findings.{head_of, definition_named}
 use Rattle.wc_syntax.specs.declared.definition.Definition.{Definition}
 use Rattle.wc_syntax.specs.declared.definition.Port.{Port}
-use Rattle.wc_calculation.specs.Rules.{Values, fits_port}
-use Rattle.wc_calculation.proofs.Bare.{kind_bare}
+use Rattle.wc_semantics.specs.Rules.{Values, fits_port}
+use Rattle.wc_semantics.proofs.BareCalculations.{kind_bare}
 use Rattle.wc_semantics.specs.Tables.{Path, plain, kills_of}
 use Rattle.wc_semantics.proofs.Bare.{inputs_bare, named_bare, meaning_bare}
 use Rattle.wc_meaning.specs.Inputs.{least, wrong_inputs, missing_inputs, bad_input}

@@ -6,8 +6,8 @@ use Rattle.wc_syntax.specs.Bare.{bare_definition, bare_library}
 use Rattle.wc_syntax.specs.Findings.{definition_named}
 use Rattle.wc_syntax.specs.declared.definition.Definition.{Definition}
 use Rattle.wc_syntax.specs.declared.definition.Definition.TheVariants as definition
-use Rattle.wc_calculation.specs.Rules.{Values}
-use Rattle.wc_calculation.proofs.Bare.{calculated_bare, parsed_bare}
+use Rattle.wc_semantics.specs.Rules.{Values}
+use Rattle.wc_semantics.proofs.BareCalculations.{calculated_bare, parsed_bare}
 use Rattle.wc_semantics.proofs.Bare.{named_bare}
 use Rattle.wc_meaning.specs.Ran.{ran}
 

@@ -16,7 +16,7 @@ use Rattle.wc_state.specs.declared.environment.Item.TheVariants.{Plain}
 use Rattle.wc_expression.specs.declared.outcome.Outcome.{Outcome}
 use Rattle.wc_expression.specs.declared.outcome.Outcome.TheVariants.{Gives}
 use Rattle.wc_expression.specs.Val.{val}
-use Rattle.wc_calculation.specs.Rules.{Values, is_taken, status_of}
+use Rattle.wc_semantics.specs.Rules.{Values, is_taken, status_of}
 use Rattle.wc_semantics.specs.declared.progress.Planned.{Planned}
 use Rattle.wc_semantics.specs.declared.progress.Stepped.{Stepped}
 use Rattle.wc_semantics.specs.Statements.{with_key, output, or_stops, exits, collected, statements}

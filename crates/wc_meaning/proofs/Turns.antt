@@ -12,7 +12,7 @@ use Rattle.wc_syntax.specs.declared.outline.Block.{size-Block}
 use Rattle.wc_expression.specs.declared.outcome.Outcome.{Outcome}
 use Rattle.wc_expression.specs.declared.outcome.Outcome.TheVariants.{Gives}
 use Rattle.wc_expression.specs.Val.{holds}
-use Rattle.wc_calculation.specs.Rules.{Values}
+use Rattle.wc_semantics.specs.Rules.{Values}
 use Rattle.wc_semantics.specs.declared.progress.Flow.{Flow}
 use Rattle.wc_semantics.specs.declared.progress.Flow.TheVariants.{Goes, NoFuel}
 use Rattle.wc_semantics.specs.declared.progress.Progress.{Progress}

@@ -3,9 +3,9 @@ use Rattle.std.specs.Prelude.{List, Option, Some, None}
 use Rattle.wc_value.specs.declared.process.JobResult.{JobResult}
 use Rattle.wc_syntax.specs.declared.definition.Definition.{Definition}
 use Rattle.wc_syntax.specs.declared.definition.Definition.TheVariants as definition
-use Rattle.wc_calculation.specs.declared.outcomes.Parsed.{Parsed}
-use Rattle.wc_calculation.specs.Rules.{Values}
-use Rattle.wc_calculation.specs.Outcomes.{calculated, parsed}
+use Rattle.wc_semantics.specs.declared.outcomes.Parsed.{Parsed}
+use Rattle.wc_semantics.specs.Rules.{Values}
+use Rattle.wc_semantics.specs.Outcomes.{calculated, parsed}
 
 -- a function's rules for its inputs, or those of a job's `parse` part with its result, and nothing else
 abbrev pub ran : Option Definition → Values → Option JobResult → Option Parsed

@@ -7,7 +7,7 @@ ghost use Rattle.wc_meaning.specs.Ran.{ran};
 
 use crate::functions::find_definition;
 use std::alloc::{AllocError, Global};
-use wc_calculation::{Parsed, calculate, parse_result};
+use wc_semantics::{Parsed, calculate, parse_result};
 use wc_syntax::{Checked, Definition};
 use wc_value::{Fields, JobResult, Text};
 

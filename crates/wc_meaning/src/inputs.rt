@@ -6,8 +6,8 @@ ghost use Rattle.std.specs.Option.{option_copied};
 ghost use Rattle.wc_semantics.specs.Meaning.{is_good};
 ghost use Rattle.wc_meaning.specs.Inputs.{lesser, least, IsLeast, least_after, wrong_inputs, missing_inputs, bad_input};
 
-use wc_calculation::port_kind;
 use wc_expression::is_of_kind;
+use wc_semantics::port_kind;
 use wc_syntax::Port;
 use wc_value::{Fields, Text, Value};
 

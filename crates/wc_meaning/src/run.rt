@@ -6,8 +6,8 @@ ghost use Rattle.std.specs.Int.{w32, saturate_unsigned};
 ghost use Rattle.wc_semantics.specs.Tables.{row_of, plain, kills_of};
 ghost use Rattle.wc_semantics.specs.Run.{run_block as run_of, exec as exec_of, choose, arm_act, turns, take_calls, make_calls, is_stop, step_of, with_call as with_call_of, returned as returned_of};
 ghost use Rattle.wc_semantics.specs.Meaning.{job as job_of, ended, first, leaf, meaning};
-ghost use Rattle.wc_calculation.specs.Requests.{request};
-ghost use Rattle.wc_calculation.specs.Outcomes.{calculated, excepted, parsed};
+ghost use Rattle.wc_semantics.specs.Requests.{request};
+ghost use Rattle.wc_semantics.specs.Outcomes.{calculated, excepted, parsed};
 ghost use Rattle.wc_meaning.specs.Settings.{around_in};
 
 use crate::functions::find_definition;
@@ -15,11 +15,10 @@ use crate::kills::{find_kill, kills_below};
 use crate::statements::{Setting, run_statements};
 use crate::trees::{asked_itself, finish, killed_first, leaf};
 use std::alloc::{AllocError, Global};
-use wc_calculation::{Parsed, calculate, environment, parse_result, request_of};
 use wc_expression::{Outcome, eval_condition};
 use wc_semantics::{
-    Answer, Asked, Calls, Flow, Kills, Plan, Planned, Progress, Replayed, Stepped, bind_child,
-    label_of,
+    Answer, Asked, Calls, Flow, Kills, Parsed, Plan, Planned, Progress, Replayed, Stepped,
+    bind_child, calculate, environment, label_of, parse_result, request_of,
 };
 use wc_state::{Child, Env};
 use wc_syntax::{

@@ -4,8 +4,7 @@ ghost use Rattle.std.specs.Prelude.{◌≡◌, ◌∷◌, [], IfOk, map, flat_ma
 ghost use Rattle.wc_semantics.specs.Meaning.{kept, its_tree, its_asked, from_caller, chain_tree, leaf, killed_first, judged, strays, end, ended};
 
 use std::alloc::{AllocError, Global};
-use wc_calculation::{Parsed, final_status};
-use wc_semantics::{Answer, Asked, Calls, Flow, Progress, Replayed};
+use wc_semantics::{Answer, Asked, Calls, Flow, Parsed, Progress, Replayed, final_status};
 use wc_syntax::PortList;
 use wc_value::{Branches, Duplicate, Fields, ProcessState, Request, Text, Tree, Words};
 

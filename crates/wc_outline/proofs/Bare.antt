@@ -38,8 +38,8 @@ use Rattle.wc_expression.specs.Contents.{bool_of, item}
 use Rattle.wc_expression.specs.Environment.{children}
 use Rattle.wc_expression.specs.Val.{Meant, holds}
 use Rattle.wc_expression.proofs.Bare.{val_bare}
-use Rattle.wc_calculation.specs.Rules.{Values, fits_port, status_of}
-use Rattle.wc_calculation.proofs.Bare.{kind_bare, taken_bare}
+use Rattle.wc_semantics.specs.Rules.{Values, fits_port, status_of}
+use Rattle.wc_semantics.proofs.BareCalculations.{kind_bare, taken_bare}
 use Rattle.wc_semantics.specs.Laws.{arm_block, condition}
 use Rattle.wc_semantics.specs.Meaning.{kinds_of, is_good, takes_inputs, takes_of}
 use Rattle.wc_semantics.specs.Run.{picked, returned}

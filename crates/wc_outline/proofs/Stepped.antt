@@ -15,7 +15,7 @@ use Rattle.wc_expression.specs.declared.outcome.Outcome.{Outcome}
 use Rattle.wc_expression.specs.declared.outcome.Outcome.TheVariants.{Gives, Faults}
 use Rattle.wc_expression.specs.Outcomes.{◌>>=◌, mapped}
 use Rattle.wc_expression.specs.Val.{val}
-use Rattle.wc_calculation.specs.Rules.{is_taken, status_of}
+use Rattle.wc_semantics.specs.Rules.{is_taken, status_of}
 use Rattle.wc_semantics.specs.Meaning.{kinds_of, takes_of}
 use Rattle.wc_machine.specs.Advancing.{after_step}
 use Rattle.wc_machine.specs.Stepping as machine

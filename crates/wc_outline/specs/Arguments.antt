@@ -13,7 +13,7 @@ use Rattle.wc_expression.specs.declared.outcome.Outcome.{Outcome}
 use Rattle.wc_expression.specs.declared.outcome.Outcome.TheVariants.{Gives, Faults}
 use Rattle.wc_expression.specs.Outcomes.{◌>>=◌}
 use Rattle.wc_expression.specs.Val.{val}
-use Rattle.wc_calculation.specs.Rules.{Values}
+use Rattle.wc_semantics.specs.Rules.{Values}
 use Rattle.wc_semantics.specs.Meaning.{is_good}
 use Rattle.wc_machine.specs.Stepping as machine
 use Rattle.wc_machine.specs.Stepping.{value_of, values_in, named_node, or_plain, arguments}

@@ -11,9 +11,9 @@ ghost use Rattle.wc_outline.specs.Arguments.{takes_at, added, unless, arguments_
 use crate::calls::{Args, Argument};
 use crate::nodes::find_node;
 use std::alloc::{AllocError, Global};
-use wc_calculation::fits;
 use wc_expression::{Outcome, eval};
 use wc_meaning::{find_definition, head};
+use wc_semantics::fits;
 use wc_state::Env;
 use wc_syntax::{CallArg, CallStmt, Definition, Library};
 use wc_value::{Duplicate, Keyed, Reason, Text, Value};

@@ -6,7 +6,7 @@ use Rattle.wc_value.specs.declared.value.Value.{Value}
 use Rattle.wc_syntax.specs.declared.definition.Port.{Port}
 use Rattle.wc_syntax.specs.Bare.{bare_port}
 use Rattle.wc_meaning.specs.Inputs.{least}
-use Rattle.wc_calculation.proofs.Bare.{kind_bare}
+use Rattle.wc_semantics.proofs.BareCalculations.{kind_bare}
 use Rattle.wc_json.specs.Limits.{read_fields}
 use Rattle.wc_plan.specs.declared.status.Cause.{Cause}
 use Rattle.wc_plan.specs.declared.status.Cause.TheVariants as cause

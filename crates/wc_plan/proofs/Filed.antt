@@ -21,7 +21,7 @@ use Rattle.wc_value.proofs.Puts.{ascends_put, same_name}
 use Rattle.wc_syntax.specs.Bare.{bare_port}
 use Rattle.wc_syntax.specs.declared.definition.Port.{Port}
 use Rattle.wc_expression.specs.Contents.{has_kind}
-use Rattle.wc_calculation.specs.Rules.{kind_of_port, fits_port}
+use Rattle.wc_semantics.specs.Rules.{kind_of_port, fits_port}
 use Rattle.wc_semantics.specs.Meaning.{is_good}
 use Rattle.wc_json.specs.Documents.{document_of, answered, answer_in, answer_of}
 use Rattle.wc_json.specs.Limits.{fits, within, all_within, read_fields}

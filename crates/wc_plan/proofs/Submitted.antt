@@ -20,7 +20,7 @@ use Rattle.wc_syntax.specs.declared.definition.Port.{Port}
 use Rattle.wc_expression.specs.Val.{is_allowed}
 use Rattle.wc_expression.specs.Contents.{has_kind}
 use Rattle.wc_expression.specs.Whole.{number_of}
-use Rattle.wc_calculation.specs.Rules.{kind_of_port, fits_port}
+use Rattle.wc_semantics.specs.Rules.{kind_of_port, fits_port}
 use Rattle.wc_semantics.proofs.Bare.{named_bare}
 use Rattle.wc_meaning.specs.Inputs.{least, wrong_inputs, missing_inputs, bad_input}
 use Rattle.wc_meaning.proofs.Least.{no_least}

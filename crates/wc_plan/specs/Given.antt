@@ -9,7 +9,7 @@ use Rattle.wc_value.specs.declared.value.Value.TheVariants as value
 use Rattle.wc_syntax.specs.declared.definition.Port.{Port}
 use Rattle.wc_expression.specs.Val.{is_allowed}
 use Rattle.wc_expression.specs.Whole.{number_of}
-use Rattle.wc_calculation.specs.Rules.{kind_of_port}
+use Rattle.wc_semantics.specs.Rules.{kind_of_port}
 use Rattle.wc_meaning.specs.Inputs.{least}
 
 abbrev pub bool_in_words : List ℕ → Option Bool

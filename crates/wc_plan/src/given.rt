@@ -7,10 +7,10 @@ ghost use Rattle.wc_expression.specs.Val.{is_allowed};
 ghost use Rattle.wc_plan.specs.Given.{bool_in_words, value_in_words, allowed, given_value, times_given, unread, ill_given, bad_given, fields_of};
 
 use std::alloc::AllocError;
-use wc_calculation::port_kind;
 use wc_cli::Given;
 use wc_expression::read_number;
 use wc_meaning::lesser_name;
+use wc_semantics::port_kind;
 use wc_syntax::Port;
 use wc_value::{Duplicate, Fields, Kind, Text, Value, is_within};
 

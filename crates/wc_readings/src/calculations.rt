@@ -5,8 +5,8 @@ use crate::shown::Shown;
 use crate::syntax::library_of;
 use crate::values::put_json;
 use std::alloc::{AllocError, Global};
-use wc_calculation::{Parsed, calculate, calculate_job, parse_result, request_of};
 use wc_expression::Outcome;
+use wc_semantics::{Parsed, calculate, calculate_job, parse_result, request_of};
 use wc_syntax::{Definition, Job};
 use wc_value::{
     Bytes, Fields, Files, JobResult, ProcessState, Text, Value, Values, filled, let_go,

@@ -2,3 +2,4 @@ pub mod Lines
 pub mod Lists
 pub mod Names
 pub mod Trees
+pub mod Shows

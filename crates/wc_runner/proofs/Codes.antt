@@ -18,10 +18,10 @@ use Rattle.wc_syntax.specs.declared.definition.Definition.TheVariants as definit
 use Rattle.wc_syntax.specs.declared.definition.Job.{Job}
 use Rattle.wc_expression.specs.declared.outcome.Outcome.{Outcome}
 use Rattle.wc_expression.specs.declared.outcome.Outcome.TheVariants.{Gives}
-use Rattle.wc_calculation.specs.Outcomes.{calculated, excepted, parse_env, parsed, retrieved}
-use Rattle.wc_calculation.specs.Requests.{request}
-use Rattle.wc_calculation.specs.Rules.{Values, run_rules}
-use Rattle.wc_calculation.specs.declared.outcomes.Parsed.{Parsed}
+use Rattle.wc_semantics.specs.Outcomes.{calculated, excepted, parse_env, parsed, retrieved}
+use Rattle.wc_semantics.specs.Requests.{request}
+use Rattle.wc_semantics.specs.Rules.{Values, run_rules}
+use Rattle.wc_semantics.specs.declared.outcomes.Parsed.{Parsed}
 use Rattle.wc_state.specs.declared.record.JobPart.{JobPart}
 use Rattle.wc_state.specs.declared.record.Part.TheVariants as part
 use Rattle.wc_state.specs.declared.record.ProcessKind.{ProcessKind}
@@ -55,9 +55,9 @@ use Rattle.wc_machine.proofs.CalculatedOutputs.{concluded_set, nothing_set, rule
 use Rattle.wc_machine.proofs.Endings.{applied_ends, end_record, ended_world}
 use Rattle.wc_machine.proofs.EndedWorlds.{found_end, inputs_kept, outputs_of_end}
 use Rattle.wc_machine.proofs.Frames.{library_stays}
-use Rattle.wc_soundness.proofs.FreeNames.{retrieved_is_free}
-use Rattle.wc_soundness.proofs.Retrieved.{retrieved_stays}
-use Rattle.wc_soundness.proofs.Tasks.{job_waits}
+use Rattle.wc_laws.proofs.FreeNames.{retrieved_is_free}
+use Rattle.wc_laws.proofs.Retrieved.{retrieved_stays}
+use Rattle.wc_laws.proofs.Tasks.{job_waits}
 use Rattle.wc_laws.specs.Results.{result_of, table_of}
 use Rattle.wc_laws.proofs.FoundResults.{its_table_agrees, results_are_found}
 use Rattle.wc_laws.proofs.LaterTables.{later_tables_agree}

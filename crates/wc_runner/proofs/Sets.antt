@@ -6,8 +6,8 @@ use Rattle.wc_value.specs.declared.process.ProcessState.{ProcessState}
 use Rattle.wc_value.specs.declared.process.ProcessState.TheVariants as state
 use Rattle.wc_syntax.specs.declared.definition.Port.{Port}
 use Rattle.wc_graph.specs.declared.link.LinkType.{LinkType}
-use Rattle.wc_calculation.specs.Rules.{Values}
-use Rattle.wc_calculation.specs.declared.outcomes.Parsed.{Parsed}
+use Rattle.wc_semantics.specs.Rules.{Values}
+use Rattle.wc_semantics.specs.declared.outcomes.Parsed.{Parsed}
 use Rattle.wc_semantics.specs.Tables.{Label}
 use Rattle.wc_state.specs.declared.record.Checkpoint.{Checkpoint}
 use Rattle.wc_state.specs.declared.record.Part.TheVariants as part

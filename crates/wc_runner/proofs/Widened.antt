@@ -16,7 +16,7 @@ use Rattle.wc_machine.specs.declared.answer.TaskAnswer.{TaskAnswer}
 use Rattle.wc_machine.specs.declared.answer.TaskAnswer.TheVariants as answer
 use Rattle.wc_machine.specs.Asking.{Need, nothing, performs, need}
 use Rattle.wc_machine.specs.Machine.{Leads, turn}
-use Rattle.wc_refusal.specs.Refusals.{IsFull}
+use Rattle.wc_machine.specs.Refusals.{IsFull}
 use Rattle.wc_store.specs.Refusals.{RefusesCommit}
 use Rattle.wc_store.specs.declared.error.StoreError.TheVariants as store_error
 use Rattle.wc_runner.specs.declared.error.RunError.{RunError}

@@ -5,8 +5,8 @@ use Rattle.wc_journal.specs.declared.journal.Journal.{Journal}
 use Rattle.wc_state.specs.declared.record.Limits.{Limits}
 use Rattle.wc_world.specs.declared.change.Change.{Change}
 use Rattle.wc_world.specs.World.{World}
-use Rattle.wc_refusal.specs.Refusals.{FullOf}
-use Rattle.wc_refusal.specs.declared.error.TurnError.TheVariants as turn_error
+use Rattle.wc_machine.specs.Refusals.{FullOf}
+use Rattle.wc_machine.specs.declared.error.TurnError.TheVariants as turn_error
 use Rattle.wc_store.specs.Refusals.{RefusesCommit}
 use Rattle.wc_store.specs.declared.error.StoreError.{StoreError}
 use Rattle.wc_store.specs.declared.error.StoreError.TheVariants as store_error

@@ -6,9 +6,9 @@ use Rattle.wc_world.specs.World.{World}
 use Rattle.wc_world.specs.Accepted.{IsAccepted}
 use Rattle.wc_machine.specs.declared.answer.TaskAnswer.{TaskAnswer}
 use Rattle.wc_machine.specs.Machine.{Leads, turn}
-use Rattle.wc_refusal.specs.Refusals.{FullOf, HasRoom}
-use Rattle.wc_refusal.specs.declared.error.TurnError.{TurnError}
-use Rattle.wc_refusal.specs.declared.error.TurnError.TheVariants as turn_error
+use Rattle.wc_machine.specs.Refusals.{FullOf, HasRoom}
+use Rattle.wc_machine.specs.declared.error.TurnError.{TurnError}
+use Rattle.wc_machine.specs.declared.error.TurnError.TheVariants as turn_error
 use Rattle.wc_store.specs.Held.{is_plain}
 use Rattle.wc_store.specs.declared.error.StoreError.{StoreError}
 use Rattle.wc_store.specs.declared.error.StoreError.TheVariants as store_error

@@ -37,8 +37,8 @@ use Rattle.wc_expression.specs.Outcomes.{◌>>=◌}
 use Rattle.wc_expression.specs.Contents.{bool_of}
 use Rattle.wc_expression.specs.Val.{Meant, form, limited, val, val_form, holds}
 use Rattle.wc_expression.proofs.Bare.{val_bare}
-use Rattle.wc_calculation.specs.Rules.{Values, fits_port, fitting, status_of}
-use Rattle.wc_calculation.proofs.Bare.{kind_bare, lacks_bare, taken_bare, calculated_bare, request_bare, parsed_bare}
+use Rattle.wc_semantics.specs.Rules.{Values, fits_port, fitting, status_of}
+use Rattle.wc_semantics.proofs.BareCalculations.{kind_bare, lacks_bare, taken_bare, calculated_bare, request_bare, parsed_bare}
 use Rattle.wc_semantics.specs.declared.progress.Answer.TheVariants.{Gave}
 use Rattle.wc_semantics.specs.declared.progress.Flow.{Flow}
 use Rattle.wc_semantics.specs.declared.progress.Flow.TheVariants.{Goes, Ends, NoFuel, Lacks, Off}

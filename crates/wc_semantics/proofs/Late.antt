@@ -14,7 +14,7 @@ use Rattle.wc_expression.specs.declared.outcome.Outcome.{Outcome}
 use Rattle.wc_expression.specs.declared.outcome.Outcome.TheVariants.{Gives, Faults}
 use Rattle.wc_expression.specs.Outcomes.{mapped}
 use Rattle.wc_expression.specs.Val.{holds}
-use Rattle.wc_calculation.specs.Rules.{Values}
+use Rattle.wc_semantics.specs.Rules.{Values}
 use Rattle.wc_semantics.specs.declared.progress.Answer.{Answer}
 use Rattle.wc_semantics.specs.declared.progress.Answer.TheVariants.{Gave, TooLittle, Without, Astray}
 use Rattle.wc_semantics.specs.declared.progress.Flow.{Flow}

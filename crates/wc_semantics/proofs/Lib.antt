@@ -14,3 +14,5 @@ pub mod Uncut
 pub mod Rows
 pub mod Calls
 pub mod Keyed
+pub mod BareCalculations
+pub mod Numbered

@@ -11,7 +11,7 @@ use Rattle.wc_expression.specs.declared.outcome.Outcome.{Outcome}
 use Rattle.wc_expression.specs.declared.outcome.Outcome.TheVariants.{Gives, Faults}
 use Rattle.wc_expression.specs.Outcomes.{◌>>=◌}
 use Rattle.wc_expression.specs.Val.{val}
-use Rattle.wc_calculation.specs.Rules.{Values, is_taken, status_of}
+use Rattle.wc_semantics.specs.Rules.{Values, is_taken, status_of}
 use Rattle.wc_semantics.specs.declared.progress.Planned.{Planned}
 use Rattle.wc_semantics.specs.declared.progress.Stepped.{Stepped}
 use Rattle.wc_semantics.specs.declared.progress.Stepped.TheVariants.{Stops, Makes}

@@ -18,10 +18,10 @@ use Rattle.wc_expression.specs.declared.outcome.Outcome.{Outcome}
 use Rattle.wc_expression.specs.declared.outcome.Outcome.TheVariants.{Gives, Faults}
 use Rattle.wc_expression.specs.Outcomes.{mapped}
 use Rattle.wc_expression.specs.Val.{holds}
-use Rattle.wc_calculation.specs.declared.outcomes.Parsed.{Parsed}
-use Rattle.wc_calculation.specs.Rules.{Values}
-use Rattle.wc_calculation.specs.Requests.{request}
-use Rattle.wc_calculation.specs.Outcomes.{calculated, parsed}
+use Rattle.wc_semantics.specs.declared.outcomes.Parsed.{Parsed}
+use Rattle.wc_semantics.specs.Rules.{Values}
+use Rattle.wc_semantics.specs.Requests.{request}
+use Rattle.wc_semantics.specs.Outcomes.{calculated, parsed}
 use Rattle.wc_semantics.specs.declared.progress.Answer.{Answer}
 use Rattle.wc_semantics.specs.declared.progress.Answer.TheVariants.{Gave, TooLittle, Without, Astray}
 use Rattle.wc_semantics.specs.declared.progress.Flow.{Flow}
@@ -40,8 +40,8 @@ use Rattle.wc_semantics.proofs.Induction.{AllOf, OptionOf, Inside, every_list}
 use Rattle.wc_semantics.proofs.Acts.{opened, exec_is, block_is, picked_lists}
 use Rattle.wc_semantics.proofs.Frugal.{Picks, picks}
 use Rattle.wc_value.specs.declared.process.Tree.{Tree, Tree-F, out-Tree, roll-Tree, out-roll-Tree}
-use Rattle.wc_calculation.specs.Outcomes.{concluded, excepted, retrieved, parse_env}
-use Rattle.wc_calculation.specs.Rules.{End, env_of, run_rules}
+use Rattle.wc_semantics.specs.Outcomes.{concluded, excepted, retrieved, parse_env}
+use Rattle.wc_semantics.specs.Rules.{End, env_of, run_rules}
 use Rattle.wc_semantics.specs.Meaning.{kept, its_tree, takes_inputs, takes_of}
 use Rattle.wc_semantics.proofs.Steps.{Callable, Fine, fine}
 use Rattle.wc_semantics.proofs.Late.{judged_late}

@@ -7,7 +7,7 @@ use Rattle.wc_syntax.specs.declared.expression.Expr.{Expr}
 use Rattle.wc_syntax.specs.declared.outline.Arm.{Arm, out-Arm}
 use Rattle.wc_syntax.specs.declared.outline.Block.{Block}
 use Rattle.wc_syntax.specs.declared.outline.Instr.{Instr}
-use Rattle.wc_calculation.specs.Rules.{Values}
+use Rattle.wc_semantics.specs.Rules.{Values}
 use Rattle.wc_semantics.specs.declared.progress.Answer.{Answer}
 use Rattle.wc_semantics.specs.declared.progress.Answer.TheVariants.{Gave, TooLittle, Without, Astray}
 use Rattle.wc_semantics.specs.Tables.{Label, Path, Table}

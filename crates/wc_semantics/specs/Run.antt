@@ -21,7 +21,7 @@ use Rattle.wc_expression.specs.declared.outcome.Outcome.{Outcome}
 use Rattle.wc_expression.specs.declared.outcome.Outcome.TheVariants.{Gives, Faults}
 use Rattle.wc_expression.specs.Outcomes.{◌>>=◌}
 use Rattle.wc_expression.specs.Val.{holds}
-use Rattle.wc_calculation.specs.Rules.{Values, unnumbered}
+use Rattle.wc_semantics.specs.Rules.{Values, unnumbered}
 use Rattle.wc_semantics.specs.declared.progress.Answer.{Answer}
 use Rattle.wc_semantics.specs.declared.progress.Answer.TheVariants.{Gave, TooLittle, Without, Astray}
 use Rattle.wc_semantics.specs.declared.progress.Flow.{Flow}

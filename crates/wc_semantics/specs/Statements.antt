@@ -20,7 +20,7 @@ use Rattle.wc_expression.specs.declared.outcome.Outcome.{Outcome}
 use Rattle.wc_expression.specs.declared.outcome.Outcome.TheVariants.{Gives, Faults}
 use Rattle.wc_expression.specs.Outcomes.{◌>>=◌}
 use Rattle.wc_expression.specs.Val.{val, val_form}
-use Rattle.wc_calculation.specs.Rules.{Values, fitting, is_taken, status_of}
+use Rattle.wc_semantics.specs.Rules.{Values, fitting, is_taken, status_of}
 use Rattle.wc_semantics.specs.declared.progress.Planned.{Planned}
 use Rattle.wc_semantics.specs.declared.progress.Stepped.{Stepped}
 use Rattle.wc_semantics.specs.declared.progress.Stepped.TheVariants.{Stops, Makes}

@@ -16,7 +16,7 @@ ghost use Rattle.wc_syntax.specs.declared.outline.Instr.{Instr, out-Instr};
 ghost use Rattle.wc_syntax.specs.declared.outline.Instr.TheOpen.{Instr-F};
 ghost use Rattle.wc_syntax.specs.declared.outline.Step.{Step};
 ghost use Rattle.wc_expression.specs.Val.{holds};
-ghost use Rattle.wc_calculation.specs.Rules.{Values};
+ghost use Rattle.wc_semantics.specs.Rules.{Values};
 ghost use Rattle.wc_semantics.specs.declared.progress.Answer.TheVariants.{Gave};
 ghost use Rattle.wc_semantics.specs.declared.progress.Flow.{Flow};
 ghost use Rattle.wc_semantics.specs.declared.progress.Flow.TheVariants.{Goes, Ends};

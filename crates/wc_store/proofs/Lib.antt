@@ -16,3 +16,7 @@ mod Placed
 mod Committed
 pub mod Parts
 mod Reached
+mod Deciding
+mod Links
+mod Changes
+mod Holding

@@ -9,3 +9,4 @@ pub mod Played
 pub mod Opening
 pub mod Placing
 pub mod Preparing
+pub mod DecidedLaws

@@ -3,6 +3,7 @@
 
 mod choosing;
 mod committing;
+mod decided;
 mod error;
 mod laws;
 mod loading;
@@ -12,6 +13,9 @@ mod placing;
 mod preparing;
 mod store;
 
+pub use decided::{
+    changes_are_decided, images_hold_exactly_one_thing, images_hold_something, links_are_decided,
+};
 pub use error::StoreError;
 pub use laws::{held_worlds_are_reached, images_hold_one_thing};
 pub use place::Place;

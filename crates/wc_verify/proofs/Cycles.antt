@@ -3,7 +3,7 @@ use Rattle.std.proofs.Common.{ℕ, List, [], ◌∷◌, slice_index}
 use Rattle.std.specs.Prelude.{Some}
 use Rattle.wc_graph.specs.declared.link.Link.{Link}
 use Rattle.wc_graph.specs.Walks.{Leads, IsClosedWalk, data_types}
-use Rattle.wc_walk.specs.Cycle.{IsLeastCycle}
+use Rattle.wc_graph.specs.Cycle.{IsLeastCycle}
 use Rattle.wc_verify.specs.Faults.{LiesOnCycle, IsLeastOnCycle}
 
 closed_first : (links : List Link) (ids : List ℕ) → IsClosedWalk (Leads data_types links) ids → LiesOnCycle links (slice_index ids 0)

@@ -11,11 +11,11 @@ use Rattle.wc_syntax.specs.declared.definition.Definition.TheVariants as definit
 use Rattle.wc_syntax.specs.declared.definition.Job.{Job}
 use Rattle.wc_expression.specs.declared.outcome.Outcome.{Outcome}
 use Rattle.wc_expression.specs.declared.outcome.Outcome.TheVariants.{Gives, Faults}
-use Rattle.wc_calculation.specs.declared.outcomes.Parsed.{Parsed}
-use Rattle.wc_calculation.specs.Rules.{Values}
-use Rattle.wc_calculation.specs.Requests.{request}
-use Rattle.wc_calculation.specs.Outcomes.{calculated, parsed}
-use Rattle.wc_calculation.proofs.Bare.{calculated_bare, parsed_bare, request_bare}
+use Rattle.wc_semantics.specs.declared.outcomes.Parsed.{Parsed}
+use Rattle.wc_semantics.specs.Rules.{Values}
+use Rattle.wc_semantics.specs.Requests.{request}
+use Rattle.wc_semantics.specs.Outcomes.{calculated, parsed}
+use Rattle.wc_semantics.proofs.BareCalculations.{calculated_bare, parsed_bare, request_bare}
 use Rattle.wc_semantics.specs.Meaning.{is_killed}
 use Rattle.wc_state.specs.declared.record.ProcessKind.{ProcessKind}
 use Rattle.wc_state.specs.declared.record.ProcessKind.TheVariants as kind

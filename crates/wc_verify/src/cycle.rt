@@ -4,7 +4,7 @@ ghost use Rattle.std.specs.Prelude.{◌≡◌, ◌<◌, length, slice_index, IfO
 ghost use Rattle.wc_verify.specs.Faults.{IsLeastOnCycle};
 
 use std::alloc::{AllocError, Global};
-use wc_walk::{Ids, WalkError, order};
+use wc_graph::{Ids, WalkError, order};
 use wc_world::World;
 
 /// The first node of a closed walk.

@@ -2,8 +2,8 @@
 
 ghost use Rattle.std.specs.Prelude.{◌≡◌, ◌↔◌, Some, None, if◌then◌else◌, IfOk, IsSome, IsTrue, MatchBool};
 ghost use Rattle.std.specs.Option.{option_copied};
-ghost use Rattle.wc_calculation.specs.Outcomes.{parsed};
-ghost use Rattle.wc_calculation.specs.Requests.{request};
+ghost use Rattle.wc_semantics.specs.Outcomes.{parsed};
+ghost use Rattle.wc_semantics.specs.Requests.{request};
 ghost use Rattle.wc_world.specs.Records.{find_record, is_calculation};
 ghost use Rattle.wc_machine.specs.Created.{IsGiven, killed_outcome};
 ghost use Rattle.wc_verify.specs.Faults.{IsLowestWrong, IsRight, IsWrong};
@@ -13,8 +13,8 @@ use crate::givers::{is_killed, keeps_code, last_givers};
 use crate::recorded::{recorded_outputs, retrieved_folder};
 use std::alloc::{AllocError, Global};
 use wc_cache::{definition_of, recorded_inputs};
-use wc_calculation::{Parsed, calculate, parse_result, request_of};
 use wc_expression::Outcome;
+use wc_semantics::{Parsed, calculate, parse_result, request_of};
 use wc_state::{ProcessKind, ProcessRecord};
 use wc_syntax::{Definition, Job};
 use wc_value::{Fields, Files, JobResult, ProcessState, same_fields, same_state};

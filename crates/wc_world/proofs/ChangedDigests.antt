@@ -18,8 +18,8 @@ use Rattle.wc_records.specs.declared.change.NewProcess.{NewProcess}
 use Rattle.wc_records.specs.declared.change.SetProcess.{SetProcess}
 use Rattle.wc_records.specs.declared.change.Kept.{Kept}
 use Rattle.wc_records.specs.Readiness.{is_over, ended_at}
-use Rattle.wc_seals.specs.Keys.{key_value}
-use Rattle.wc_seals.specs.Order.{without}
+use Rattle.wc_keys.specs.SealKeys.{key_value}
+use Rattle.wc_keys.specs.Order.{without}
 use Rattle.wc_world.specs.World.{Known}
 use Rattle.wc_world.specs.Records.{find_record, at_process, has_ended, is_calculation, is_input_of, takes_input, definition_in}
 use Rattle.wc_world.specs.Applied.{made, set, keep}

@@ -12,16 +12,15 @@ ghost use Rattle.wc_world.specs.Accepted.{IsAccepted};
 ghost use Rattle.wc_world.specs.Room.{HasRoom, needed};
 ghost use Rattle.wc_world.specs.Applying.{world_of, room_of, CanApply, Ascend, IsAtLeast};
 ghost use Rattle.wc_world.specs.Keys.{AreSealed, AreDefined, digest_from};
-ghost use Rattle.wc_seals.specs.Order.{AreSealsOf};
+ghost use Rattle.wc_keys.specs.Order.{AreSealsOf};
 
 use crate::change::{Change, Changes};
 use crate::world::{Known, Libraries, World};
 use std::alloc::{AllocError, Global};
 use wc_fits::{caller_of, node_of_kind};
 use wc_graph::{Graph, Link, NodeKind};
-use wc_keys::{seal, unseal};
+use wc_keys::{Seals, seal, unseal};
 use wc_records::{NewProcess, Records, SetProcess};
-use wc_seals::Seals;
 
 /// How many items changes add.
 #[derive(Drop)]

@@ -28,6 +28,6 @@ pub use laws::{
     snapshots_give_the_world,
 };
 pub use played::Played;
+pub use wc_keys::Sealed;
 pub use wc_records::{Kept, NewProcess, Records, SetProcess, has_ended};
-pub use wc_seals::Sealed;
 pub use world::{Known, Libraries, World};

@@ -5,15 +5,15 @@ ghost use Rattle.wc_records.specs.Readiness.{ready_at, AreDues, live_in};
 ghost use Rattle.wc_world.specs.World.{empty};
 ghost use Rattle.wc_world.specs.Records.{find_record};
 ghost use Rattle.wc_world.specs.Accepted.{IsReached};
-ghost use Rattle.wc_seals.specs.Order.{IsPartOf};
+ghost use Rattle.wc_keys.specs.Order.{IsPartOf};
 ghost use Rattle.wc_world.specs.Keys.{digest_at};
 
 use std::alloc::Global;
 use std::marker::Model;
 pub use wc_fits::{Known, Libraries};
 use wc_graph::Graph;
+use wc_keys::{Sealed, Seals};
 use wc_records::Records;
-use wc_seals::{Sealed, Seals};
 use wc_state::ProcessRecord;
 
 /// Everything that a store holds. It changes by whole lists of changes alone, each of which it accepts.

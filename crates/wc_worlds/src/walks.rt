@@ -3,8 +3,7 @@
 use crate::stop::Stop;
 use crate::telling::{put_error, put_line};
 use std::alloc::Global;
-use wc_graph::{Graph, LinkType};
-use wc_walk::{Ids, LinkSet, WalkError, ancestors, descendants, order};
+use wc_graph::{Graph, Ids, LinkSet, LinkType, WalkError, ancestors, descendants, order};
 
 /// The most numbers that are told one by one.
 const FEW: usize = 16;

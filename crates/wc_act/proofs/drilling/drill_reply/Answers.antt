@@ -1,6 +1,6 @@
 use Rattle.std.proofs.Common.{Bool, Result, Ok, Err, ℕ, IsTrue, ap, sym, subst, ◌∙◌}
 use Rattle.wc_store.specs.Held.{IsHeld, nothing}
-use Rattle.wc_generated.specs.Texts.{drilled_text}
+use Rattle.wc_drill.specs.Texts.{drilled_text}
 use Rattle.wc_drill.specs.Leaves.{AreDurable, IsBegun, RefusedLeaves}
 use Rattle.wc_drill.specs.declared.error.DrillError.{DrillError}
 use Rattle.wc_plan.specs.declared.reply.Reply.{Reply}

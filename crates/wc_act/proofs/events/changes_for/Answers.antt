@@ -1,6 +1,6 @@
 use Rattle.std.proofs.Common.{IfOk, IfErr, sym, subst}
 use Rattle.wc_state.specs.Ranges.{AreLimits}
-use Rattle.wc_refusal.specs.Refusals.{HasRoom, RefusesSubmission}
+use Rattle.wc_machine.specs.Refusals.{HasRoom, RefusesSubmission}
 use Rattle.wc_state.specs.declared.record.Limits.{Limits}
 use Rattle.wc_world.specs.Applied.{applied}
 use Rattle.wc_act.proofs.Entries.{all_shallow, result_leads, result_submitted}

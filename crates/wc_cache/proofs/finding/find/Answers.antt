@@ -3,8 +3,8 @@ use Rattle.std.specs.Prelude.{IsSome}
 use Rattle.std.specs.Option.{option_copied}
 use Rattle.sha2.specs.Sha256.{sha256}
 use Rattle.wc_state.specs.declared.record.ProcessRecord.{ProcessRecord}
-use Rattle.wc_seals.specs.declared.marking.Sealed.{Sealed}
-use Rattle.wc_seals.specs.Order.{IsPartOf}
+use Rattle.wc_keys.specs.declared.marking.Sealed.{Sealed}
+use Rattle.wc_keys.specs.Order.{IsPartOf}
 use Rattle.wc_world.specs.Keys.{digest_at}
 use Rattle.wc_cache.proofs.Keyed.{is_there}
 use Rattle.wc_cache.proofs.Lowest.{copied_there, process_there, first_found, lowest_for, none_found, none_yet}

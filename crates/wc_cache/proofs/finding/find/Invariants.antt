@@ -1,7 +1,7 @@
 use Rattle.std.proofs.Common.{◌≡◌, ◌+◌, Some, take}
 use Rattle.std.specs.Prelude.{All}
 use Rattle.wc_state.specs.declared.record.ProcessRecord.{ProcessRecord}
-use Rattle.wc_seals.specs.declared.marking.Sealed.{Sealed}
+use Rattle.wc_keys.specs.declared.marking.Sealed.{Sealed}
 use Rattle.wc_world.specs.Records.{find_record}
 use Rattle.wc_cache.specs.Finding.{IsSourceWith}
 use Rattle.wc_cache.proofs.finding.find.Given as goal

@@ -3,8 +3,8 @@ use Rattle.std.specs.Prelude.{option_map}
 use Rattle.std.specs.Option.{option_copied}
 use Rattle.std.proofs.lemmas.Result.{IfOk-weaker}
 use Rattle.wc_syntax.specs.Bare.{bare_definition}
-use Rattle.wc_calculation.specs.Outcomes.{calculated}
-use Rattle.wc_calculation.specs.Requests.{request}
+use Rattle.wc_semantics.specs.Outcomes.{calculated}
+use Rattle.wc_semantics.specs.Requests.{request}
 use Rattle.wc_calculation_turns.specs.Courses.{begun}
 use Rattle.wc_calculation_turns.proofs.FirstTurns.{TurnsTo, is_begun, is_calculated, runs_no_chain, runs_something}
 use Rattle.wc_calculation_turns.proofs.starting.evaluated.Goals as goal

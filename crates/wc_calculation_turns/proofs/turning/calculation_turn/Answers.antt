@@ -1,7 +1,7 @@
 use Rattle.std.proofs.Common.{ℕ, ◌+◌, length, List, sym, subst}
 use Rattle.wc_world.specs.declared.change.Change.{Change}
 use Rattle.wc_world.specs.Applied.{applied}
-use Rattle.wc_refusal.specs.Refusals.{AreFew, HasRoom, RefusesCounts}
+use Rattle.wc_machine.specs.Refusals.{AreFew, HasRoom, RefusesCounts}
 use Rattle.wc_calculation_turns.proofs.Room.{turn_allowed, turn_fits, turn_refused}
 use Rattle.wc_calculation_turns.proofs.turning.calculation_turn.Goals as goal
 

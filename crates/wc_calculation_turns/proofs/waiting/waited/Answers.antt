@@ -3,8 +3,8 @@ use Rattle.std.specs.Prelude.{option_map}
 use Rattle.std.specs.Option.{option_copied}
 use Rattle.std.proofs.lemmas.Result.{IfOk-weaker}
 use Rattle.wc_syntax.specs.Bare.{bare_definition}
-use Rattle.wc_calculation.specs.Requests.{request}
-use Rattle.wc_calculation.specs.Rules.{Values}
+use Rattle.wc_semantics.specs.Requests.{request}
+use Rattle.wc_semantics.specs.Rules.{Values}
 use Rattle.wc_machine.specs.Turning.{TurnGives}
 use Rattle.wc_calculation_turns.specs.Courses.{LeadsOn, course_changes}
 use Rattle.wc_calculation_turns.proofs.Jobs.{gave_up, led_on, runs_no_chain, runs_no_function, runs_something, task_fits}

@@ -2,9 +2,9 @@ use Rattle.std.proofs.Common.{◌≡◌, ◌+◌, ◌≤◌, List, None, length,
 use Rattle.std.specs.Option.{option_copied}
 use Rattle.wc_state.specs.declared.record.ProcessRecord.{ProcessRecord}
 use Rattle.wc_world.specs.declared.change.Change.{Change}
-use Rattle.wc_refusal.specs.Refusals.{FullOf}
-use Rattle.wc_chain_changes.specs.Known.{known_at}
-use Rattle.wc_chain_changes.specs.Coming.{comes_to}
+use Rattle.wc_machine.specs.Refusals.{FullOf}
+use Rattle.wc_changes.specs.Known.{known_at}
+use Rattle.wc_changes.specs.Coming.{comes_to}
 use Rattle.wc_chain_turns.specs.Turned.{Gives}
 use Rattle.wc_chain_turns.proofs.Turned.{depth_low, is_known, may_advance, calls_few, gives_advance, full_as, if_ok, if_err}
 use Rattle.wc_chain_turns.proofs.turning.advance_from.Goals as goal

@@ -3,8 +3,8 @@ use Rattle.wc_value.specs.declared.process.ProcessState.TheVariants as state
 use Rattle.wc_state.specs.declared.record.Part.TheVariants as part
 use Rattle.wc_world.specs.declared.change.Change.{Change}
 use Rattle.wc_machine.specs.Calling.{bound}
-use Rattle.wc_refusal.specs.Refusals.{FullOf}
-use Rattle.wc_chain_changes.specs.Coming.{is_now}
+use Rattle.wc_machine.specs.Refusals.{FullOf}
+use Rattle.wc_changes.specs.Coming.{is_now}
 use Rattle.wc_chain_turns.specs.Turned.{Gives}
 use Rattle.wc_chain_turns.proofs.Turned.{gives_bound, full_as, if_ok, if_err}
 use Rattle.wc_chain_turns.proofs.turning.bind_from.Goals as goal

@@ -6,7 +6,7 @@ use Rattle.wc_machine.specs.Continues.{Continues}
 use Rattle.wc_machine.specs.Killing.{kill_changes}
 use Rattle.wc_machine.specs.Machine.{after_changes, kill}
 use Rattle.wc_machine.specs.Sound.{IsSound}
-use Rattle.wc_refusal.specs.Refusals.{FullOfBatches, NoneHolds}
+use Rattle.wc_machine.specs.Refusals.{FullOfBatches, NoneHolds}
 use Rattle.wc_core.specs.Refusals.{AreChangesOf, RefusesMark}
 use Rattle.wc_core.proofs.Marking.{HasBatchFor, is_kill, kill_is_accepted, mark_allowed, mark_changes, mark_continues, mark_refused, mark_sound, not_live}
 use Rattle.std.proofs.lemmas.Result.{IfErr-weaker}

@@ -3,7 +3,7 @@ use Rattle.std.specs.Prelude.{option_map}
 use Rattle.std.specs.Option.{option_copied}
 use Rattle.wc_syntax.specs.Bare.{bare_definition}
 use Rattle.wc_expression.specs.declared.outcome.Outcome.TheVariants.{Gives, Faults}
-use Rattle.wc_calculation.specs.Requests.{request}
+use Rattle.wc_semantics.specs.Requests.{request}
 use Rattle.wc_core.proofs.Asking.{asks_so, runs_no_chain, runs_no_function, runs_something}
 use Rattle.wc_core.proofs.needs.asks_with.Goals as goal
 

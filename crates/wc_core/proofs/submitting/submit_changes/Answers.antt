@@ -3,7 +3,7 @@ use Rattle.std.specs.Prelude.{List}
 use Rattle.wc_world.specs.declared.change.Change.{Change}
 use Rattle.wc_world.specs.Applied.{applied}
 use Rattle.wc_machine.specs.Submitting.{Submits, submission}
-use Rattle.wc_refusal.specs.Refusals.{AreFew, HasRoom, RefusesCounts}
+use Rattle.wc_machine.specs.Refusals.{AreFew, HasRoom, RefusesCounts}
 use Rattle.wc_core.proofs.Refused.{refuses_submission, submission_fits}
 use Rattle.wc_core.proofs.Allowed.{submission_allowed}
 use Rattle.wc_core.proofs.Leading.{submission_accepted, submission_continues, submission_sound}

@@ -3,8 +3,8 @@ use Rattle.wc_world.specs.declared.change.Change.{Change}
 use Rattle.wc_machine.specs.declared.answer.TaskAnswer.{TaskAnswer}
 use Rattle.wc_machine.specs.declared.answer.TaskAnswer.TheVariants.{Nothing}
 use Rattle.wc_machine.specs.Turning.{TurnGives}
-use Rattle.wc_refusal.specs.Refusals.{FullOf}
-use Rattle.wc_refusal.specs.declared.error.TurnError.{TurnError}
+use Rattle.wc_machine.specs.Refusals.{FullOf}
+use Rattle.wc_machine.specs.declared.error.TurnError.{TurnError}
 use Rattle.wc_core.proofs.Asking.{chain_answer}
 use Rattle.std.proofs.lemmas.Result.{IfErr-weaker, IfOk-weaker}
 use Rattle.wc_core.proofs.turning.turn_by_kind.Goals as goal

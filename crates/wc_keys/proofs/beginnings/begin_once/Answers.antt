@@ -1,7 +1,7 @@
 use Rattle.std.proofs.Common.{sym, subst}
 use Rattle.sha2.specs.declared.Sha256.{Sha256}
 use Rattle.sha2.specs.Hashers.{Holds256}
-use Rattle.wc_seals.specs.Keys.{key_start}
+use Rattle.wc_keys.specs.SealKeys.{key_start}
 use Rattle.wc_keys.proofs.HashersKept.{begun_put}
 use Rattle.wc_keys.proofs.beginnings.begin_once.Goals as goal
 

@@ -3,7 +3,7 @@ use Rattle.std.specs.Prelude.{flat_map}
 use Rattle.wc_value.specs.Spelling.{pair_of}
 use Rattle.wc_graph.specs.declared.link.Link.{Link}
 use Rattle.wc_graph.specs.declared.node.NodeKind.{NodeKind}
-use Rattle.wc_seals.proofs.Added.{adds_as}
+use Rattle.wc_keys.proofs.Added.{adds_as}
 use Rattle.wc_keys.specs.Ports.{plain_inputs, links_in, link_bytes}
 use Rattle.wc_keys.proofs.Ports.{plain_few}
 use Rattle.wc_keys.proofs.LinkMaps.{links_counted, links_spelled}

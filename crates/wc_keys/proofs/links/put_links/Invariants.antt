@@ -3,7 +3,7 @@ use Rattle.std.specs.Prelude.{flat_map}
 use Rattle.std.specs.Borrow.{Bor}
 use Rattle.sha2.specs.declared.Sha256.{Sha256}
 use Rattle.wc_graph.specs.declared.link.Link.{Link}
-use Rattle.wc_seals.specs.Hashing.{Adds}
+use Rattle.wc_keys.specs.Hashing.{Adds}
 use Rattle.wc_keys.specs.Ports.{links_in, link_bytes}
 use Rattle.wc_keys.proofs.links.put_links.Given as goal
 

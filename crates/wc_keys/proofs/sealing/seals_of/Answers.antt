@@ -1,6 +1,6 @@
 use Rattle.std.proofs.Common.{◌≡◌, List, length, subst, sym, ap, ◌∙◌}
 use Rattle.wc_records.specs.Marked.{IsSorted}
-use Rattle.wc_seals.specs.Order.{earlier, is_in, has_digest, NumbersAscend}
+use Rattle.wc_keys.specs.Order.{earlier, is_in, has_digest, NumbersAscend}
 use Rattle.wc_fits.specs.World.{Known}
 use Rattle.wc_keys.specs.Keys.{digest_from}
 use Rattle.wc_keys.proofs.SealEntries.{entries_ascend, entries_exact}

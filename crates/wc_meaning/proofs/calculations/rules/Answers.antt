@@ -2,7 +2,7 @@ use Rattle.std.proofs.Common.{◌≡◌, List, Option, Some, IfOk, sym, ap, subs
 use Rattle.std.specs.Option.{option_copied}
 use Rattle.wc_syntax.specs.Findings.{definition_named}
 use Rattle.wc_syntax.specs.declared.definition.Definition.{Definition}
-use Rattle.wc_calculation.specs.declared.outcomes.Parsed.{Parsed}
+use Rattle.wc_semantics.specs.declared.outcomes.Parsed.{Parsed}
 use Rattle.wc_meaning.specs.Ran.{ran}
 use Rattle.wc_meaning.proofs.Ran.{ran_named}
 use Rattle.wc_meaning.proofs.calculations.rules.Goals as goal

@@ -1,7 +1,7 @@
 use Rattle.std.proofs.Common.{◌+◌, ◌==◌, drop, List, sym, ap, ◌∙◌}
 use Rattle.wc_value.specs.Ascending.{put}
 use Rattle.wc_expression.specs.declared.outcome.Outcome.TheVariants.{Gives}
-use Rattle.wc_calculation.specs.Rules.{kind_of_port}
+use Rattle.wc_semantics.specs.Rules.{kind_of_port}
 use Rattle.wc_semantics.specs.Meaning.{takes_of}
 use Rattle.wc_meaning.proofs.Steps.{ctx_step, out_step, exit_step, call_step, passed}
 use Rattle.wc_meaning.proofs.statements.run_statements.Goals as goal

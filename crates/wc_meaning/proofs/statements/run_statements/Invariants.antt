@@ -1,5 +1,5 @@
 use Rattle.std.proofs.Common.{◌≡◌, ◌==◌, [], drop}
-use Rattle.wc_calculation.specs.Rules.{kind_of_port}
+use Rattle.wc_semantics.specs.Rules.{kind_of_port}
 use Rattle.wc_semantics.specs.Meaning.{takes_of}
 use Rattle.wc_semantics.specs.Statements.{statements}
 use Rattle.wc_meaning.proofs.statements.run_statements.Given as goal

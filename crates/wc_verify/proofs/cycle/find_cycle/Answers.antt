@@ -1,8 +1,8 @@
 use Rattle.std.proofs.Common.{sym, subst}
 use Rattle.std.specs.Prelude.{Some}
 use Rattle.wc_graph.specs.Walks.{IsAcyclic}
-use Rattle.wc_walk.specs.Order.{IsCause}
-use Rattle.wc_walk.specs.declared.error.WalkError.TheVariants.{Cycle}
+use Rattle.wc_graph.specs.Order.{IsCause}
+use Rattle.wc_graph.specs.declared.walk_error.WalkError.TheVariants.{Cycle}
 use Rattle.wc_verify.specs.Faults.{IsLeastOnCycle}
 use Rattle.wc_verify.proofs.Cycles.{least_first}
 use Rattle.wc_verify.proofs.cycle.find_cycle.Goals as goal

@@ -3,8 +3,8 @@ use Rattle.std.proofs.lemmas.List.{length-map}
 use Rattle.wc_graph.specs.declared.node.NodeKind.TheVariants as node
 use Rattle.wc_state.specs.declared.record.ProcessRecord.{ProcessRecord}
 use Rattle.wc_records.specs.Changes.{made, set, keep}
-use Rattle.wc_seals.specs.Order.{AreSealsOf}
-use Rattle.wc_seals.proofs.Exact.{exact_same}
+use Rattle.wc_keys.specs.Order.{AreSealsOf}
+use Rattle.wc_keys.proofs.Exact.{exact_same}
 use Rattle.wc_world.specs.declared.change.Change.{Change}
 use Rattle.wc_world.specs.declared.change.Change.TheVariants as change
 use Rattle.wc_world.specs.World.{Known}

@@ -1,6 +1,6 @@
 use Rattle.std.proofs.Common.{sym, ◌∙◌}
-use Rattle.wc_seals.specs.Order.{without}
-use Rattle.wc_seals.proofs.Exact.{exact_same}
+use Rattle.wc_keys.specs.Order.{without}
+use Rattle.wc_keys.proofs.Exact.{exact_same}
 use Rattle.wc_world.specs.Keys.{digest_from}
 use Rattle.wc_world.proofs.ChangedDigests.{with_link}
 use Rattle.wc_world.proofs.applying.put_link_sealed.Goals as goal

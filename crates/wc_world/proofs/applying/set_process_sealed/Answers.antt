@@ -1,7 +1,7 @@
 use Rattle.std.proofs.Common.{List, sym, ap, ◌∙◌}
 use Rattle.wc_state.specs.declared.record.ProcessRecord.{ProcessRecord}
-use Rattle.wc_seals.specs.Order.{without}
-use Rattle.wc_seals.proofs.Exact.{exact_same, without_none}
+use Rattle.wc_keys.specs.Order.{without}
+use Rattle.wc_keys.proofs.Exact.{exact_same, without_none}
 use Rattle.wc_world.specs.Keys.{digest_from}
 use Rattle.wc_world.proofs.ChangedDigests.{with_set, live_has_none}
 use Rattle.wc_world.proofs.applying.set_process_sealed.Goals as goal

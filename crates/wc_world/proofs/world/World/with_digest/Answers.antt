@@ -1,6 +1,6 @@
 use Rattle.std.proofs.Common.{sym, subst}
-use Rattle.wc_seals.specs.Order.{IsPartOf}
-use Rattle.wc_seals.proofs.Parts.{parts_are_exact}
+use Rattle.wc_keys.specs.Order.{IsPartOf}
+use Rattle.wc_keys.proofs.Parts.{parts_are_exact}
 use Rattle.wc_world.specs.Room.{Holding}
 use Rattle.wc_world.specs.Applying.{world_of}
 use Rattle.wc_world.specs.Keys.{digest_at}

@@ -1,6 +1,0 @@
-use Rattle.std.proofs.Common.{◌≡◌, drop}
-use Rattle.wc_calculation.specs.Rules.{kind_of_port}
-use Rattle.wc_calculation.proofs.rules.port_kind.Given as goal
-
-abbrev pub invariant-loop-port : goal.invariant-loop-port
-invariant-loop-port l = kind_of_port l.name (drop l.port-index l.ports) ≡ kind_of_port l.name l.ports

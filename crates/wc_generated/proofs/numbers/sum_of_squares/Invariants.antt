@@ -1,7 +1,0 @@
-use Rattle.std.proofs.Common.{◌≡◌, ◌≤◌, ◌*◌}
-use Rattle.wc_disk.specs.Noise.{after_draws}
-use Rattle.wc_generated.specs.Draws.{sum_of_squares}
-use Rattle.wc_generated.proofs.numbers.sum_of_squares.Given as goal
-
-abbrev pub invariant-loop-chain : goal.invariant-loop-chain
-invariant-loop-chain l = (l.sum ≡ sum_of_squares l._chain l.fn.seed) × (l.draws.x ≡ after_draws (2 * l._chain) l.fn.seed) × (l.sum ≤ 20000 * l._chain)

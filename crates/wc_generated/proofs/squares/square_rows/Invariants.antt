@@ -1,6 +1,0 @@
-use Rattle.std.proofs.Common.{◌≡◌}
-use Rattle.wc_generated.specs.Squares.{square_rows}
-use Rattle.wc_generated.proofs.squares.square_rows.Given as goal
-
-abbrev pub invariant-loop-number : goal.invariant-loop-number
-invariant-loop-number l = l.rows ≡ square_rows l.number

@@ -1,4 +1,0 @@
-mod Deciding
-mod Links
-mod Changes
-mod Holding

@@ -1,4 +1,4 @@
-//! Laws of the turns at which a work chain submits calls.
+//! Laws of the chains that wait for the calls that they submit.
 ghost use Rattle.wc_laws.specs.CallingLaws.{CallingChainsStaySound, CallsOfChainsKeepSound};
 
 /// A chain of a sound world that submits calls waits for them, and its record is sound afterwards.

@@ -1,4 +1,4 @@
-//! The world on two disks: what was acknowledged stays, whatever crash cuts a write.
+//! The world on two disks: what was acknowledged stays, whatever crash cuts a write; with laws, among them that each question of a store has one answer.
 #![tactic(auto)]
 
 mod choosing;

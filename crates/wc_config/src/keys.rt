@@ -11,7 +11,7 @@ pub const USUAL_BYTES: i64 = 268_435_456;
 pub const USUAL_POLL: i64 = 1_000;
 
 /// A part of the settings.
-#[derive(Clone, Copy, Debug, PartialEq, Eq)]
+#[derive(Clone, Copy, PartialEq, Eq)]
 pub enum Part {
     /// Which definitions have caching on.
     Caching,
@@ -22,7 +22,7 @@ pub enum Part {
 }
 
 /// What a setting holds.
-#[derive(Clone, Copy, Debug, PartialEq, Eq)]
+#[derive(Clone, Copy, PartialEq, Eq)]
 pub enum Holds {
     /// True or false.
     Truth,

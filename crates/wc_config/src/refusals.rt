@@ -17,7 +17,7 @@ use toml::{Table, Value};
 use wc_value::{Text, Words};
 
 /// What is wrong at a key.
-#[derive(Clone, Copy, Debug, PartialEq, Eq)]
+#[derive(Clone, Copy, PartialEq, Eq)]
 pub enum Kind {
     /// No setting has the key.
     UnknownKey,

@@ -19,7 +19,7 @@ use wc_value::{ProcessState, Request};
 use wc_world::{World, reached_worlds_are_consistent};
 
 /// What a process asks next.
-#[derive(Debug, Drop)]
+#[derive(Drop)]
 pub enum Asks {
     /// Nothing.
     Nothing,

@@ -11,7 +11,7 @@ use std::alloc::{AllocError, Global};
 use wc_world::World;
 
 /// What a run does next at a moment.
-#[derive(Clone, Copy, Debug, PartialEq, Eq)]
+#[derive(Clone, Copy, PartialEq, Eq)]
 pub enum Next {
     /// This process has its turn.
     Turn(u32),

@@ -11,7 +11,7 @@ use wc_disk::Generator;
 use wc_world::World;
 
 /// In which order processes have their turns.
-#[derive(Debug, Drop)]
+#[derive(Drop)]
 pub enum Order {
     /// The lowest ready one above the last one that had a turn, else the lowest.
     Round(u32),

@@ -5,7 +5,7 @@ ghost use Rattle.wc_core.specs.Standing.{StandsAs};
 use wc_world::World;
 
 /// How the processes of a world stand.
-#[derive(Clone, Copy, Debug, PartialEq, Eq)]
+#[derive(Clone, Copy, PartialEq, Eq)]
 pub enum Standing {
     /// No process is live.
     AllEnded,

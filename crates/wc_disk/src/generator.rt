@@ -5,7 +5,7 @@ ghost use Rattle.wc_disk.specs.Noise.{drawn, noise, after_draws};
 use std::alloc::{AllocError, Global};
 
 /// A linear congruential generator.
-#[derive(Debug, Drop)]
+#[derive(Drop)]
 pub struct Generator {
     pub x: u64,
     ghost small: { x < 2 ^ 32 },

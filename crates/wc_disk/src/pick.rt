@@ -1,7 +1,7 @@
 //! Which of the images that a crash may leave.
 
 /// Which of the images that a crash may leave is taken.
-#[derive(Clone, Copy, Debug, PartialEq, Eq)]
+#[derive(Clone, Copy, PartialEq, Eq)]
 pub enum Pick {
     /// All bytes as at the last sync.
     Old,

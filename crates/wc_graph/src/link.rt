@@ -1,7 +1,7 @@
 use wc_value::Text;
 
 /// What a link records of its two nodes.
-#[derive(Clone, Copy, Debug, PartialEq, Eq)]
+#[derive(Clone, Copy, PartialEq, Eq)]
 pub enum LinkType {
     /// Data went into a calculation.
     InputCalc,

@@ -9,7 +9,7 @@ use wc_value::List;
 pub type Failing = List<u64>;
 
 /// Counts the calls and the faults of a form in memory, and says which calls fail.
-#[derive(Debug, Drop)]
+#[derive(Drop)]
 pub struct Schedule {
     failing: Failing,
     fuse: Option<u64>,

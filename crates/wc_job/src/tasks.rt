@@ -13,7 +13,7 @@ use wc_state::{JobPart, Task};
 const LAST: u8 = 4;
 
 /// What the transport said of a task that brings back no result.
-#[derive(Clone, Copy, Debug, PartialEq, Eq)]
+#[derive(Clone, Copy, PartialEq, Eq)]
 pub enum Answer {
     /// The task failed.
     Failed,
@@ -24,7 +24,7 @@ pub enum Answer {
 }
 
 /// Where a job stands after an answer, and whether it gets the pause mark.
-#[derive(Clone, Copy, Debug, PartialEq, Eq)]
+#[derive(Clone, Copy, PartialEq, Eq)]
 pub struct JobStep {
     /// The task that is asked next, with its failures and its due moment.
     pub part: JobPart,

@@ -5,7 +5,7 @@ ghost use Rattle.wc_journal.specs.Refusals.{size_after};
 use crate::batches::Batches;
 
 /// What is known of a journal on a disk: its version, its generation, and the offset of its last gate.
-#[derive(Debug, Drop)]
+#[derive(Drop)]
 pub struct Journal {
     pub(crate) version: u8,
     pub(crate) generation: u64,

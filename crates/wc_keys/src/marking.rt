@@ -5,7 +5,7 @@ ghost use Rattle.wc_records.specs.Marked.{IsSorted, IsPlace, is_item, marked};
 ghost use Rattle.wc_keys.specs.Order.{earlier, is_in, is_seal};
 
 /// The digest of the key of a calculation that has finished, with its number.
-#[derive(Clone, Copy, Debug, PartialEq, Eq, PartialOrd, Ord)]
+#[derive(Clone, Copy, PartialEq, Eq, PartialOrd, Ord)]
 pub struct Sealed {
     /// The SHA-256 of its key.
     pub digest: [u8; 32],

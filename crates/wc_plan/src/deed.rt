@@ -33,7 +33,7 @@ pub enum Begin {
 }
 
 /// How a run goes.
-#[derive(Clone, Copy, Debug, PartialEq, Eq)]
+#[derive(Clone, Copy, PartialEq, Eq)]
 pub struct RunOptions {
     /// How many turns and rests it takes at most.
     pub turns: u64,

@@ -11,7 +11,7 @@ use wc_state::What;
 use wc_value::{ProcessState, Request, Text};
 
 /// Why a command was refused.
-#[derive(Debug, Drop)]
+#[derive(Drop)]
 pub enum Cause {
     /// The words are no command.
     Words,
@@ -59,7 +59,7 @@ pub enum Fault {
 }
 
 /// How a call of the program ended.
-#[derive(Debug, Drop)]
+#[derive(Drop)]
 pub enum Status {
     /// The work was done, and its text was written whole.
     Ok,

@@ -41,7 +41,7 @@ pub struct SetProcess {
 }
 
 /// The batches in which a process of a snapshot started and ended.
-#[derive(Clone, Copy, Debug, PartialEq, Eq)]
+#[derive(Clone, Copy, PartialEq, Eq)]
 pub struct Kept {
     /// The number of its node.
     pub pid: u32,

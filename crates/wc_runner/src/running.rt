@@ -25,7 +25,7 @@ use wc_store::Store;
 use wc_transport::Transport;
 
 /// How a run ended.
-#[derive(Clone, Copy, Debug, PartialEq, Eq)]
+#[derive(Clone, Copy, PartialEq, Eq)]
 pub enum RunEnd {
     /// No process is live.
     AllEnded,

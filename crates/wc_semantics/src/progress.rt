@@ -11,7 +11,7 @@ pub type Asked = List<(Words, Request)>;
 pub type Kills = List<(Words, u32)>;
 
 /// A tree, with what was asked for it.
-#[derive(Debug, Drop)]
+#[derive(Drop)]
 pub struct Replayed {
     /// The tree.
     pub tree: Tree,

@@ -11,7 +11,7 @@ use wc_value::{Keyed, List, ProcessState, Text};
 pub type Ids = List<u32>;
 
 /// What kind of definition a process runs.
-#[derive(Clone, Copy, Debug, PartialEq, Eq)]
+#[derive(Clone, Copy, PartialEq, Eq)]
 pub enum ProcessKind {
     /// A calculation function.
     Function,
@@ -22,7 +22,7 @@ pub enum ProcessKind {
 }
 
 /// What is asked of the transport next.
-#[derive(Clone, Copy, Debug, PartialEq, Eq)]
+#[derive(Clone, Copy, PartialEq, Eq)]
 pub enum Task {
     /// The request is to be placed.
     Upload,
@@ -35,7 +35,7 @@ pub enum Task {
 }
 
 /// Where a job stands.
-#[derive(Clone, Copy, Debug, PartialEq, Eq)]
+#[derive(Clone, Copy, PartialEq, Eq)]
 pub struct JobPart {
     /// What is asked next.
     pub task: Task,
@@ -46,7 +46,7 @@ pub struct JobPart {
 }
 
 /// A place in a block of an outline. Blocks are numbered in the order of their opening braces; the outline is block 0.
-#[derive(Clone, Copy, Debug, PartialEq, Eq)]
+#[derive(Clone, Copy, PartialEq, Eq)]
 pub struct Frame {
     /// The block.
     pub block: u32,

@@ -30,7 +30,7 @@ pub struct Number {
 }
 
 /// An operator before one operand.
-#[derive(Clone, Copy, Debug, PartialEq, Eq)]
+#[derive(Clone, Copy, PartialEq, Eq)]
 pub enum UnaryOp {
     /// `-`
     Negate,
@@ -39,7 +39,7 @@ pub enum UnaryOp {
 }
 
 /// An operator between two operands.
-#[derive(Clone, Copy, Debug, PartialEq, Eq)]
+#[derive(Clone, Copy, PartialEq, Eq)]
 pub enum BinaryOp {
     /// `or`
     Or,
@@ -70,7 +70,7 @@ pub enum BinaryOp {
 }
 
 /// A word that takes one argument.
-#[derive(Clone, Copy, Debug, PartialEq, Eq)]
+#[derive(Clone, Copy, PartialEq, Eq)]
 pub enum OneOf {
     /// `text(e)`
     Text,
@@ -83,7 +83,7 @@ pub enum OneOf {
 }
 
 /// A word that takes two arguments.
-#[derive(Clone, Copy, Debug, PartialEq, Eq)]
+#[derive(Clone, Copy, PartialEq, Eq)]
 pub enum TwoOf {
     /// `get(e, e)`
     Get,

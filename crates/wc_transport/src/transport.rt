@@ -12,7 +12,7 @@ use std::alloc::Global;
 use wc_value::{JobResult, Request};
 
 /// How far the program of a job has come.
-#[derive(Clone, Copy, Debug, PartialEq, Eq)]
+#[derive(Clone, Copy, PartialEq, Eq)]
 pub enum Progress {
     /// It hasn't ended, as far as is known.
     Running,

@@ -18,7 +18,7 @@ pub struct Request {
 }
 
 /// What the transport brings back from a job.
-#[derive(Debug, Drop)]
+#[derive(Drop)]
 pub struct JobResult {
     /// The program's exit code.
     pub code: i64,
@@ -70,7 +70,7 @@ pub enum ProcessState {
 pub type Branches = List<(Text, Tree)>;
 
 /// What a process did, with what it called.
-#[derive(Debug, Drop)]
+#[derive(Drop)]
 pub struct Tree {
     /// The name of its definition.
     pub definition: Text,

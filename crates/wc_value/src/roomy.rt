@@ -7,7 +7,7 @@ use std::marker::Model;
 
 /// A list whose contracts also see its spare room: the pair of the plain list and the number of further items
 /// that it takes without asking for memory.
-#[derive(Debug, Drop)]
+#[derive(Drop)]
 pub struct Roomy<T> {
     items: Vec<T>,
 }

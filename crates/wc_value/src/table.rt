@@ -18,7 +18,7 @@ use thiserror::Error;
 pub type Rows = List<(Request, JobResult)>;
 
 /// Results of jobs by their requests, with no request twice. Contracts see the list of its rows.
-#[derive(Debug, Drop)]
+#[derive(Drop)]
 pub struct Table {
     rows: Rows,
 }

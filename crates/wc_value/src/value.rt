@@ -20,7 +20,7 @@ pub type Fields = Keyed<Value>;
 pub type Files = Keyed<Bytes>;
 
 /// A value that a port, a key of a context or a data node holds.
-#[derive(Debug, Drop)]
+#[derive(Drop)]
 pub enum Value {
     /// A whole number of 64 bits.
     Int(i64),

@@ -1,6 +1,6 @@
 //! What a call of the program gave, and whether an answer says so.
 
-use std::alloc::{AllocError, Global};
+use crate::kept::Kept;
 use wc_transcript::Answer;
 use wc_value::Bytes;
 
@@ -17,24 +17,19 @@ pub struct Called {
 
 impl Called {
     /// Whether an answer says this.
-    fn fits(&self, alloc: Global, answer: &Answer, number: u64) -> Result<bool, AllocError> {
-        let text = answer.text.written(alloc, number)?;
-        Ok(self.status == answer.status && self.text.as_slice() == text.as_slice())
+    fn fits(&self, kept: &mut Kept, answer: &Answer, number: u64) -> bool {
+        let text = kept.written(&answer.text, number);
+        self.status == answer.status && self.text.as_slice() == text.as_slice()
     }
 
     /// Whether one of these answers says this.
-    pub fn fits_one(
-        &self,
-        alloc: Global,
-        answers: &[Answer],
-        number: u64,
-    ) -> Result<bool, AllocError> {
+    pub fn fits_one(&self, kept: &mut Kept, answers: &[Answer], number: u64) -> bool {
         for answer in answers {
-            if self.fits(alloc, answer, number)? {
-                return Ok(true);
+            if self.fits(kept, answer, number) {
+                return true;
             }
         }
-        Ok(false)
+        false
     }
 
     /// Whether this is a fault of the shelf, the sink or a disk.

@@ -1,9 +1,10 @@
 //! The two disks, in memory.
 
-use std::alloc::{AllocError, Global};
+use crate::kept::Kept;
+use std::alloc::Global;
 use wc_disk::{MemoryDisk, Pick};
 use wc_transcript::{Left, Side};
-use wc_value::{Bytes, List, both, put};
+use wc_value::{Bytes, List, put};
 
 /// The two disks.
 #[derive(Drop)]
@@ -14,16 +15,9 @@ pub struct Disks {
     pub two: MemoryDisk,
 }
 
-/// These bytes as a list.
-pub fn bytes_of(alloc: Global, bytes: &[u8]) -> Result<Bytes, AllocError> {
-    let mut list = List::new(alloc);
-    list.extend(bytes)?;
-    Ok(list)
-}
-
 /// A disk that holds these bytes, of which no call fails.
-fn disk_of(alloc: Global, bytes: &[u8]) -> Result<MemoryDisk, AllocError> {
-    Ok(MemoryDisk::new(alloc, bytes_of(alloc, bytes)?, List::new(alloc)))
+fn disk_of(kept: &mut Kept, bytes: &[u8]) -> MemoryDisk {
+    MemoryDisk::new(kept.alloc, kept.bytes_of(bytes), List::new(kept.alloc))
 }
 
 /// What the disk takes for what a crash leaves.
@@ -33,6 +27,12 @@ fn pick_of(left: Left) -> Pick {
         Left::New => Pick::New,
         Left::Noise(seed) => Pick::Noise(seed),
     }
+}
+
+/// What a crash of a disk leaves, where it is picked so.
+fn crashed(kept: &mut Kept, disk: &MemoryDisk, left: Left) -> MemoryDisk {
+    let usual = disk_of(kept, &[]);
+    kept.made(disk.crashed(kept.alloc, pick_of(left)), usual)
 }
 
 impl Disks {
@@ -45,17 +45,19 @@ impl Disks {
     }
 
     /// Disks that hold the same, all of it synced, and of which no call fails.
-    pub fn copy(&self, alloc: Global) -> Result<Disks, AllocError> {
-        let one = disk_of(alloc, self.one.bytes())?;
-        let (one, two) = both(one, disk_of(alloc, self.two.bytes()))?;
-        Ok(Disks { one, two })
+    pub fn copy(&self, kept: &mut Kept) -> Disks {
+        Disks {
+            one: disk_of(kept, self.one.bytes()),
+            two: disk_of(kept, self.two.bytes()),
+        }
     }
 
     /// What a crash of both disks leaves, where each is picked so.
-    pub fn crashed(&self, alloc: Global, one: Left, two: Left) -> Result<Disks, AllocError> {
-        let one = self.one.crashed(alloc, pick_of(one))?;
-        let (one, two) = both(one, self.two.crashed(alloc, pick_of(two)))?;
-        Ok(Disks { one, two })
+    pub fn crashed(&self, kept: &mut Kept, one: Left, two: Left) -> Disks {
+        Disks {
+            one: crashed(kept, &self.one, one),
+            two: crashed(kept, &self.two, two),
+        }
     }
 
     /// What a disk holds.

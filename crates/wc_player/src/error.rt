@@ -1,20 +1,26 @@
 //! Why a transcript can't be played.
 
-use std::alloc::AllocError;
-use thiserror::Error;
+use std::fmt::{self, Display, Formatter, Write};
 use wc_value::TableError;
 
 /// Why a transcript can't be played.
-#[derive(Clone, Copy, Debug, Error)]
+#[derive(Clone, Copy)]
 pub enum PlayError {
-    #[error("out of memory")]
     OutOfMemory,
     /// A word of a command is no text.
-    #[error("a word is no text")]
     Word,
     /// A result stands twice.
-    #[error("a request has two results")]
     Twice,
+}
+
+impl Display for PlayError {
+    fn fmt<W: Write>(&self, f: &mut Formatter<W>) -> fmt::Result {
+        f.write_str(match self {
+            PlayError::OutOfMemory => "out of memory",
+            PlayError::Word => "a word is no text",
+            PlayError::Twice => "a request has two results",
+        })
+    }
 }
 
 impl From<TableError> for PlayError {
@@ -23,11 +29,5 @@ impl From<TableError> for PlayError {
             TableError::OutOfMemory => PlayError::OutOfMemory,
             TableError::Twice(_) => PlayError::Twice,
         }
-    }
-}
-
-impl From<AllocError> for PlayError {
-    fn from(_error: AllocError) -> PlayError {
-        PlayError::OutOfMemory
     }
 }

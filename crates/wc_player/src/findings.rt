@@ -3,9 +3,10 @@
 ghost use Rattle.std.specs.Prelude.{◌≡◌, ◌+◌, ◌==◌, [], length, if◌then◌else◌, IfOk, OnOk};
 
 use crate::called::Called;
+use crate::kept::Kept;
 use std::alloc::{AllocError, Global};
 use wc_transcript::Answer;
-use wc_value::{List, filled};
+use wc_value::List;
 
 /// The line of a step, and the number of the repetition.
 #[derive(Clone, Copy)]
@@ -31,85 +32,43 @@ pub struct Findings {
     list: List<Finding>,
 }
 
-/// Puts the text of bytes in quotes behind a line. Where they are no text it puts their digits.
-fn put_bytes(line: &mut String, bytes: &[u8]) -> Result<(), AllocError> {
-    match str::from_utf8(bytes) {
-        Ok(text) => write!(line, " {text:?}"),
-        Err(_) => put_digits(line, bytes),
-    }
-}
-
-/// Puts the digits of a byte behind a line.
-fn put_byte(line: &mut String, byte: u8) -> Result<(), AllocError> {
-    write!(line, " {byte:02x}")
-}
-
 /// Puts the digits of bytes behind a line.
-fn put_digits(line: &mut String, bytes: &[u8]) -> Result<(), AllocError> {
+fn put_digits(kept: &mut Kept, line: &mut String, bytes: &[u8]) {
     for byte in bytes {
-        put_byte(line, *byte)?;
+        kept.keep(write!(line, " {byte:02x}"));
     }
-    Ok(())
 }
 
-/// Puts an exit status and a text behind a line.
-fn put_answer(line: &mut String, status: u8, text: &[u8]) -> Result<(), AllocError> {
-    write!(line, " {status}")?;
-    put_bytes(line, text)
-}
-
-/// Puts an answer that is right behind a line.
-fn put_right(
-    alloc: Global,
-    line: &mut String,
-    repetition: u64,
-    answer: &Answer,
-) -> Result<(), AllocError> {
-    let text = answer.text.written(alloc, repetition)?;
-    put_answer(line, answer.status, text.as_slice())
-}
-
-/// Puts what was asked for behind a line, and what came.
-fn put_told(
-    alloc: Global,
-    line: &mut String,
-    repetition: u64,
-    answers: &[Answer],
-    called: &Called,
-) -> Result<(), AllocError> {
-    line.push_str("expected")?;
-    for answer in answers {
-        put_right(alloc, line, repetition, answer)?;
+/// Puts an exit status and a text in quotes behind a line. Where it is no text it puts its digits.
+fn put_answer(kept: &mut Kept, line: &mut String, status: u8, text: &[u8]) {
+    kept.keep(write!(line, " {status}"));
+    match str::from_utf8(text) {
+        Ok(text) => kept.keep(write!(line, " {text:?}")),
+        Err(_) => put_digits(kept, line, text),
     }
-    line.push_str(", came")?;
-    put_answer(line, called.status, called.text.as_slice())
 }
 
 /// What was asked for, and what came.
-fn told_of(
-    alloc: Global,
-    repetition: u64,
-    answers: &[Answer],
-    called: &Called,
-) -> Result<String, AllocError> {
-    let mut line = String::new(alloc);
-    let put = put_told(alloc, &mut line, repetition, answers, called);
-    filled(line, put)
-}
-
-/// Puts which bytes were asked for behind a line, and which came.
-fn put_told_bytes(line: &mut String, wanted: &[u8], held: &[u8]) -> Result<(), AllocError> {
-    line.push_str("expected")?;
-    put_digits(line, wanted)?;
-    line.push_str(", came")?;
-    put_digits(line, held)
+fn told_of(kept: &mut Kept, repetition: u64, answers: &[Answer], called: &Called) -> String {
+    let mut line = String::new(kept.alloc);
+    kept.keep(line.push_str("expected"));
+    for answer in answers {
+        let text = kept.written(&answer.text, repetition);
+        put_answer(kept, &mut line, answer.status, text.as_slice());
+    }
+    kept.keep(line.push_str(", came"));
+    put_answer(kept, &mut line, called.status, called.text.as_slice());
+    line
 }
 
 /// Which bytes were asked for, and which came.
-pub fn told_bytes(alloc: Global, wanted: &[u8], held: &[u8]) -> Result<String, AllocError> {
-    let mut line = String::new(alloc);
-    let put = put_told_bytes(&mut line, wanted, held);
-    filled(line, put)
+pub fn told_bytes(kept: &mut Kept, wanted: &[u8], held: &[u8]) -> String {
+    let mut line = String::new(kept.alloc);
+    kept.keep(line.push_str("expected"));
+    put_digits(kept, &mut line, wanted);
+    kept.keep(line.push_str(", came"));
+    put_digits(kept, &mut line, held);
+    line
 }
 
 impl Findings {
@@ -149,18 +108,17 @@ impl Findings {
     /// Compares what a call gave with the answers that are right. There is one more finding exactly where none of them is given.
     pub fn judge(
         &mut self,
-        alloc: Global,
+        kept: &mut Kept,
         place: Place,
         answers: &[Answer],
         called: &Called,
     ) -> Result<bool, AllocError>
         ensures counted { IfOk result (λ fits. length self.new.list ≡ (if fits then length self.old.list else length self.old.list + 1)) }
     {
-        if called.fits_one(alloc, answers, place.repetition)? {
+        if called.fits_one(kept, answers, place.repetition) {
             return Ok(true);
         }
-        let told = told_of(alloc, place.repetition, answers, called)?;
-        self.put(place, told)?;
+        self.put(place, told_of(kept, place.repetition, answers, called))?;
         Ok(false)
     }
 

@@ -2,145 +2,63 @@
 
 use crate::error::PlayError;
 use crate::findings::Place;
-use crate::player::{Player, numbers_at, words_of};
+use crate::kept::Kept;
+use crate::player::Player;
 use crate::program::Program;
-use std::alloc::{AllocError, Global};
-use wc_state::Task;
-use wc_transcript::{Named, Number, Row};
-use wc_value::{
-    Duplicate, Files, JobResult, Request, Rows, Table, Text, Words, both, filled, put_given,
-};
-
-/// Puts files in a repetition.
-fn put_files(
-    alloc: Global,
-    files: &mut Files,
-    named: &Named,
-    repetition: u64,
-) -> Result<(), AllocError> {
-    for (name, content) in named.as_slice() {
-        let content = content.written(alloc, repetition)?;
-        files.set(name.copy()?, content)?;
-    }
-    Ok(())
-}
-
-/// The program of words. One that isn't named has the empty name.
-fn program_of(alloc: Global, words: &Words) -> Result<Text, AllocError> {
-    match words.get(0) {
-        Some(program) => program.copy(),
-        None => Text::of_str(alloc, ""),
-    }
-}
-
-/// Puts what is asked for with these words, in a repetition.
-fn put_asked(
-    alloc: Global,
-    request: &mut Request,
-    row: &Row,
-    words: &Words,
-    repetition: u64,
-) -> Result<(), AllocError> {
-    for word in words.as_slice().get(1..).unwrap_or(&[]) {
-        request.args.push(word.copy()?)?;
-    }
-    put_files(alloc, &mut request.files, &row.files, repetition)?;
-    put_given(&mut request.fetch, row.fetch.copy())
-}
+use wc_transcript::{Number, Row};
+use wc_value::{JobResult, Request, Rows, Table};
 
 /// What a program is started with, in a repetition.
-fn request_of(alloc: Global, row: &Row, repetition: u64) -> Result<Request, PlayError> {
-    let words = words_of(alloc, row.words.as_slice(), repetition)?;
-    let mut request = Request {
-        program: program_of(alloc, &words)?,
-        args: words.emptied(),
-        files: Files::new(alloc),
-        fetch: words.emptied(),
-    };
-    let put = put_asked(alloc, &mut request, row, &words, repetition);
-    Ok(filled(request, put)?)
-}
-
-/// What a program comes to, in a repetition.
-fn result_of(alloc: Global, row: &Row, repetition: u64) -> Result<JobResult, AllocError> {
-    let mut files = Files::new(alloc);
-    let put = put_files(alloc, &mut files, &row.left, repetition);
-    Ok(JobResult {
-        code: row.code,
-        files: filled(files, put)?,
+fn request_of(kept: &mut Kept, row: &Row, repetition: u64) -> Option<Request> {
+    let (program, args) = row.words.as_slice().split_first()?;
+    let program = kept.text(program, repetition)?;
+    Some(Request {
+        program,
+        args: kept.words(args, repetition),
+        files: kept.files(&row.files, repetition),
+        fetch: kept.words(row.fetch.as_slice(), repetition),
     })
 }
 
-/// A row of a table, in a repetition.
-fn row_of(alloc: Global, row: &Row, repetition: u64) -> Result<(Request, JobResult), PlayError> {
-    let request = request_of(alloc, row, repetition)?;
-    Ok(both(request, result_of(alloc, row, repetition))?)
+/// Puts a row of a table in a repetition.
+fn put_row(kept: &mut Kept, rows: &mut Rows, row: &Row, repetition: u64) {
+    let Some(request) = request_of(kept, row, repetition) else {
+        return;
+    };
+    let files = kept.files(&row.left, repetition);
+    let code = row.code;
+    kept.keep(rows.push((request, JobResult { code, files })));
 }
 
-/// Puts the rows of a table in a repetition.
-fn put_rows(
-    alloc: Global,
-    list: &mut Rows,
-    rows: &[Row],
-    repetition: u64,
-) -> Result<(), PlayError> {
+/// The rows of a table in a repetition.
+fn rows_of(kept: &mut Kept, rows: &[Row], repetition: u64) -> Rows {
+    let mut list = Rows::new(kept.alloc);
     for row in rows {
-        list.push(row_of(alloc, row, repetition)?)?;
+        put_row(kept, &mut list, row, repetition);
     }
-    Ok(())
-}
-
-/// The table of rows in a repetition.
-fn table_of(alloc: Global, rows: &[Row], repetition: u64) -> Result<Table, PlayError> {
-    let mut list = Rows::new(alloc);
-    let put = put_rows(alloc, &mut list, rows, repetition);
-    Ok(Table::new(alloc, filled(list, put)?)?)
+    list
 }
 
 impl<P: Program + Drop> Player<P> {
     /// The transport is a new one with these results, and the clock a new one.
-    pub fn set_table(&mut self, place: Place, rows: &[Row]) -> Result<(), PlayError> {
-        let table = table_of(self.alloc(), rows, place.repetition)?;
-        Ok(self.machine.set_table(table)?)
-    }
-
-    /// So many first updates of a directory answer Running.
-    pub fn set_busy(
-        &mut self,
-        place: Place,
-        directory: Number,
-        updates: Number,
-    ) -> Result<(), AllocError> {
-        let updates = updates.at(place.repetition);
-        match u32::try_from(directory.at(place.repetition)) {
-            Ok(directory) => self.machine.outside.set_busy(directory, updates),
-            Err(_) => self.note(place, false, "there is no such directory"),
+    pub fn set_table(&mut self, place: Place, rows: &[Row]) {
+        let rows = rows_of(&mut self.kept, rows, place.repetition);
+        match Table::new(self.kept.alloc, rows) {
+            Ok(table) => self.kept.keep(self.machine.set_table(table)),
+            Err(error) => self.kept.fail(PlayError::from(error)),
         }
     }
 
-    /// The clock tells these moments next.
-    pub fn set_clock(&mut self, place: Place, moments: &[Number]) -> Result<(), AllocError> {
-        let moments = numbers_at(self.alloc(), moments, place.repetition)?;
-        self.machine.clock.set_coming(moments);
-        Ok(())
-    }
-
-    /// Asks at which moment the clock stands.
-    pub fn ask_moment(&mut self, place: Place, wanted: Number) -> Result<(), AllocError> {
-        let wanted = wanted.at(place.repetition);
-        let moment = self.machine.clock.moment();
-        self.note_number(place, ("moment ", ""), wanted, moment)
-    }
-
-    /// Asks how often the transport was called for a task, or at all.
-    pub fn ask_calls(
-        &mut self,
-        place: Place,
-        task: Option<Task>,
-        wanted: Number,
-    ) -> Result<(), AllocError> {
-        let wanted = wanted.at(place.repetition);
-        let calls = self.machine.outside.asked(task);
-        self.note_number(place, ("", " calls"), wanted, calls)
+    /// So many first updates of a directory answer Running.
+    pub fn set_busy(&mut self, place: Place, directory: Number, updates: Number) {
+        let updates = updates.at(place.repetition);
+        match u32::try_from(directory.at(place.repetition)) {
+            Ok(directory) => {
+                let outside = &mut self.machine.outside;
+                let set = outside.set_busy(&mut self.kept, directory, updates);
+                self.kept.keep(set);
+            }
+            Err(_) => self.note(place, false, "there is no such directory"),
+        }
     }
 }

@@ -8,6 +8,7 @@ mod disks;
 mod error;
 mod findings;
 mod jobs;
+mod kept;
 mod machine;
 mod outside;
 mod player;

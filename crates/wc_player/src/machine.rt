@@ -2,16 +2,14 @@
 
 use crate::called::Called;
 use crate::clock::Clock;
-use crate::disks::{Disks, bytes_of};
+use crate::disks::Disks;
+use crate::kept::Kept;
 use crate::outside::Outside;
 use crate::program::{Program, Sipping};
 use std::alloc::{AllocError, Global};
 use wc_io::{MemoryShelf, MemorySink};
 use wc_transcript::{Left, Side};
-use wc_value::{
-    Bytes, Duplicate, Files, List, Rows, Table, TableError, Text, Words, both, filled, put,
-    put_given,
-};
+use wc_value::{Bytes, Duplicate, Files, List, Table, Text, Words, put};
 
 /// A shelf, a sink, two disks, a transport and a clock, on which the program is called.
 #[derive(Drop)]
@@ -36,11 +34,15 @@ fn sink_of(alloc: Global, most: usize, failing: List<u64>) -> Sipping {
     }
 }
 
+/// The same files.
+fn copied(kept: &mut Kept, files: &Files) -> Files {
+    kept.made(files.copy(), Files::new(kept.alloc))
+}
+
 impl Machine {
-    /// A machine with no file, two empty disks and a transport that has no results.
-    pub fn new(alloc: Global) -> Result<Machine, TableError> {
-        let outside = Outside::new(alloc, Table::new(alloc, Rows::new(alloc))?)?;
-        Ok(Machine {
+    /// A machine with no file, two empty disks and this transport.
+    pub fn new(alloc: Global, outside: Outside) -> Machine {
+        Machine {
             alloc,
             files: Files::new(alloc),
             shelf: MemoryShelf::new(Files::new(alloc), List::new(alloc)),
@@ -48,49 +50,35 @@ impl Machine {
             disks: Disks::new(alloc),
             outside,
             clock: Clock::new(alloc),
-        })
-    }
-
-    /// The shelf, of which no call fails, and the clock hold what those of another machine hold.
-    fn put_rest(&mut self, other: &Machine) -> Result<(), AllocError> {
-        put_given(&mut self.files, other.files.copy())?;
-        put_given(&mut self.clock, other.clock.copy())?;
-        self.fail_shelf(List::new(self.alloc))
+        }
     }
 
     /// A machine that holds the same beside these disks and this transport. No call of its shelf, its sink and its disks fails.
-    fn with(&self, disks: Disks, outside: Outside) -> Result<Machine, AllocError> {
+    fn with(&self, kept: &mut Kept, disks: Disks, outside: Outside) -> Machine {
         let alloc = self.alloc;
-        let mut machine = Machine {
+        Machine {
             alloc,
-            files: Files::new(alloc),
-            shelf: MemoryShelf::new(Files::new(alloc), List::new(alloc)),
+            files: copied(kept, &self.files),
+            shelf: MemoryShelf::new(copied(kept, &self.files), List::new(alloc)),
             sink: sink_of(alloc, self.sink.most, List::new(alloc)),
             disks,
             outside,
-            clock: Clock::new(alloc),
-        };
-        let put = machine.put_rest(self);
-        filled(machine, put)
+            clock: kept.made(self.clock.copy(), Clock::new(alloc)),
+        }
     }
 
     /// A machine that holds the same. No call of its shelf, its sink and its disks fails, and all that the disks hold counts as synced.
-    pub fn copy(&self) -> Result<Machine, AllocError> {
-        let disks = self.disks.copy(self.alloc)?;
-        let (disks, outside) = both(disks, self.outside.copy())?;
-        self.with(disks, outside)
+    pub fn copy(&self, kept: &mut Kept) -> Result<Machine, AllocError> {
+        let outside = self.outside.copy(kept)?;
+        let disks = self.disks.copy(kept);
+        Ok(self.with(kept, disks, outside))
     }
 
     /// What a crash of both disks leaves, where each is picked so.
-    pub fn crashed(&self, one: Left, two: Left) -> Result<Machine, AllocError> {
-        let disks = self.disks.crashed(self.alloc, one, two)?;
-        let (disks, outside) = both(disks, self.outside.copy())?;
-        self.with(disks, outside)
-    }
-
-    /// What the machine takes its memory from.
-    pub fn alloc(&self) -> Global {
-        self.alloc
+    pub fn crashed(&self, kept: &mut Kept, one: Left, two: Left) -> Result<Machine, AllocError> {
+        let outside = self.outside.copy(kept)?;
+        let disks = self.disks.crashed(kept, one, two);
+        Ok(self.with(kept, disks, outside))
     }
 
     /// A disk holds these bytes.
@@ -100,17 +88,15 @@ impl Machine {
     }
 
     /// These calls of a disk fail, counted from now on.
-    pub fn fail_disk(&mut self, side: Side, failing: List<u64>) -> Result<(), AllocError> {
-        let bytes = bytes_of(self.alloc, self.disks.bytes(side))?;
+    pub fn fail_disk(&mut self, kept: &mut Kept, side: Side, failing: List<u64>) {
+        let bytes = kept.bytes_of(self.disks.bytes(side));
         self.disks.set(self.alloc, side, bytes, failing);
-        Ok(())
     }
 
     /// These calls of the shelf fail, counted from now on.
-    pub fn fail_shelf(&mut self, failing: List<u64>) -> Result<(), AllocError> {
-        let (failing, files) = both(failing, self.files.copy())?;
+    pub fn fail_shelf(&mut self, kept: &mut Kept, failing: List<u64>) {
+        let files = copied(kept, &self.files);
         put(&mut self.shelf, MemoryShelf::new(files, failing));
-        Ok(())
     }
 
     /// These calls of the sink fail, counted from now on.
@@ -126,26 +112,25 @@ impl Machine {
 
     /// The transport is a new one with this table, and the clock one that stands at 0.
     pub fn set_table(&mut self, table: Table) -> Result<(), AllocError> {
-        let outside = Outside::new(self.alloc, table)?;
-        put(&mut self.outside, outside);
+        put(&mut self.outside, Outside::new(self.alloc, table)?);
         put(&mut self.clock, Clock::new(self.alloc));
         Ok(())
     }
 
     /// The shelf has a file of this name, and none of its calls fails.
-    pub fn set_file(&mut self, name: Text, content: Bytes) -> Result<(), AllocError> {
-        self.files.set(name, content)?;
-        self.fail_shelf(List::new(self.alloc))
+    pub fn set_file(&mut self, kept: &mut Kept, name: Text, content: Bytes) {
+        kept.keep(self.files.set(name, content));
+        self.fail_shelf(kept, List::new(self.alloc));
     }
 
     /// What the sink took behind so many bytes.
-    fn written_behind(&self, before: usize) -> Result<Bytes, AllocError> {
+    fn written_behind(&self, kept: &mut Kept, before: usize) -> Bytes {
         let all = self.sink.inner.bytes();
-        bytes_of(self.alloc, all.get(before..).unwrap_or(&[]))
+        kept.bytes_of(all.get(before..).unwrap_or(&[]))
     }
 
     /// Calls a program with these words.
-    pub fn call<P: Program>(&mut self, program: &P, words: &Words) -> Result<Called, AllocError> {
+    pub fn call<P: Program>(&mut self, kept: &mut Kept, program: &P, words: &Words) -> Called {
         let before = self.sink.inner.bytes().len();
         let faults = self.outside.faults();
         let status = program.call(
@@ -158,11 +143,10 @@ impl Machine {
             &mut self.outside,
             &mut self.clock,
         );
-        let text = self.written_behind(before)?;
-        Ok(Called {
+        Called {
             status,
-            text,
+            text: self.written_behind(kept, before),
             is_failed: self.outside.faults() != faults,
-        })
+        }
     }
 }

@@ -5,10 +5,11 @@ ghost use Rattle.std.specs.List.{list_any};
 ghost use Rattle.wc_io.specs.Counts.{counted, RisesByOne};
 ghost use Rattle.wc_transport.specs.Outside.{CountsTaskFault};
 
+use crate::kept::Kept;
 use std::alloc::{AllocError, Global};
 use wc_state::Task;
 use wc_transport::{Busy, Progress, TableTransport, TaskError, Transport};
-use wc_value::{Duplicate, JobResult, List, Request, Table, both, filled, put, put_given};
+use wc_value::{Duplicate, JobResult, List, Request, Table, both, put};
 
 /// The numbers of the calls that are to fail, counted from a call on.
 #[derive(Drop)]
@@ -32,12 +33,12 @@ impl Counter {
     }
 
     /// The same counter.
-    fn copy(&self) -> Result<Counter, AllocError> {
-        Ok(Counter {
+    fn copy(&self, kept: &mut Kept) -> Counter {
+        Counter {
             calls: self.calls,
             before: self.before,
-            failing: self.failing.copy()?,
-        })
+            failing: kept.made(self.failing.copy(), List::new(kept.alloc)),
+        }
     }
 
     /// These calls fail, counted from now on.
@@ -80,13 +81,15 @@ impl Counters {
         }
     }
 
-    /// Puts those of others in the place of all.
-    fn put_all(&mut self, others: &Counters) -> Result<(), AllocError> {
-        put_given(&mut self.all, others.all.copy())?;
-        put_given(&mut self.uploads, others.uploads.copy())?;
-        put_given(&mut self.submits, others.submits.copy())?;
-        put_given(&mut self.updates, others.updates.copy())?;
-        put_given(&mut self.retrieves, others.retrieves.copy())
+    /// The same counters.
+    fn copy(&self, kept: &mut Kept) -> Counters {
+        Counters {
+            all: self.all.copy(kept),
+            uploads: self.uploads.copy(kept),
+            submits: self.submits.copy(kept),
+            updates: self.updates.copy(kept),
+            retrieves: self.retrieves.copy(kept),
+        }
     }
 
     /// The counter of the calls for a task, or of all.
@@ -135,70 +138,54 @@ struct Asked {
 }
 
 impl Asked {
-    /// The same call.
-    fn copy(&self) -> Result<Asked, AllocError> {
-        Ok(Asked {
-            task: self.task,
-            directory: self.directory,
-            request: self.request.copy()?,
-        })
-    }
-
     /// Makes the call. One that the rules refuse changes nothing.
     fn make(&self, inner: &mut TableTransport) -> Result<(), AllocError> {
-        let reply = match self.task {
-            Task::Upload => inner.upload(self.directory, &self.request),
-            Task::Submit => inner.submit(self.directory, &self.request),
-            Task::Update => ended(inner.update(self.directory, &self.request)),
-            Task::Retrieve => Ok(()),
+        let lost = match self.task {
+            Task::Upload => is_lost(inner.upload(self.directory, &self.request)),
+            Task::Submit => is_lost(inner.submit(self.directory, &self.request)),
+            Task::Update => is_lost(inner.update(self.directory, &self.request)),
+            Task::Retrieve => false,
         };
-        match reply {
-            Err(TaskError::OutOfMemory) => Err(AllocError),
-            Ok(()) | Err(TaskError::Failed) => Ok(()),
+        if lost {
+            return Err(AllocError);
         }
+        Ok(())
     }
 }
 
-/// Whether an update was answered.
-fn ended(reply: Result<Progress, TaskError>) -> Result<(), TaskError> {
-    reply?;
-    Ok(())
+/// Whether memory ran out in a call.
+fn is_lost<V: Drop>(reply: Result<V, TaskError>) -> bool {
+    matches!(reply, Err(TaskError::OutOfMemory))
 }
 
-/// Puts copies of calls.
-fn put_calls(list: &mut List<Asked>, calls: &[Asked]) -> Result<(), AllocError> {
+/// Keeps a call behind others.
+fn keep_call(
+    passed: &mut List<Asked>,
+    task: Task,
+    directory: u32,
+    request: &Request,
+) -> Result<(), AllocError> {
+    let request = request.copy()?;
+    passed.push(Asked {
+        task,
+        directory,
+        request,
+    })
+}
+
+/// Makes calls one after another, and keeps them behind others.
+fn follow(kept: &mut Kept, inner: &mut TableTransport, passed: &mut List<Asked>, calls: &[Asked]) {
     for asked in calls {
-        list.push(asked.copy()?)?;
+        kept.keep(asked.make(inner));
+        kept.keep(keep_call(passed, asked.task, asked.directory, &asked.request));
     }
-    Ok(())
 }
 
 /// The same pairs.
-fn copy_busy(busy: &[(u32, u64)], alloc: Global) -> Result<Busy, AllocError> {
-    let mut list = List::new(alloc);
-    let put = list.extend(busy);
-    filled(list, put)
-}
-
-/// Makes calls one after another.
-fn make_all(inner: &mut TableTransport, calls: &[Asked]) -> Result<(), AllocError> {
-    for asked in calls {
-        asked.make(inner)?;
-    }
-    Ok(())
-}
-
-/// A transport with these results and Running answers, of which these calls were made.
-fn made(
-    alloc: Global,
-    table: &Table,
-    busy: &[(u32, u64)],
-    calls: &[Asked],
-) -> Result<TableTransport, AllocError> {
-    let (busy, table) = both(copy_busy(busy, alloc)?, table.copy())?;
-    let mut inner = TableTransport::new(alloc, table, List::new(alloc), busy);
-    let made = make_all(&mut inner, calls);
-    filled(inner, made)
+fn copy_busy(kept: &mut Kept, busy: &[(u32, u64)]) -> Busy {
+    let mut list = List::new(kept.alloc);
+    kept.keep(list.extend(busy));
+    list
 }
 
 /// What runs the programs of jobs: results by requests, the directories whose first updates answer Running, and what was done.
@@ -214,13 +201,14 @@ pub struct Outside {
 }
 
 impl Outside {
-    /// A transport with these results and this one below it, where no call was counted and kept.
-    fn of(alloc: Global, table: Table, inner: TableTransport) -> Outside {
+    /// A transport that holds no request, with these results and Running answers, which stand in a list of its own and in one of what is below it.
+    fn of(alloc: Global, tables: (Table, Table), busy: Busy, below: Busy) -> Outside {
+        let (table, known) = tables;
         Outside {
             alloc,
             table,
-            busy: List::new(alloc),
-            inner,
+            busy,
+            inner: TableTransport::new(alloc, known, List::new(alloc), below),
             passed: List::new(alloc),
             counters: Counters::new(alloc),
             faults: 0,
@@ -229,39 +217,36 @@ impl Outside {
 
     /// A transport that holds no request, with these results. No call of it fails, and no update answers Running.
     pub fn new(alloc: Global, table: Table) -> Result<Outside, AllocError> {
-        let inner = made(alloc, &table, &[], &[]);
-        let (table, inner) = both(table, inner)?;
-        Ok(Outside::of(alloc, table, inner))
+        let known = table.copy();
+        let tables = both(table, known)?;
+        Ok(Outside::of(alloc, tables, List::new(alloc), List::new(alloc)))
     }
 
     /// A transport that holds the same, and of which the same calls will fail.
-    pub fn copy(&self) -> Result<Outside, AllocError>
+    pub fn copy(&self, kept: &mut Kept) -> Result<Outside, AllocError>
         ensures { IfOk result (λ copied. copied.faults ≡ self.now.faults) }
     {
-        let calls = self.passed.as_slice();
-        let inner = made(self.alloc, &self.table, self.busy.as_slice(), calls)?;
-        let (inner, table) = both(inner, self.table.copy())?;
-        let mut outside = Outside::of(self.alloc, table, inner);
+        let tables = both(self.table.copy()?, self.table.copy())?;
+        let busy = copy_busy(kept, self.busy.as_slice());
+        let below = copy_busy(kept, self.busy.as_slice());
+        let mut outside = Outside::of(self.alloc, tables, busy, below);
+        put(&mut outside.counters, self.counters.copy(kept));
         outside.faults = self.faults;
-        let put = outside.put_rest(self);
-        filled(outside, put)
-    }
-
-    /// What another transport was told, and the calls that were made of it, come here, where no call was made yet.
-    fn put_rest(&mut self, other: &Outside) -> Result<(), AllocError>
-        ensures { self.new.faults ≡ self.old.faults }
-    {
-        put_given(&mut self.busy, copy_busy(other.busy.as_slice(), self.alloc))?;
-        put_calls(&mut self.passed, other.passed.as_slice())?;
-        self.counters.put_all(&other.counters)
+        let calls = self.passed.as_slice();
+        follow(kept, &mut outside.inner, &mut outside.passed, calls);
+        Ok(outside)
     }
 
     /// So many first updates of a directory answer Running, of which those count that were asked for before.
-    pub fn set_busy(&mut self, directory: u32, updates: u64) -> Result<(), AllocError> {
+    pub fn set_busy(
+        &mut self,
+        kept: &mut Kept,
+        directory: u32,
+        updates: u64,
+    ) -> Result<(), AllocError> {
         self.busy.push((directory, updates))?;
-        let calls = self.passed.as_slice();
-        let inner = made(self.alloc, &self.table, self.busy.as_slice(), calls)?;
-        put(&mut self.inner, inner);
+        let next = self.copy(kept)?;
+        put(self, next);
         Ok(())
     }
 
@@ -299,13 +284,7 @@ impl Outside {
             self.count_fault();
             return Err(TaskError::Failed);
         }
-        let request = request.copy()?;
-        self.passed.push(Asked {
-            task,
-            directory,
-            request,
-        })?;
-        Ok(())
+        Ok(keep_call(&mut self.passed, task, directory, request)?)
     }
 
     /// What a call answered, which is counted where it failed.

@@ -5,11 +5,13 @@ ghost use Rattle.wc_player.specs.declared.report.Verdict.{Verdict};
 
 use crate::error::PlayError;
 use crate::findings::Findings;
+use crate::outside::Outside;
 use crate::player::Player;
 use crate::program::Program;
 use std::alloc::Global;
 use std::mem;
 use wc_transcript::Transcript;
+use wc_value::{Rows, Table, let_go};
 
 /// What is to be said of a transcript.
 #[derive(Clone, Copy, PartialEq, Eq)]
@@ -49,18 +51,25 @@ impl Report {
     }
 }
 
-/// Plays a transcript with a player that has taken no step.
-fn played<P: Program + Drop>(
-    alloc: Global,
-    player: &mut Player<P>,
-    transcript: &Transcript,
-) -> Result<Report, PlayError> {
-    player.play_steps(transcript.steps.as_slice())?;
-    Ok(Report {
-        findings: mem::replace(&mut player.findings, Findings::new(alloc)),
-        checks: player.checks,
-        wrong: transcript.wrong,
-    })
+/// The report of a transcript that a player has played, or what went wrong.
+fn report_of<P>(alloc: Global, player: &mut Player<P>, wrong: u64) -> Result<Report, PlayError> {
+    match player.kept.error {
+        Some(error) => Err(error),
+        None => Ok(Report {
+            findings: mem::replace(&mut player.findings, Findings::new(alloc)),
+            checks: player.checks,
+            wrong,
+        }),
+    }
+}
+
+/// A transport that has no results.
+fn idle_of(alloc: Global) -> Result<Outside, PlayError> {
+    let table = Table::new(alloc, Rows::new(alloc))?;
+    match Outside::new(alloc, table) {
+        Ok(outside) => Ok(outside),
+        Err(_) => Err(PlayError::OutOfMemory),
+    }
 }
 
 /// Plays a transcript by calls of a program.
@@ -69,8 +78,10 @@ pub fn play<P: Program + Drop>(
     program: P,
     transcript: &Transcript,
 ) -> Result<Report, PlayError> {
-    let mut player = Player::new(alloc, program)?;
-    let report = played(alloc, &mut player, transcript);
-    drop(player);
+    let outside = idle_of(alloc)?;
+    let mut player = Player::new(alloc, program, outside);
+    player.play_steps(transcript.steps.as_slice());
+    let report = report_of(alloc, &mut player, transcript.wrong);
+    let_go(player);
     report
 }

@@ -6,10 +6,9 @@ use crate::findings::Place;
 use crate::machine::Machine;
 use crate::player::Player;
 use crate::program::Program;
-use std::alloc::AllocError;
 use std::mem;
-use wc_transcript::{Answer, Call, Deed, Device, Event, Left, Stage, Step};
-use wc_value::{List, put};
+use wc_transcript::{Answer, Call, Deed, Device, Event, Left, Number, Stage, Step};
+use wc_value::{List, let_go, put};
 
 /// What a crash leaves of disk one and of disk two.
 const PICKS: [(Left, Left); 5] = [
@@ -23,11 +22,14 @@ const PICKS: [(Left, Left); 5] = [
 /// More calls than a block makes.
 const MANY: u64 = 400;
 
-/// The question that a step asks.
-fn asked_at(block: &[Step], at: usize) -> Option<&Call> {
-    match &block.get(at)?.deed {
-        Deed::Ask(call) => Some(call),
-        _ => None,
+/// The answers of the question that a step asks, of which there are none where it asks none.
+fn asked_at(block: &[Step], at: usize) -> &[Answer] {
+    match block.get(at) {
+        Some(step) => match &step.deed {
+            Deed::Ask(call) => call.answers.as_slice(),
+            _ => &[],
+        },
+        None => &[],
     }
 }
 
@@ -102,133 +104,103 @@ fn stages_at(block: &[Step], at: usize) -> &[Stage] {
 
 impl<P: Program + Drop> Player<P> {
     /// An event comes to the machine behind so many calls.
-    fn prepare(&mut self, event: Event, calls: u64) -> Result<(), AllocError> {
+    fn prepare(&mut self, event: Event, calls: u64) {
         match event {
-            Event::Crash(side) => {
-                self.machine.disks.fuse(side, calls);
-                Ok(())
-            }
+            Event::Crash(side) => self.machine.disks.fuse(side, calls),
             Event::Fault(device) => {
-                let mut failing = List::new(self.alloc());
-                failing.push(calls.saturating_add(1))?;
-                self.fail(device, failing)
+                let next = calls.saturating_add(1);
+                let failing = self.kept.numbers(&[Number::Plain(next)], 0);
+                self.fail(device, failing);
             }
         }
     }
 
     /// The machine holds the same, and no call of what the event came to fails.
-    fn restart(&mut self, event: Event) -> Result<(), AllocError> {
+    fn restart(&mut self, event: Event) {
         if let Event::Fault(Device::Transport(task)) = event {
-            let none = List::new(self.alloc());
+            let none = List::new(self.kept.alloc);
             self.machine.outside.fail(task, none);
         }
-        let machine = self.machine.copy()?;
-        put(&mut self.machine, machine);
-        Ok(())
+        let machine = self.machine.copy(&mut self.kept);
+        self.set_machine(machine);
     }
 
     /// Whether an answer begins with what a call wrote.
-    fn begins(&self, answers: &[Answer], called: &Called, calls: u64) -> Result<bool, AllocError> {
+    fn begins(&mut self, answers: &[Answer], called: &Called, calls: u64) -> bool {
         for answer in answers {
-            let text = answer.text.written(self.alloc(), calls)?;
+            let text = self.kept.written(&answer.text, calls);
             if text.as_slice().starts_with(called.text.as_slice()) {
-                return Ok(true);
+                return true;
             }
         }
-        Ok(false)
+        false
     }
 
     /// Whether a call met an event: it wrote nothing, or where the sink failed a beginning of an answer.
-    fn has_met(
-        &self,
-        event: Event,
-        call: &Call,
-        called: &Called,
-        calls: u64,
-    ) -> Result<bool, AllocError> {
+    fn has_met(&mut self, event: Event, call: &Call, called: &Called, calls: u64) -> bool {
         if Some(called.status) != status_of(event) {
-            return Ok(false);
+            return false;
         }
         if matches!(event, Event::Fault(Device::Sink)) {
             return self.begins(call.answers.as_slice(), called, calls);
         }
-        Ok(called.text.is_empty())
-    }
-
-    /// Whether a call met the event: else it has to give what the transcript says.
-    fn is_met(
-        &mut self,
-        place: Place,
-        event: Event,
-        call: &Call,
-        called: &Called,
-    ) -> Result<bool, AllocError> {
-        if self.has_met(event, call, called, place.repetition)? {
-            return Ok(true);
-        }
-        self.judge(place, answers_of(call, called), called)?;
-        Ok(false)
+        called.text.is_empty()
     }
 
     /// Calls the program. Whether the call met the event: else it has to give what the transcript says.
-    fn meets(&mut self, place: Place, event: Event, call: &Call) -> Result<bool, PlayError> {
-        let called = self.call(call, place.repetition)?;
-        Ok(self.is_met(place, event, call, &called)?)
+    fn meets(&mut self, place: Place, event: Event, call: &Call) -> bool {
+        let called = self.call(call, place.repetition);
+        let has_met = self.has_met(event, call, &called, place.repetition);
+        if !has_met {
+            self.judge(place, answers_of(call, &called), &called);
+        }
+        has_met
     }
 
     /// Calls the program with one command after another until one meets the event. Where that one stands, or the end.
-    fn course(&mut self, event: Event, block: &[Step], calls: u64) -> Result<usize, PlayError> {
+    fn course(&mut self, event: Event, block: &[Step], calls: u64) -> usize {
         for (at, step) in block.iter().enumerate() {
             let place = Place {
                 line: step.line,
                 repetition: calls,
             };
             if let Deed::Call(call) = &step.deed
-                && self.meets(place, event, call)?
+                && self.meets(place, event, call)
             {
-                return Ok(at);
+                return at;
             }
         }
-        Ok(block.len())
+        block.len()
     }
 
-    /// The stage of the command at a place that a question tells.
+    /// The answers of the first of these stages that a question tells.
     fn stage_told<'a>(
-        &self,
-        block: &'a [Step],
-        cut: usize,
+        &mut self,
+        stages: &'a [Stage],
         called: &Called,
         calls: u64,
-    ) -> Result<Option<&'a [Answer]>, AllocError> {
-        if called.status != 0 {
-            return Ok(None);
-        }
-        for stage in stages_at(block, cut) {
-            let text = stage.text.written(self.alloc(), calls)?;
-            if called.text.as_slice() == text.as_slice() {
-                return Ok(Some(stage.answers.as_slice()));
+    ) -> Option<&'a [Answer]> {
+        for stage in stages {
+            let text = self.kept.written(&stage.text, calls);
+            if called.status == 0 && called.text.as_slice() == text.as_slice() {
+                return Some(stage.answers.as_slice());
             }
         }
-        Ok(None)
+        None
     }
 
     /// From which step on commands are to be called again, where the one at a place met an event: the last question before it is
     /// asked, and its answer is the one from before that command, the one behind it, or one of a stage of it.
-    fn place_now<'a>(
-        &mut self,
-        block: &'a [Step],
-        cut: usize,
-        calls: u64,
-    ) -> Result<Onward<'a>, PlayError> {
+    fn place_now<'a>(&mut self, block: &'a [Step], cut: usize, calls: u64) -> Onward<'a> {
         let Some((line, asked)) = last_asked(block, cut) else {
-            return Ok(Onward::at(cut.saturating_add(1)));
+            return Onward::at(cut.saturating_add(1));
         };
-        let called = self.call(asked, calls)?;
+        let called = self.call(asked, calls);
         let place = Place {
             line,
             repetition: calls,
         };
-        Ok(self.place_told(place, block, cut, asked, &called)?)
+        self.place_told(place, block, cut, asked, &called)
     }
 
     /// From which step on commands are to be called again, by what a question is answered.
@@ -239,123 +211,80 @@ impl<P: Program + Drop> Player<P> {
         cut: usize,
         asked: &Call,
         called: &Called,
-    ) -> Result<Onward<'a>, AllocError> {
+    ) -> Onward<'a> {
         let next = cut.saturating_add(1);
-        if self.is_told(asked_at(block, next), called, place.repetition)? {
+        if called.fits_one(&mut self.kept, asked_at(block, next), place.repetition) {
             self.count_check();
-            return Ok(Onward::at(next));
+            return Onward::at(next);
         }
-        if let Some(answers) = self.stage_told(block, cut, called, place.repetition)? {
+        let answers = self.stage_told(stages_at(block, cut), called, place.repetition);
+        if answers.is_some() {
             self.count_check();
-            return Ok(Onward {
-                from: cut,
-                answers: Some(answers),
-            });
+        } else {
+            self.judge(place, asked.answers.as_slice(), called);
         }
-        self.judge(place, asked.answers.as_slice(), called)?;
-        Ok(Onward::at(cut))
-    }
-
-    /// Whether a question, if there is one, is answered so.
-    fn is_told(
-        &self,
-        asked: Option<&Call>,
-        called: &Called,
-        calls: u64,
-    ) -> Result<bool, AllocError> {
-        match asked {
-            Some(asked) => called.fits_one(self.alloc(), asked.answers.as_slice(), calls),
-            None => Ok(false),
-        }
+        Onward { from: cut, answers }
     }
 
     /// Calls each command behind which a question stands, and asks it. The first has other answers where there are some.
-    fn call_changes(
-        &mut self,
-        steps: &[Step],
-        first: Option<&[Answer]>,
-        calls: u64,
-    ) -> Result<(), PlayError> {
+    fn call_changes(&mut self, steps: &[Step], first: Option<&[Answer]>, calls: u64) {
         for (at, step) in steps.iter().enumerate() {
             let place = Place {
                 line: step.line,
                 repetition: calls,
             };
             match &step.deed {
-                Deed::Ask(call) => self.expect(place, call)?,
-                Deed::Call(call) if asked_at(steps, at.saturating_add(1)).is_some() => {
+                Deed::Ask(call) => self.expect(place, call, call.answers.as_slice()),
+                Deed::Call(call) if !asked_at(steps, at.saturating_add(1)).is_empty() => {
                     let usual = call.answers.as_slice();
                     let answers = if at == 0 {
                         first.unwrap_or(usual)
                     } else {
                         usual
                     };
-                    self.expect_one(place, call, answers)?;
+                    self.expect(place, call, answers);
                 }
                 _ => {}
             }
         }
-        Ok(())
     }
 
     /// Calls each command of these steps.
-    fn call_all(&mut self, steps: &[Step], calls: u64) -> Result<(), PlayError> {
+    fn call_all(&mut self, steps: &[Step], calls: u64) {
         for step in steps {
+            let place = Place {
+                line: step.line,
+                repetition: calls,
+            };
             if let Deed::Call(call) = &step.deed {
-                self.expect(
-                    Place {
-                        line: step.line,
-                        repetition: calls,
-                    },
-                    call,
-                )?;
+                self.expect(place, call, call.answers.as_slice());
             }
         }
-        Ok(())
     }
 
     /// Goes on behind an event that the command at a place met, or behind all.
-    fn go_on(
-        &mut self,
-        block: &[Step],
-        last: &[Step],
-        cut: usize,
-        calls: u64,
-    ) -> Result<(), PlayError> {
-        let onward = self.place_now(block, cut, calls)?;
+    fn go_on(&mut self, block: &[Step], last: &[Step], cut: usize, calls: u64) {
+        let onward = self.place_now(block, cut, calls);
         let steps = block.get(onward.from..).unwrap_or(&[]);
-        self.call_changes(steps, onward.answers, calls)?;
-        self.call_all(last, calls)
+        self.call_changes(steps, onward.answers, calls);
+        self.call_all(last, calls);
     }
 
     /// Goes on with what a crash leaves, and has what was there before again.
-    fn crash_once(
-        &mut self,
-        picks: (Left, Left),
-        block: &[Step],
-        last: &[Step],
-        cut: usize,
-        calls: u64,
-    ) -> Result<(), PlayError> {
-        let left = self.machine.crashed(picks.0, picks.1)?;
+    fn crash_once(&mut self, left: Machine, block: &[Step], last: &[Step], cut: usize, calls: u64) {
         let before = mem::replace(&mut self.machine, left);
-        let gone = self.go_on(block, last, cut, calls);
+        self.go_on(block, last, cut, calls);
         put(&mut self.machine, before);
-        gone
     }
 
     /// Goes on with what each crash leaves.
-    fn crashes(
-        &mut self,
-        block: &[Step],
-        last: &[Step],
-        cut: usize,
-        calls: u64,
-    ) -> Result<(), PlayError> {
+    fn crashes(&mut self, block: &[Step], last: &[Step], cut: usize, calls: u64) {
         for picks in &PICKS {
-            self.crash_once(*picks, block, last, cut, calls)?;
+            match self.machine.crashed(&mut self.kept, picks.0, picks.1) {
+                Ok(left) => self.crash_once(left, block, last, cut, calls),
+                Err(_) => self.kept.fail(PlayError::OutOfMemory),
+            }
         }
-        Ok(())
     }
 
     /// Goes on behind an event that the command at a place met, or behind all, where no later call fails.
@@ -366,66 +295,69 @@ impl<P: Program + Drop> Player<P> {
         last: &[Step],
         cut: usize,
         calls: u64,
-    ) -> Result<(), PlayError> {
+    ) {
         if let Event::Crash(_) = event {
             return self.crashes(block, last, cut, calls);
         }
         if cut >= block.len() {
-            self.restart(event)?;
+            self.restart(event);
         }
-        self.go_on(block, last, cut, calls)
+        self.go_on(block, last, cut, calls);
     }
 
     /// Plays a block with an event behind so many calls. Whether a command met it.
-    fn sweep_once(
-        &mut self,
-        event: Event,
-        block: &[Step],
-        last: &[Step],
-        calls: u64,
-    ) -> Result<bool, PlayError> {
+    fn sweep_once(&mut self, event: Event, block: &[Step], last: &[Step], calls: u64) -> bool {
         let checks = self.checks;
         let faults = self.machine.outside.faults();
-        self.prepare(event, calls)?;
-        let cut = self.course(event, block, calls)?;
+        self.prepare(event, calls);
+        let cut = self.course(event, block, calls);
         let has_failed = self.machine.outside.faults() != faults;
         let is_met = cut < block.len() || (status_of(event).is_none() && has_failed);
-        self.behind_event(event, block, last, cut, calls)?;
+        self.behind_event(event, block, last, cut, calls);
         if is_met {
             self.checks = checks;
         }
-        Ok(is_met)
+        is_met
     }
 
-    /// Plays a block with an event behind no call, one, two, and so on, until no command meets it. How many calls came before the
-    /// event then.
+    /// Plays a block with an event behind no call, one, two, and so on, until no command meets it or something goes wrong. How many
+    /// calls came before the event then.
     fn sweep_from(
         &mut self,
         begun: &Machine,
         event: Event,
         block: &[Step],
         last: &[Step],
-    ) -> Result<Option<u64>, PlayError> {
+    ) -> Option<u64> {
         for calls in 0..MANY {
-            put(&mut self.machine, begun.copy()?);
-            if !self.sweep_once(event, block, last, calls)? {
-                return Ok(Some(calls));
+            let machine = begun.copy(&mut self.kept);
+            self.set_machine(machine);
+            if !self.sweep_once(event, block, last, calls) || self.kept.error.is_some() {
+                return Some(calls);
             }
         }
-        Ok(None)
+        None
+    }
+
+    /// Plays a block with an event at each call in turn, from what a machine holds.
+    fn sweep_at(&mut self, place: Place, event: Event, steps: &[Step], begun: &Machine) {
+        let (block, last) = steps
+            .split_at_checked(last_steps(steps))
+            .unwrap_or((steps, &[]));
+        match self.sweep_from(begun, event, block, last) {
+            Some(calls) => self.note(place, calls > 0, "no command meets the event"),
+            None => self.note(place, false, "the block makes more calls"),
+        }
     }
 
     /// Plays a block with an event at each call in turn.
-    pub fn sweep(&mut self, place: Place, event: Event, steps: &[Step]) -> Result<(), PlayError> {
-        let end = last_steps(steps);
-        let block = steps.get(..end).unwrap_or(&[]);
-        let last = steps.get(end..).unwrap_or(&[]);
-        let begun = self.machine.copy()?;
-        let swept = self.sweep_from(&begun, event, block, last);
-        drop(begun);
-        match swept? {
-            Some(calls) => Ok(self.note(place, calls > 0, "no command meets the event")?),
-            None => Ok(self.note(place, false, "the block makes more calls")?),
+    pub fn sweep(&mut self, place: Place, event: Event, steps: &[Step]) {
+        match self.machine.copy(&mut self.kept) {
+            Ok(begun) => {
+                self.sweep_at(place, event, steps, &begun);
+                let_go(begun);
+            }
+            Err(_) => self.kept.fail(PlayError::OutOfMemory),
         }
     }
 }

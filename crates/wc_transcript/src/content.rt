@@ -1,7 +1,7 @@
 //! Bytes in which the number of a repetition may stand.
 
 use std::alloc::{AllocError, Global};
-use wc_value::{Bytes, Duplicate, List};
+use wc_value::{Bytes, List};
 
 /// Bytes, and the places in them where the number of a repetition stands.
 #[derive(Drop)]
@@ -62,17 +62,6 @@ impl Content {
     fn put(&self, alloc: Global, out: &mut Bytes, number: u64) -> Result<(), AllocError> {
         let digits = format!(in alloc; "{number}")?;
         put_written(out, self, digits.as_bytes())
-    }
-}
-
-impl Duplicate for Content {
-    fn copy(&self) -> Result<Content, AllocError> {
-        let mut marks = self.marks.emptied();
-        marks.extend(self.marks.as_slice())?;
-        Ok(Content {
-            bytes: self.bytes.copy()?,
-            marks,
-        })
     }
 }
 

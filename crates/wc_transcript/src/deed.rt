@@ -76,7 +76,7 @@ pub struct Call {
 #[derive(Drop)]
 pub enum Deed {
     /// The shelf has a file of this name with this content.
-    File(Text, Content),
+    File(Content, Content),
     /// A disk holds this.
     Image(Side, Content),
     /// Another byte stands at a place of a disk.

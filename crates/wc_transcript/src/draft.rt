@@ -1,12 +1,13 @@
 //! What the lines before say.
 
+use crate::content::Content;
 use crate::deed::{Call, Deed, Step, Transcript};
-use crate::growing::Growing;
 use crate::mistake::Mistake;
 use crate::names::Names;
-use std::alloc::{AllocError, Global};
+use crate::source::Source;
+use std::alloc::Global;
 use std::mem;
-use wc_value::{List, Text, let_go};
+use wc_value::{List, Text, put};
 
 /// In which block a line stands.
 #[derive(Clone, Copy)]
@@ -18,120 +19,100 @@ enum Block {
 
 /// What the lines before say.
 #[derive(Drop)]
-pub struct Draft {
-    /// The bytes that have names.
-    pub names: Names,
-    transcripts: Growing<Transcript>,
+pub struct Draft<'a> {
+    /// The bytes and the results that have names.
+    pub names: Names<'a>,
+    transcripts: List<Transcript>,
+    /// The name of the transcript that has begun.
+    name: Option<Text>,
+    wrong: u64,
+    steps: List<Step>,
     block: Block,
 }
 
-/// The block in which the lines behind a call stand.
-fn block_behind_call(block: Block, call: &Call) -> Result<Block, Mistake> {
-    let is_swept = !call.failed.is_empty() || !call.stages.is_empty();
-    match block {
-        Block::Sweep => Ok(block),
-        _ if is_swept => Err(Mistake::Block),
-        _ => Ok(block),
-    }
+/// Whether a call speaks of what a sweep does.
+fn is_swept(call: &Call) -> bool {
+    !call.failed.is_empty() || !call.stages.is_empty()
 }
 
-/// The block in which the lines behind a step stand.
-fn block_behind(block: Block, deed: &Deed) -> Result<Block, Mistake> {
+/// The block in which the lines behind a step stand, where the step may stand in this one.
+fn block_behind(block: Block, deed: &Deed) -> Option<Block> {
     match (deed, block) {
-        (Deed::Repeat(..), Block::None) => Ok(Block::Repeat),
-        (Deed::Sweep(_), Block::None) => Ok(Block::Sweep),
-        (Deed::Repeat(..) | Deed::Sweep(_), _) => Err(Mistake::Block),
-        (Deed::End, Block::None) => Err(Mistake::Block),
-        (Deed::End, _) => Ok(Block::None),
-        (Deed::Ask(_) | Deed::Last, Block::Sweep) => Ok(Block::Sweep),
-        (Deed::Ask(_) | Deed::Last, _) => Err(Mistake::Block),
-        (Deed::Call(call), block) => block_behind_call(block, call),
-        (_, Block::Sweep) => Err(Mistake::Block),
-        (_, block) => Ok(block),
+        (Deed::Repeat(..), Block::None) => Some(Block::Repeat),
+        (Deed::Sweep(_), Block::None) => Some(Block::Sweep),
+        (Deed::Repeat(..) | Deed::Sweep(_), _) => None,
+        (Deed::End, Block::None) => None,
+        (Deed::End, _) => Some(Block::None),
+        (Deed::Ask(_) | Deed::Last | Deed::Call(_), Block::Sweep) => Some(Block::Sweep),
+        (Deed::Ask(_) | Deed::Last, _) => None,
+        (Deed::Call(call), _) if is_swept(call) => None,
+        (_, Block::Sweep) => None,
+        (_, block) => Some(block),
     }
 }
 
-/// A transcript of this name, with no step.
-fn begun(alloc: Global, name: &str) -> Result<Transcript, AllocError> {
-    Ok(Transcript {
-        name: Text::of_str(alloc, name)?,
-        wrong: 0,
-        steps: List::new(alloc),
-    })
-}
-
-/// Puts an item behind those of a transcript, where one has begun.
-fn put_behind<T: Drop>(items: Option<&mut List<T>>, item: T) -> Result<(), Mistake> {
-    match items {
-        Some(items) => Ok(items.push(item)?),
-        None => Err(Mistake::NoTranscript),
-    }
-}
-
-impl Draft {
+impl<'a> Draft<'a> {
     /// What no lines say.
-    pub fn new(alloc: Global) -> Draft {
+    pub fn new(alloc: Global) -> Draft<'a> {
         Draft {
-            names: Names::new(alloc),
-            transcripts: Growing::new(alloc),
+            names: Names {
+                named: List::new(alloc),
+                tables: List::new(alloc),
+            },
+            transcripts: List::new(alloc),
+            name: None,
+            wrong: 0,
+            steps: List::new(alloc),
             block: Block::None,
         }
     }
 
-    /// A block that is open is a mistake.
-    fn check_closed(&self) -> Result<(), Mistake> {
-        match self.block {
-            Block::None => Ok(()),
-            _ => Err(Mistake::Block),
+    /// The transcript before is whole. A block that is open is a mistake.
+    pub fn close(&mut self, source: &mut Source<'_>) {
+        if !matches!(self.block, Block::None) {
+            source.fail(Mistake::Block);
+        }
+        if let Some(name) = self.name.take() {
+            let steps = mem::replace(&mut self.steps, List::new(source.alloc));
+            let wrong = mem::replace(&mut self.wrong, 0);
+            source.keep(self.transcripts.push(Transcript { name, wrong, steps }));
         }
     }
 
-    /// The transcript before is whole, and one of this name begins.
-    pub fn begin(&mut self, alloc: Global, name: &str) -> Result<(), Mistake> {
-        self.check_closed()?;
-        Ok(self.transcripts.begin(begun(alloc, name)?)?)
+    /// One of the name that is left of the line begins.
+    pub fn begin(&mut self, source: &mut Source<'_>) {
+        match Text::of_str(source.alloc, source.line) {
+            Ok(name) => put(&mut self.name, Some(name)),
+            Err(_) => source.fail(Mistake::OutOfMemory),
+        }
+    }
+
+    /// It is a mistake where no transcript has begun.
+    fn check_begun(&self, source: &mut Source<'_>) {
+        if self.name.is_none() {
+            source.fail(Mistake::NoTranscript);
+        }
     }
 
     /// So many answers of the transcript are wrong on purpose.
-    pub fn set_wrong(&mut self, count: u64) -> Result<(), Mistake> {
-        match self.transcripts.last() {
-            Some(transcript) => {
-                transcript.wrong = count;
-                Ok(())
-            }
-            None => Err(Mistake::NoTranscript),
-        }
-    }
-
-    /// The steps of the transcript.
-    fn steps(&mut self) -> Option<&mut List<Step>> {
-        match self.transcripts.last() {
-            Some(transcript) => Some(&mut transcript.steps),
-            None => None,
-        }
-    }
-
-    /// Goes into the block in which the lines behind a step stand, or out of it.
-    fn pass(&mut self, deed: &Deed) -> Result<(), Mistake> {
-        self.block = block_behind(self.block, deed)?;
-        Ok(())
+    pub fn set_wrong(&mut self, source: &mut Source<'_>) {
+        self.wrong = source.count();
+        source.end(Mistake::Word);
+        self.check_begun(source);
     }
 
     /// Puts a step behind those of the transcript.
-    pub fn put(&mut self, step: Step) -> Result<(), Mistake> {
-        match self.pass(&step.deed) {
-            Ok(()) => put_behind(self.steps(), step),
-            Err(mistake) => {
-                let_go(step);
-                Err(mistake)
-            }
+    pub fn put(&mut self, source: &mut Source<'_>, step: Step) {
+        match block_behind(self.block, &step.deed) {
+            Some(block) => self.block = block,
+            None => source.fail(Mistake::Block),
         }
+        self.check_begun(source);
+        source.keep(self.steps.push(step));
     }
 
     /// The transcripts.
-    pub fn finish(&mut self, alloc: Global) -> Result<List<Transcript>, Mistake> {
-        self.check_closed()?;
-        let transcripts = mem::replace(&mut self.transcripts, Growing::new(alloc));
-        Ok(transcripts.finish()?)
+    pub fn finish(&mut self, alloc: Global) -> List<Transcript> {
+        mem::replace(&mut self.transcripts, List::new(alloc))
     }
 }

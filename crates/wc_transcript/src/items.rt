@@ -3,44 +3,28 @@
 ghost use Rattle.std.specs.Prelude.{◌<◌, IfSome};
 
 use crate::content::Content;
-use crate::cutting::cut_word;
 use crate::mistake::Mistake;
-use crate::names::Names;
-use crate::said::Said;
-use std::alloc::Global;
-use wc_value::filled;
-
-/// Puts what stands behind a backslash.
-fn put_escaped(content: &mut Content, byte: u8) -> Result<(), Mistake> {
-    match byte {
-        b'n' => content.push(b"\n")?,
-        b'"' | b'\\' => content.push(&[byte])?,
-        b'#' => content.push_number()?,
-        _ => return Err(Mistake::Quote),
-    }
-    Ok(())
-}
+use crate::names::{Names, find};
+use crate::source::Source;
 
 /// Puts what a word says: quotes fall away, and a backslash stands before `n`, a quote, a backslash or `#`.
-pub fn put_word(content: &mut Content, word: &str) -> Result<(), Mistake> {
+pub fn put_word(source: &mut Source<'_>, content: &mut Content, word: &str) {
     let mut quoted = false;
     let mut escaped = false;
     for byte in word.as_bytes() {
-        if escaped {
-            put_escaped(content, *byte)?;
-            escaped = false;
-        } else if *byte == b'\\' {
-            escaped = true;
-        } else if *byte == b'"' {
-            quoted = !quoted;
-        } else {
-            content.push(&[*byte])?;
+        match (escaped, *byte) {
+            (false, b'\\') => {}
+            (false, b'"') => quoted = !quoted,
+            (true, b'n') => source.keep(content.push(b"\n")),
+            (true, b'#') => source.keep(content.push_number()),
+            (false, _) | (true, b'"' | b'\\') => source.keep(content.push(&[*byte])),
+            (true, _) => source.fail(Mistake::Quote),
         }
+        escaped = !escaped && *byte == b'\\';
     }
     if quoted || escaped {
-        return Err(Mistake::Quote);
+        source.fail(Mistake::Quote);
     }
-    Ok(())
 }
 
 /// The value of a hexadecimal digit.
@@ -64,67 +48,59 @@ fn byte_of(digits: &[u8]) -> Option<u8> {
 }
 
 /// Puts the bytes of hexadecimal digits.
-fn put_digits(content: &mut Content, digits: &[u8]) -> Result<(), Mistake> {
+fn put_digits(source: &mut Source<'_>, content: &mut Content, digits: &[u8]) {
     for pair in digits.chunks(2) {
-        let byte = byte_of(pair).ok_or(Mistake::Word)?;
-        content.push(&[byte])?;
+        match byte_of(pair) {
+            Some(byte) => source.keep(content.push(&[byte])),
+            None => source.fail(Mistake::Word),
+        }
     }
-    Ok(())
+}
+
+/// Puts the bytes of a name.
+fn put_named(source: &mut Source<'_>, names: &Names<'_>, content: &mut Content, name: &str) {
+    match find(names.named.as_slice(), name) {
+        Some(named) => source.keep(content.append(named)),
+        None => source.fail(Mistake::Unknown),
+    }
 }
 
 /// Puts the bytes of an item that isn't repeated.
-fn put_single(names: &Names, content: &mut Content, item: &str) -> Result<(), Mistake> {
+fn put_single(source: &mut Source<'_>, names: &Names<'_>, content: &mut Content, item: &str) {
     if let Some(name) = item.strip_prefix('@') {
-        let named = names.find(name).ok_or(Mistake::Unknown)?;
-        return Ok(content.append(named)?);
+        put_named(source, names, content, name);
+    } else if item.starts_with('"') {
+        put_word(source, content, item);
+    } else {
+        put_digits(source, content, item.as_bytes());
     }
-    if item.starts_with('"') {
-        return put_word(content, item);
-    }
-    put_digits(content, item.as_bytes())
-}
-
-/// Content of the bytes of an item that isn't repeated.
-fn read_single(alloc: Global, names: &Names, item: &str) -> Result<Content, Mistake> {
-    let mut content = Content::new(alloc);
-    let put = put_single(names, &mut content, item);
-    filled(content, put)
 }
 
 /// How often an item is repeated, and which one.
 fn repeated(item: &str) -> Option<(u64, &str)> {
     let (times, part) = item.split_once('*')?;
-    Some((u64::said(times)?, part))
+    Some((times.parse().ok()?, part))
 }
 
 /// Puts the bytes of an item.
-fn put_item(
-    alloc: Global,
-    names: &Names,
-    content: &mut Content,
-    item: &str,
-) -> Result<(), Mistake> {
+fn put_item(source: &mut Source<'_>, names: &Names<'_>, content: &mut Content, item: &str) {
     let Some((times, part)) = repeated(item) else {
-        return put_single(names, content, item);
+        return put_single(source, names, content, item);
     };
-    let once = read_single(alloc, names, part)?;
-    Ok(content.append_times(alloc, &once, times)?)
+    let mut once = Content::new(source.alloc);
+    put_single(source, names, &mut once, part);
+    if source.mistake.is_none() {
+        source.keep(content.append_times(source.alloc, &once, times));
+    }
 }
 
 /// Puts the bytes of the items of a line. The line has at most as many items as bytes.
-pub fn put_items(
-    alloc: Global,
-    names: &Names,
-    content: &mut Content,
-    line: &str,
-) -> Result<(), Mistake> {
-    let mut left = line;
-    for _ in 0..line.len() {
-        let Some((item, behind)) = cut_word(left) else {
+pub fn put_items(source: &mut Source<'_>, names: &Names<'_>, content: &mut Content) {
+    for _ in 0..source.line.len() {
+        if source.is_ended() {
             break;
-        };
-        put_item(alloc, names, content, item)?;
-        left = behind;
+        }
+        let item = source.word();
+        put_item(source, names, content, item);
     }
-    Ok(())
 }

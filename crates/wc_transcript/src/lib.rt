@@ -3,20 +3,17 @@
 #![tactic(auto)]
 
 mod content;
-mod cutting;
 mod deed;
 mod draft;
-mod growing;
 mod items;
-mod lines;
 mod mistake;
 mod names;
 mod number;
 mod reader;
 mod row;
 mod rows;
-mod said;
 mod simple;
+mod source;
 mod steps;
 
 pub use content::Content;

@@ -1,133 +1,97 @@
 //! The reader of transcripts.
 
-use crate::cutting::{cut_word, only_word};
 use crate::deed::{Step, Transcript};
 use crate::draft::Draft;
-use crate::lines::Lines;
 use crate::mistake::{Mistake, ReadError};
+use crate::names::add;
 use crate::rows::read_rows;
-use crate::said::only;
+use crate::source::Source;
 use crate::steps::{read_block, read_deed, read_items};
 use std::alloc::Global;
-use wc_value::{List, let_go};
+use wc_value::{List, filled, let_go};
 
 /// Bytes get a name, by items.
-fn name_items(
-    alloc: Global,
-    draft: &mut Draft,
-    text: &str,
-    below: &mut Lines<'_>,
-) -> Result<(), Mistake> {
-    let (name, items) = cut_word(text).ok_or(Mistake::Word)?;
-    let content = read_items(alloc, &draft.names, items, below)?;
-    draft.names.add(alloc, name, content)
+fn name_items<'a>(source: &mut Source<'a>, draft: &mut Draft<'a>) {
+    let name = source.name();
+    let content = read_items(source, &draft.names);
+    add(source, &mut draft.names.named, name, content);
 }
 
 /// Bytes get a name, by lines.
-fn name_lines(
-    alloc: Global,
-    draft: &mut Draft,
-    text: &str,
-    below: &mut Lines<'_>,
-) -> Result<(), Mistake> {
-    let name = only_word(text).ok_or(Mistake::Word)?;
-    draft.names.add(alloc, name, read_block(alloc, below)?)
+fn name_lines<'a>(source: &mut Source<'a>, draft: &mut Draft<'a>) {
+    let name = source.name();
+    source.end(Mistake::Word);
+    let content = read_block(source);
+    add(source, &mut draft.names.named, name, content);
 }
 
 /// Results get a name.
-fn name_rows(
-    alloc: Global,
-    draft: &mut Draft,
-    text: &str,
-    below: &mut Lines<'_>,
-) -> Result<(), Mistake> {
-    let name = only_word(text).ok_or(Mistake::Word)?;
-    let rows = read_rows(alloc, &draft.names, below)?;
-    draft.names.add_rows(alloc, name, rows)
-}
-
-/// Some answers are wrong on purpose.
-fn set_wrong(draft: &mut Draft, text: &str) -> Result<(), Mistake> {
-    match only(text) {
-        Some(count) => draft.set_wrong(count),
-        None => Err(Mistake::Word),
-    }
+fn name_rows<'a>(source: &mut Source<'a>, draft: &mut Draft<'a>) {
+    let name = source.name();
+    source.end(Mistake::Word);
+    let lines = source.left.unwrap_or("");
+    let_go(read_rows(source, &draft.names));
+    add(source, &mut draft.names.tables, name, lines);
 }
 
 /// A step comes to the transcript.
-fn put_step(
-    alloc: Global,
-    draft: &mut Draft,
-    number: usize,
-    line: &str,
-    below: &mut Lines<'_>,
-) -> Result<(), Mistake> {
-    let deed = read_deed(alloc, &draft.names, line, below)?;
-    draft.put(Step { line: number, deed })
+fn put_step<'a>(source: &mut Source<'a>, draft: &mut Draft<'a>, word: &str) {
+    let line = source.taken;
+    let deed = read_deed(source, &draft.names, word);
+    draft.put(source, Step { line, deed });
 }
 
-/// Takes a line and those below that belong to it.
-fn take_line(
-    alloc: Global,
-    draft: &mut Draft,
-    number: usize,
-    line: &str,
-    below: &mut Lines<'_>,
-) -> Result<(), Mistake> {
-    if line.is_empty() || line.starts_with('#') {
-        return Ok(());
+/// Takes what is left of a line, and the lines below that belong to it.
+fn take_line<'a>(source: &mut Source<'a>, draft: &mut Draft<'a>) {
+    if source.line.is_empty() || source.line.starts_with('#') {
+        return;
     }
-    if line.starts_with(' ') {
-        return Err(Mistake::Beginning);
+    if source.line.starts_with(' ') {
+        return source.fail(Mistake::Beginning);
     }
-    let (word, behind) = cut_word(line).ok_or(Mistake::Beginning)?;
-    match word {
-        "bytes" => name_items(alloc, draft, behind, below),
-        "text" => name_lines(alloc, draft, behind, below),
-        "results" => name_rows(alloc, draft, behind, below),
-        "transcript" => draft.begin(alloc, behind),
-        "wrong" => set_wrong(draft, behind),
-        _ => put_step(alloc, draft, number, line, below),
+    match source.word() {
+        "bytes" => name_items(source, draft),
+        "text" => name_lines(source, draft),
+        "results" => name_rows(source, draft),
+        "transcript" => {
+            draft.close(source);
+            draft.begin(source);
+        }
+        "wrong" => draft.set_wrong(source),
+        word => put_step(source, draft, word),
     }
 }
 
-/// Takes all lines.
-fn take_lines(alloc: Global, draft: &mut Draft, lines: &mut Lines<'_>) -> Result<(), ReadError> {
+/// Takes all lines, or those up to a mistake. The number of the last one.
+fn take_lines<'a>(source: &mut Source<'a>, draft: &mut Draft<'a>) -> usize {
     for _ in 0..u64::MAX {
-        let Some(line) = lines.take() else {
+        if !source.take_behind("") {
             break;
-        };
-        let number = lines.taken();
-        if let Err(mistake) = take_line(alloc, draft, number, line, lines) {
-            return Err(ReadError {
-                line: number,
-                mistake,
-            });
+        }
+        let line = source.taken;
+        take_line(source, draft);
+        if source.mistake.is_some() {
+            return line;
         }
     }
-    Ok(())
+    draft.close(source);
+    source.taken
 }
 
-/// What the lines say.
-fn read(
-    alloc: Global,
-    draft: &mut Draft,
-    lines: &mut Lines<'_>,
-) -> Result<List<Transcript>, ReadError> {
-    take_lines(alloc, draft, lines)?;
-    match draft.finish(alloc) {
-        Ok(transcripts) => Ok(transcripts),
-        Err(mistake) => Err(ReadError {
-            line: lines.taken(),
-            mistake,
-        }),
+/// Whether all is right up to a line.
+fn outcome(source: &Source<'_>, line: usize) -> Result<(), ReadError> {
+    match source.mistake {
+        Some(mistake) => Err(ReadError { line, mistake }),
+        None => Ok(()),
     }
 }
 
 /// The transcripts of a text, in their order, or what is wrong with it and in which line.
 pub fn read_transcripts(alloc: Global, text: &str) -> Result<List<Transcript>, ReadError> {
+    let mut source = Source::new(alloc, text);
     let mut draft = Draft::new(alloc);
-    let transcripts = read(alloc, &mut draft, &mut Lines::new(text));
+    let line = take_lines(&mut source, &mut draft);
+    let transcripts = draft.finish(alloc);
     let_go(draft);
-    transcripts
+    filled(transcripts, outcome(&source, line))
 }

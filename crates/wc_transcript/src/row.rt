@@ -1,11 +1,11 @@
 //! Results of programs, as the transport brings them back.
 
 use crate::content::Content;
-use std::alloc::{AllocError, Global};
-use wc_value::{Duplicate, List, Text};
+use std::alloc::Global;
+use wc_value::List;
 
-/// Files, each with its content.
-pub type Named = List<(Text, Content)>;
+/// Files, each the content of its name with its content.
+pub type Named = List<(Content, Content)>;
 
 /// What a program leaves, by what it is started with.
 #[derive(Drop)]
@@ -15,7 +15,7 @@ pub struct Row {
     /// The files that it finds.
     pub files: Named,
     /// The names of the files to bring back.
-    pub fetch: List<Text>,
+    pub fetch: List<Content>,
     /// Its exit code.
     pub code: i64,
     /// The files that are brought back.
@@ -32,17 +32,5 @@ impl Row {
             code: 0,
             left: List::new(alloc),
         }
-    }
-}
-
-impl Duplicate for Row {
-    fn copy(&self) -> Result<Row, AllocError> {
-        Ok(Row {
-            words: self.words.copy()?,
-            files: self.files.copy()?,
-            fetch: self.fetch.copy()?,
-            code: self.code,
-            left: self.left.copy()?,
-        })
     }
 }

@@ -1,116 +1,84 @@
 //! The reader of results of programs.
 
 use crate::content::Content;
-use crate::cutting::{cut_word, only_word};
-use crate::growing::Growing;
 use crate::items::put_items;
-use crate::lines::Lines;
 use crate::mistake::Mistake;
 use crate::names::Names;
 use crate::row::{Named, Row};
-use crate::steps::read_words;
-use std::alloc::Global;
-use wc_value::{List, Text, filled};
-
-/// Content of the items of a line.
-fn content_of(alloc: Global, names: &Names, items: &str) -> Result<Content, Mistake> {
-    let mut content = Content::new(alloc);
-    let put = put_items(alloc, names, &mut content, items);
-    filled(content, put)
-}
-
-/// A file with the content of items.
-fn read_file(alloc: Global, names: &Names, line: &str) -> Result<(Text, Content), Mistake> {
-    let (name, items) = cut_word(line).ok_or(Mistake::Word)?;
-    let content = content_of(alloc, names, items)?;
-    Ok((Text::of_str(alloc, name)?, content))
-}
+use crate::source::Source;
+use crate::steps::{read_name, read_words};
+use std::mem;
+use wc_value::{List, let_go};
 
 /// Puts a file with the content of items.
-fn put_file(alloc: Global, names: &Names, files: &mut Named, line: &str) -> Result<(), Mistake> {
-    Ok(files.push(read_file(alloc, names, line)?)?)
+fn put_file(source: &mut Source<'_>, names: &Names<'_>, files: &mut Named) {
+    let name = read_name(source);
+    let mut content = Content::new(source.alloc);
+    put_items(source, names, &mut content);
+    source.keep(files.push((name, content)));
 }
 
 /// Puts the name of a file to bring back.
-fn put_fetch(alloc: Global, row: &mut Row, line: &str) -> Result<(), Mistake> {
-    let name = only_word(line).ok_or(Mistake::Word)?;
-    Ok(row.fetch.push(Text::of_str(alloc, name)?)?)
+fn put_fetch(source: &mut Source<'_>, fetch: &mut List<Content>) {
+    let name = read_name(source);
+    source.end(Mistake::Word);
+    source.keep(fetch.push(name));
 }
 
-/// The exit code that a line says.
-fn read_code(line: &str) -> Option<i64> {
-    only_word(line)?.parse().ok()
-}
-
-/// Puts what a line says into a row.
-fn put_line(
-    alloc: Global,
-    names: &Names,
-    row: &mut Row,
-    word: &str,
-    line: &str,
-) -> Result<(), Mistake> {
+/// Puts what a line says that begins with a word into a row, where one has begun.
+fn put_line(source: &mut Source<'_>, names: &Names<'_>, row: &mut Row, word: &str) {
+    if row.words.is_empty() {
+        source.fail(Mistake::Beginning);
+    }
     match word {
-        "file" => put_file(alloc, names, &mut row.files, line),
-        "leaves" => put_file(alloc, names, &mut row.left, line),
-        "fetch" => put_fetch(alloc, row, line),
+        "file" => put_file(source, names, &mut row.files),
+        "leaves" => put_file(source, names, &mut row.left),
+        "fetch" => put_fetch(source, &mut row.fetch),
         "code" => {
-            row.code = read_code(line).ok_or(Mistake::Word)?;
-            Ok(())
+            row.code = source.code();
+            source.end(Mistake::Word);
         }
-        _ => Err(Mistake::Beginning),
+        _ => source.fail(Mistake::Beginning),
     }
 }
 
-/// A row with the words of a line.
-fn begun(alloc: Global, line: &str) -> Result<Row, Mistake> {
-    let words = read_words(alloc, line)?;
+/// Puts a row behind others, where one has begun.
+fn put_row(source: &mut Source<'_>, rows: &mut List<Row>, row: Row) {
+    if row.words.is_empty() {
+        let_go(row);
+    } else {
+        source.keep(rows.push(row));
+    }
+}
+
+/// The row is whole, and another one begins with the words of a line.
+fn begin(source: &mut Source<'_>, rows: &mut List<Row>, row: &mut Row) {
+    let words = read_words(source);
     if words.is_empty() {
-        return Err(Mistake::Word);
+        source.fail(Mistake::Word);
     }
-    Ok(Row::new(alloc, words))
+    let next = Row::new(source.alloc, words);
+    put_row(source, rows, mem::replace(row, next));
 }
 
-/// Takes a line: `run` begins a row, and any other goes on with it.
-fn take_line(
-    alloc: Global,
-    names: &Names,
-    rows: &mut Growing<Row>,
-    line: &str,
-) -> Result<(), Mistake> {
-    let (word, behind) = cut_word(line).ok_or(Mistake::Beginning)?;
-    if word == "run" {
-        return Ok(rows.begin(begun(alloc, behind)?)?);
-    }
-    match rows.last() {
-        Some(row) => put_line(alloc, names, row, word, behind),
-        None => Err(Mistake::Beginning),
-    }
-}
-
-/// Takes the indented lines below.
-fn take_lines(
-    alloc: Global,
-    names: &Names,
-    rows: &mut Growing<Row>,
-    below: &mut Lines<'_>,
-) -> Result<(), Mistake> {
+/// Puts the rows of the indented lines below: `run` begins one, and any other line goes on with it. The last one is left in its place.
+fn put_rows(source: &mut Source<'_>, names: &Names<'_>, rows: &mut List<Row>, row: &mut Row) {
     for _ in 0..u64::MAX {
-        let Some(text) = below.take_behind("  ") else {
+        if !source.take_behind("  ") {
             break;
-        };
-        take_line(alloc, names, rows, text)?;
+        }
+        match source.word() {
+            "run" => begin(source, rows, row),
+            word => put_line(source, names, row, word),
+        }
     }
-    Ok(())
 }
 
 /// The results of the indented lines below.
-pub fn read_rows(
-    alloc: Global,
-    names: &Names,
-    below: &mut Lines<'_>,
-) -> Result<List<Row>, Mistake> {
-    let mut rows = Growing::new(alloc);
-    let taken = take_lines(alloc, names, &mut rows, below);
-    Ok(filled(rows, taken)?.finish()?)
+pub fn read_rows(source: &mut Source<'_>, names: &Names<'_>) -> List<Row> {
+    let mut rows = List::new(source.alloc);
+    let mut row = Row::new(source.alloc, List::new(source.alloc));
+    put_rows(source, names, &mut rows, &mut row);
+    put_row(source, &mut rows, row);
+    rows
 }

@@ -1,293 +1,181 @@
 //! Steps with content, which may stand in several lines.
 
 use crate::content::Content;
-use crate::cutting::{cut_word, only_word};
 use crate::deed::{Answer, Call, Deed, Side, Stage};
 use crate::items::{put_items, put_word};
-use crate::lines::Lines;
 use crate::mistake::Mistake;
-use crate::names::Names;
+use crate::names::{Names, find};
 use crate::row::Row;
-use crate::said::Said;
+use crate::rows::read_rows;
 use crate::simple::read_simple;
-use std::alloc::{AllocError, Global};
-use wc_value::{Duplicate, List, Text, filled};
+use crate::source::Source;
+use wc_value::List;
 
 /// Puts the indented lines below, each with its end.
-fn put_block(content: &mut Content, below: &mut Lines<'_>) -> Result<(), AllocError> {
+fn put_block(source: &mut Source<'_>, content: &mut Content) {
     for _ in 0..u64::MAX {
-        let Some(text) = below.take_behind("  ") else {
+        if !source.take_behind("  ") {
             break;
-        };
-        content.push(text.as_bytes())?;
-        content.push(b"\n")?;
+        }
+        source.keep(content.push(source.line.as_bytes()));
+        source.keep(content.push(b"\n"));
     }
-    Ok(())
 }
 
 /// Content of the indented lines below, each with its end.
-pub fn read_block(alloc: Global, below: &mut Lines<'_>) -> Result<Content, AllocError> {
-    let mut content = Content::new(alloc);
-    let put = put_block(&mut content, below);
-    filled(content, put)
+pub fn read_block(source: &mut Source<'_>) -> Content {
+    let mut content = Content::new(source.alloc);
+    put_block(source, &mut content);
+    content
 }
 
 /// Puts the items of a line and of the indented lines below.
-fn put_all_items(
-    alloc: Global,
-    names: &Names,
-    content: &mut Content,
-    line: &str,
-    below: &mut Lines<'_>,
-) -> Result<(), Mistake> {
-    put_items(alloc, names, content, line)?;
+fn put_all_items(source: &mut Source<'_>, names: &Names<'_>, content: &mut Content) {
     for _ in 0..u64::MAX {
-        let Some(items) = below.take_behind("  ") else {
+        put_items(source, names, content);
+        if !source.take_behind("  ") {
             break;
-        };
-        put_items(alloc, names, content, items)?;
+        }
     }
-    Ok(())
 }
 
 /// Content of the items of a line and of the indented lines below.
-pub fn read_items(
-    alloc: Global,
-    names: &Names,
-    line: &str,
-    below: &mut Lines<'_>,
-) -> Result<Content, Mistake> {
-    let mut content = Content::new(alloc);
-    let put = put_all_items(alloc, names, &mut content, line, below);
-    filled(content, put)
-}
-
-/// Content of the text of a line.
-fn read_text(alloc: Global, text: &str) -> Result<Content, AllocError> {
-    let mut content = Content::new(alloc);
-    let put = content.push(text.as_bytes());
-    filled(content, put)
+pub fn read_items(source: &mut Source<'_>, names: &Names<'_>) -> Content {
+    let mut content = Content::new(source.alloc);
+    put_all_items(source, names, &mut content);
+    content
 }
 
 /// Content: `text` and a text, `bytes` and items, or the lines below.
-fn read_content(
-    alloc: Global,
-    names: &Names,
-    line: &str,
-    below: &mut Lines<'_>,
-) -> Result<Content, Mistake> {
-    match cut_word(line) {
-        None => Ok(read_block(alloc, below)?),
-        Some(("text", text)) => Ok(read_text(alloc, text)?),
-        Some(("bytes", items)) => read_items(alloc, names, items, below),
-        Some(_) => Err(Mistake::Word),
+fn read_content(source: &mut Source<'_>, names: &Names<'_>) -> Content {
+    let mut content = Content::new(source.alloc);
+    match source.word() {
+        "" => put_block(source, &mut content),
+        "text" => source.keep(content.push(source.line.as_bytes())),
+        "bytes" => put_all_items(source, names, &mut content),
+        _ => source.fail(Mistake::Word),
     }
+    content
 }
 
-/// An exit status, and what stands behind it.
-fn cut_status(line: &str) -> Option<(u8, &str)> {
-    let (status, behind) = cut_word(line)?;
-    Some((status.parse().ok()?, behind))
+/// The content of the next word, as it stands.
+pub fn read_name(source: &mut Source<'_>) -> Content {
+    let mut content = Content::new(source.alloc);
+    let name = source.name();
+    source.keep(content.push(name.as_bytes()));
+    content
 }
 
-/// An answer, behind its first sign.
-fn read_answer(
-    alloc: Global,
-    names: &Names,
-    line: &str,
-    below: &mut Lines<'_>,
-) -> Result<Answer, Mistake> {
-    let (status, behind) = cut_status(line).ok_or(Mistake::Word)?;
-    let text = read_content(alloc, names, behind, below)?;
-    Ok(Answer { status, text })
-}
-
-/// The content that a word says.
-fn read_word(alloc: Global, word: &str) -> Result<Content, Mistake> {
-    let mut content = Content::new(alloc);
-    let put = put_word(&mut content, word);
-    filled(content, put)
-}
-
-/// Puts the words of a command.
-fn put_words(alloc: Global, words: &mut List<Content>, line: &str) -> Result<(), Mistake> {
-    let mut left = line;
-    for _ in 0..line.len() {
-        let Some((word, behind)) = cut_word(left) else {
-            break;
-        };
-        words.push(read_word(alloc, word)?)?;
-        left = behind;
-    }
-    Ok(())
+/// The content that the next word says.
+fn read_word(source: &mut Source<'_>) -> Content {
+    let mut content = Content::new(source.alloc);
+    let word = source.word();
+    put_word(source, &mut content, word);
+    content
 }
 
 /// The words of a command.
-pub fn read_words(alloc: Global, line: &str) -> Result<List<Content>, Mistake> {
-    let mut words = List::new(alloc);
-    let put = put_words(alloc, &mut words, line);
-    filled(words, put)
+pub fn read_words(source: &mut Source<'_>) -> List<Content> {
+    let mut words = List::new(source.alloc);
+    for _ in 0..source.line.len() {
+        if source.is_ended() {
+            break;
+        }
+        let pushed = words.push(read_word(source));
+        source.keep(pushed);
+    }
+    words
 }
 
 /// Puts the answers below, of which the first begins with this sign, and each other with `|`. There may be none.
-fn put_signed(
-    alloc: Global,
-    names: &Names,
-    answers: &mut List<Answer>,
-    sign: &str,
-    below: &mut Lines<'_>,
-) -> Result<(), Mistake> {
+fn put_signed(source: &mut Source<'_>, names: &Names<'_>, answers: &mut List<Answer>, sign: &str) {
     for _ in 0..u64::MAX {
         let sign = if answers.is_empty() { sign } else { "| " };
-        let Some(text) = below.take_behind(sign) else {
+        if !source.take_behind(sign) {
             break;
-        };
-        answers.push(read_answer(alloc, names, text, below)?)?;
+        }
+        let status = source.status();
+        let text = read_content(source, names);
+        source.keep(answers.push(Answer { status, text }));
     }
-    Ok(())
 }
 
-/// Puts the answers below a command.
-fn put_answers(
-    alloc: Global,
-    names: &Names,
-    answers: &mut List<Answer>,
-    below: &mut Lines<'_>,
-) -> Result<(), Mistake> {
-    put_signed(alloc, names, answers, "= ", below)?;
+/// The answers below a command.
+fn read_answers(source: &mut Source<'_>, names: &Names<'_>) -> List<Answer> {
+    let mut answers = List::new(source.alloc);
+    put_signed(source, names, &mut answers, "= ");
     if answers.is_empty() {
-        return Err(Mistake::NoAnswer);
+        source.fail(Mistake::NoAnswer);
     }
-    Ok(())
+    answers
 }
 
-/// What the question before a command is answered where the command was done in part, and what the command answers then.
-fn read_stage(
-    alloc: Global,
-    names: &Names,
-    line: &str,
-    below: &mut Lines<'_>,
-) -> Result<Stage, Mistake> {
-    let text = read_content(alloc, names, line, below)?;
-    let mut stage = Stage {
-        text,
-        answers: List::new(alloc),
-    };
-    let put = put_answers(alloc, names, &mut stage.answers, below);
-    filled(stage, put)
-}
-
-/// Puts how far a command may have come.
-fn put_stages(
-    alloc: Global,
-    names: &Names,
-    stages: &mut List<Stage>,
-    below: &mut Lines<'_>,
-) -> Result<(), Mistake> {
+/// Puts how far a command may have come: what the question before it is answered then, and what the command answers.
+fn put_stages(source: &mut Source<'_>, names: &Names<'_>, stages: &mut List<Stage>) {
     for _ in 0..u64::MAX {
-        let Some(text) = below.take_behind("part ") else {
+        if !source.take_behind("part ") {
             break;
-        };
-        stages.push(read_stage(alloc, names, text, below)?)?;
+        }
+        let text = read_content(source, names);
+        let answers = read_answers(source, names);
+        source.keep(stages.push(Stage { text, answers }));
     }
-    Ok(())
 }
 
 /// A question and its answers.
-fn read_question(
-    alloc: Global,
-    names: &Names,
-    line: &str,
-    below: &mut Lines<'_>,
-) -> Result<Call, Mistake> {
-    let mut call = Call {
-        words: read_words(alloc, line)?,
-        answers: List::new(alloc),
-        failed: List::new(alloc),
-        stages: List::new(alloc),
-    };
-    let put = put_answers(alloc, names, &mut call.answers, below);
-    filled(call, put)
-}
-
-/// Puts the answers of a command where a task failed, and how far it may have come.
-fn put_swept(
-    alloc: Global,
-    names: &Names,
-    call: &mut Call,
-    below: &mut Lines<'_>,
-) -> Result<(), Mistake> {
-    put_signed(alloc, names, &mut call.failed, "! ", below)?;
-    put_stages(alloc, names, &mut call.stages, below)
+fn read_question(source: &mut Source<'_>, names: &Names<'_>) -> Call {
+    Call {
+        words: read_words(source),
+        answers: read_answers(source, names),
+        failed: List::new(source.alloc),
+        stages: List::new(source.alloc),
+    }
 }
 
 /// A command and its answers, those where a task failed, and how far it may have come.
-fn read_call(
-    alloc: Global,
-    names: &Names,
-    line: &str,
-    below: &mut Lines<'_>,
-) -> Result<Call, Mistake> {
-    let mut call = read_question(alloc, names, line, below)?;
-    let put = put_swept(alloc, names, &mut call, below);
-    filled(call, put)
+fn read_call(source: &mut Source<'_>, names: &Names<'_>) -> Call {
+    let mut call = read_question(source, names);
+    put_signed(source, names, &mut call.failed, "! ");
+    put_stages(source, names, &mut call.stages);
+    call
 }
 
-/// A file.
-fn read_file(
-    alloc: Global,
-    names: &Names,
-    line: &str,
-    below: &mut Lines<'_>,
-) -> Result<Deed, Mistake> {
-    let (name, behind) = cut_word(line).ok_or(Mistake::Word)?;
-    let content = read_content(alloc, names, behind, below)?;
-    Ok(Deed::File(Text::of_str(alloc, name)?, content))
-}
-
-/// A disk holds this, or is asked whether it holds it, or whether what it holds ends so.
-fn read_image(
-    alloc: Global,
-    names: &Names,
-    word: &str,
-    line: &str,
-    below: &mut Lines<'_>,
-) -> Result<Deed, Mistake> {
-    let (side, items) = cut_word(line).ok_or(Mistake::Word)?;
-    let side = Side::said(side).ok_or(Mistake::Word)?;
-    let content = read_items(alloc, names, items, below)?;
-    match word {
-        "holds" => Ok(Deed::Holds(side, content)),
-        "ends" => Ok(Deed::Ends(side, content)),
-        _ => Ok(Deed::Image(side, content)),
+/// The results with which lines begin. No name stands there that has no bytes.
+fn results_of(source: &mut Source<'_>, names: &Names<'_>, lines: &str) -> List<Row> {
+    let mut below = Source::new(source.alloc, lines);
+    let rows = read_rows(&mut below, names);
+    if let Some(mistake) = below.mistake {
+        source.fail(mistake);
     }
+    rows
 }
 
 /// The results of a name, or none where there is no name.
-fn read_results(alloc: Global, names: &Names, line: &str) -> Result<List<Row>, Mistake> {
-    if cut_word(line).is_none() {
-        return Ok(List::new(alloc));
+fn read_results(source: &mut Source<'_>, names: &Names<'_>) -> List<Row> {
+    let name = source.word();
+    source.end(Mistake::TooManyWords);
+    match find(names.tables.as_slice(), name) {
+        Some(lines) => results_of(source, names, lines),
+        None => {
+            if !name.is_empty() {
+                source.fail(Mistake::Unknown);
+            }
+            List::new(source.alloc)
+        }
     }
-    let name = only_word(line).ok_or(Mistake::TooManyWords)?;
-    let rows = names.find_rows(name).ok_or(Mistake::Unknown)?;
-    Ok(rows.copy()?)
 }
 
-/// A step.
-pub fn read_deed(
-    alloc: Global,
-    names: &Names,
-    line: &str,
-    below: &mut Lines<'_>,
-) -> Result<Deed, Mistake> {
-    let (word, behind) = cut_word(line).ok_or(Mistake::Beginning)?;
+/// A step that begins with a word.
+pub fn read_deed(source: &mut Source<'_>, names: &Names<'_>, word: &str) -> Deed {
     match word {
-        "$" => Ok(Deed::Call(read_call(alloc, names, behind, below)?)),
-        "?" => Ok(Deed::Ask(read_question(alloc, names, behind, below)?)),
-        "file" => read_file(alloc, names, behind, below),
-        "transport" => Ok(Deed::Transport(read_results(alloc, names, behind)?)),
-        "disk-one" | "disk-two" => read_image(alloc, names, word, line, below),
-        "holds" | "ends" => read_image(alloc, names, word, behind, below),
-        _ => read_simple(alloc, word, behind),
+        "$" => Deed::Call(read_call(source, names)),
+        "?" => Deed::Ask(read_question(source, names)),
+        "file" => Deed::File(read_name(source), read_content(source, names)),
+        "transport" => Deed::Transport(read_results(source, names)),
+        "disk-one" => Deed::Image(Side::One, read_items(source, names)),
+        "disk-two" => Deed::Image(Side::Two, read_items(source, names)),
+        "holds" => Deed::Holds(source.side(), read_items(source, names)),
+        "ends" => Deed::Ends(source.side(), read_items(source, names)),
+        _ => read_simple(source, word),
     }
 }

@@ -1,8 +1,8 @@
 //! Changes and snapshots as bytes.
 
-use crate::stop::Stop;
-use crate::telling::{put_error, put_line};
-use std::alloc::{AllocError, Global};
+use crate::parts::Parts;
+use crate::told::Told;
+use std::alloc::Global;
 use wc_record::{LastLibrary, RecordError, read_changes, write_changes, write_snapshot};
 use wc_value::{Bytes, let_go};
 use wc_world::{Changes, World};
@@ -22,56 +22,59 @@ fn written_back(alloc: Global, bytes: &[u8]) -> Result<Bytes, RecordError> {
 }
 
 /// Tells whether bytes spell changes that are written so, or why they spell none.
-pub fn put_read(alloc: Global, bytes: &[u8], told: &mut String) -> Result<(), Stop> {
+pub fn put_read(alloc: Global, bytes: &[u8], told: &mut Told) {
     match written_back(alloc, bytes) {
         Ok(written) => {
             let is_same = written.bytes() == bytes;
-            put_line(told, if is_same { "read" } else { "written otherwise" })
+            told.put(if is_same {
+                "read\n"
+            } else {
+                "written otherwise\n"
+            });
         }
-        Err(error) => put_error(told, &error),
+        Err(error) => told.put_line(&error),
     }
 }
 
 /// The bytes with another one at a place.
-fn with_byte(alloc: Global, bytes: &[u8], at: usize, byte: u8) -> Result<Bytes, AllocError> {
-    let mut changed = Bytes::new(alloc);
+fn with_byte(alloc: Global, bytes: &[u8], at: usize, byte: u8) -> Parts {
+    let mut changed = Parts::new(alloc);
     for (place, old) in bytes.iter().enumerate() {
-        changed.push(if place == at { byte } else { *old })?;
+        changed.put(&[if place == at { byte } else { *old }]);
     }
-    Ok(changed)
-}
-
-/// The place and the byte that two words say.
-fn place_and_byte(rest: &str) -> Option<(usize, u8)> {
-    let (place, byte) = rest.split_once(' ')?;
-    Some((place.parse().ok()?, byte.parse().ok()?))
+    changed
 }
 
 /// Tells the same of the bytes with another one at a place.
-pub fn read_changed(
-    alloc: Global,
-    bytes: &[u8],
-    rest: &str,
-    told: &mut String,
-) -> Result<(), Stop> {
-    let (at, byte) = place_and_byte(rest).ok_or(Stop::NoRow)?;
-    let changed = with_byte(alloc, bytes, at, byte)?;
-    put_read(alloc, changed.bytes(), told)
+pub fn read_changed(alloc: Global, bytes: &[u8], rest: &str, told: &mut Told) {
+    let (place, byte) = rest.split_once(' ').unwrap_or(("", ""));
+    match (place.parse(), byte.parse()) {
+        (Ok(at), Ok(byte)) => {
+            let mut changed = with_byte(alloc, bytes, at, byte);
+            if changed.is_right(told) {
+                put_read(alloc, changed.bytes(), told);
+            }
+        }
+        _ => told.refuse(),
+    }
+}
+
+/// Tells whether bytes are these, or these in hexadecimal digits.
+fn put_same(alloc: Global, snapshot: &[u8], bytes: &[u8], told: &mut Told) {
+    if snapshot == bytes {
+        told.put("same\n");
+        return;
+    }
+    match hex::encode(alloc, snapshot) {
+        Ok(digits) => told.put_line(&digits),
+        Err(_) => told.lose(),
+    }
 }
 
 /// Tells whether bytes are the snapshot of a world, or which bytes its snapshot has.
-pub fn put_snapshot(
-    alloc: Global,
-    world: &World,
-    bytes: &[u8],
-    told: &mut String,
-) -> Result<(), Stop> {
-    let snapshot = write_snapshot(alloc, world)?;
-    if snapshot.bytes() == bytes {
-        return put_line(told, "same");
+pub fn put_snapshot(alloc: Global, world: &World, bytes: &[u8], told: &mut Told) {
+    match write_snapshot(alloc, world) {
+        Ok(snapshot) => put_same(alloc, snapshot.bytes(), bytes, told),
+        Err(_) => told.lose(),
     }
-    for byte in snapshot.bytes() {
-        write!(told, "{byte:02x}")?;
-    }
-    put_line(told, "")
 }

@@ -1,101 +1,89 @@
 //! Items, which stand for bytes: numbers, text in quotes, hexadecimal digits, names, and each of these so many times.
 
-ghost use Rattle.std.specs.Prelude.{◌<◌, IfSome};
+use crate::parts::Parts;
+use std::alloc::Global;
+use wc_value::Files;
 
-use crate::names::Names;
-use crate::stop::Stop;
-use wc_value::Bytes;
-
-/// The value of a hexadecimal digit.
-fn digit(byte: u8) -> Option<u8>
-    ensures { IfSome result (λ value. value < 16) }
-{
-    match byte {
-        b'0'..=b'9' => Some(byte - b'0'),
-        b'a'..=b'f' => Some(byte - b'a' + 10),
-        _ => None,
+/// Puts the bytes of hexadecimal digits.
+fn put_digits(alloc: Global, parts: &mut Parts, digits: &str) {
+    match hex::decode(alloc, digits.as_bytes()) {
+        Ok(bytes) => parts.put(bytes.as_slice()),
+        Err(_) => parts.refuse(),
     }
 }
 
-/// The byte of two hexadecimal digits.
-fn byte_of(digits: &[u8]) -> Option<u8> {
-    let [high, low] = digits else {
-        return None;
-    };
-    Some(digit(*high)? * 16 + digit(*low)?)
-}
-
-/// Puts the bytes of hexadecimal digits at the end.
-fn put_digits(bytes: &mut Bytes, digits: &[u8]) -> Result<(), Stop> {
-    for pair in digits.chunks(2) {
-        bytes.push(byte_of(pair).ok_or(Stop::NoRow)?)?;
+/// Puts a number of eight bytes.
+fn put_wide(parts: &mut Parts, digits: &str) {
+    match digits.parse::<i64>() {
+        Ok(number) => parts.put(&number.to_be_bytes()),
+        Err(_) => parts.refuse(),
     }
-    Ok(())
 }
 
-/// Puts a number of eight bytes at the end.
-fn put_wide(bytes: &mut Bytes, digits: &str) -> Result<(), Stop> {
-    let number: i64 = digits.parse().ok().ok_or(Stop::NoRow)?;
-    Ok(bytes.extend(&number.to_be_bytes())?)
-}
-
-/// Puts a text behind its length at the end.
-fn put_text(bytes: &mut Bytes, text: &[u8]) -> Result<(), Stop> {
-    let length = u32::try_from(text.len()).ok().ok_or(Stop::NoRow)?;
-    bytes.extend(&length.to_be_bytes())?;
-    Ok(bytes.extend(text)?)
-}
-
-/// Puts what stands between quotes at the end.
-fn put_quoted(bytes: &mut Bytes, behind: &str) -> Result<(), Stop> {
-    let text = behind.strip_suffix('"').ok_or(Stop::NoRow)?;
-    put_text(bytes, text.as_bytes())
-}
-
-/// Puts the bytes of an item that isn't repeated at the end.
-fn put_single(names: &Names, bytes: &mut Bytes, item: &str) -> Result<(), Stop> {
-    if let Some(behind) = item.strip_prefix('"') {
-        return put_quoted(bytes, behind);
+/// Puts a text behind its length, where there is a text. No text is as long as the greatest length.
+fn put_text(parts: &mut Parts, text: Option<&[u8]>) {
+    match text {
+        Some(text) => {
+            let length = u32::try_from(text.len()).unwrap_or(u32::MAX);
+            parts.put(&length.to_be_bytes());
+            parts.put(text);
+        }
+        None => parts.refuse(),
     }
-    if let Some(digits) = item.strip_prefix('x') {
-        return put_digits(bytes, digits.as_bytes());
-    }
-    if let Some(digits) = item.strip_prefix(':') {
-        return put_wide(bytes, digits);
-    }
-    if let Some(name) = item.strip_prefix('@') {
-        return put_text(bytes, names.find(name).ok_or(Stop::NoRow)?);
-    }
-    if let Some(named) = names.find(item) {
-        return Ok(bytes.extend(named)?);
-    }
-    let number: u32 = item.parse().ok().ok_or(Stop::NoRow)?;
-    Ok(bytes.extend(&number.to_be_bytes())?)
 }
 
-/// How often an item is repeated, and which one.
-fn repeated(item: &str) -> Option<(u32, &str)> {
-    let (times, part) = item.split_once('*')?;
-    Some((times.parse().ok()?, part))
+/// What stands before a quote.
+fn unquoted(behind: &str) -> Option<&[u8]> {
+    Some(behind.strip_suffix('"')?.as_bytes())
 }
 
-/// Puts the bytes of an item at the end.
-fn put_item(names: &Names, bytes: &mut Bytes, item: &str) -> Result<(), Stop> {
-    let Some((times, part)) = repeated(item) else {
-        return put_single(names, bytes, item);
-    };
-    for _time in 0..times {
-        put_single(names, bytes, part)?;
+/// The bytes of a name.
+fn named<'a>(names: &'a Files, name: &str) -> Option<&'a [u8]> {
+    Some(names.find(name.as_bytes())?.bytes())
+}
+
+/// Puts the bytes of a name, or a number of four bytes.
+fn put_word(names: &Files, parts: &mut Parts, word: &str) {
+    if let Some(named) = names.find(word.as_bytes()) {
+        parts.put(named.bytes());
+        return;
     }
-    Ok(())
+    match word.parse::<u32>() {
+        Ok(number) => parts.put(&number.to_be_bytes()),
+        Err(_) => parts.refuse(),
+    }
 }
 
-/// Puts the bytes of items, which are parted by spaces, at the end.
-pub fn put_items(names: &Names, bytes: &mut Bytes, items: &str) -> Result<(), Stop> {
+/// Puts the bytes of an item that isn't repeated.
+fn put_single(alloc: Global, names: &Files, parts: &mut Parts, item: &str) {
+    let mut behind = item.chars();
+    match behind.next() {
+        Some('"') => put_text(parts, unquoted(behind.as_str())),
+        Some('x') => put_digits(alloc, parts, behind.as_str()),
+        Some(':') => put_wide(parts, behind.as_str()),
+        Some('@') => put_text(parts, named(names, behind.as_str())),
+        _ => put_word(names, parts, item),
+    }
+}
+
+/// Puts the bytes of an item.
+fn put_item(alloc: Global, names: &Files, parts: &mut Parts, item: &str) {
+    let (times, part) = item.split_once('*').unwrap_or(("1", item));
+    match times.parse::<u32>() {
+        Ok(times) => {
+            for _time in 0..times {
+                put_single(alloc, names, parts, part);
+            }
+        }
+        Err(_) => put_single(alloc, names, parts, item),
+    }
+}
+
+/// Puts the bytes of items, which are parted by spaces.
+pub fn put_items(alloc: Global, names: &Files, parts: &mut Parts, items: &str) {
     for item in items.split(' ') {
         if !item.is_empty() {
-            put_item(names, bytes, item)?;
+            put_item(alloc, names, parts, item);
         }
     }
-    Ok(())
 }

@@ -7,16 +7,16 @@ mod changes;
 mod environments;
 mod graphs;
 mod items;
-mod names;
+mod parts;
 mod report;
 mod rows;
 mod stage;
-mod stop;
-mod telling;
+mod told;
 mod walks;
 mod worlds;
 
 use crate::cases::play;
+use crate::report::Report;
 use std::io::{self, Read};
 use std::process::ExitCode;
 
@@ -27,12 +27,13 @@ fn input(rt: &HostRuntime) -> io::Result<String> {
     Ok(text)
 }
 
+/// Prints what is told of the cases. The status says whether each is as it should be.
+fn tell(rt: &HostRuntime, report: &Report) -> io::Result<ExitCode> {
+    print!(rt; "{}", report.text()?)?;
+    Ok(report.status())
+}
+
 fn main(rt: HostRuntime) -> io::Result<ExitCode> {
     let text = input(&rt)?;
-    let report = play(rt.alloc(), text.as_str())?;
-    print!(rt; "{}", report.text())?;
-    if report.is_right() {
-        return Ok(ExitCode::SUCCESS);
-    }
-    Ok(ExitCode::FAILURE)
+    tell(&rt, &play(rt.alloc(), text.as_str()))
 }

@@ -1,8 +1,8 @@
 //! What is told of the cases.
 
-ghost use Rattle.std.specs.Prelude.{◌≡◌, ◌↔◌, IsTrue};
-
+use crate::told::Told;
 use std::alloc::{AllocError, Global};
+use std::process::ExitCode;
 
 /// What was counted in a case.
 #[derive(Clone, Copy)]
@@ -24,57 +24,59 @@ impl Tally {
             meant: 0,
         }
     }
-
-    /// Whether as many rows were found wrong as are wrong on purpose.
-    fn is_right(self) -> bool
-        ensures { IsTrue result ↔ (self.wrong ≡ self.meant) }
-    {
-        self.wrong == self.meant
-    }
 }
 
 /// What is told of the cases, and what was found in the one that is played.
 #[derive(Drop)]
 pub struct Report {
     /// What is printed.
-    text: String,
+    text: Told,
     is_right: bool,
     /// The case that is played, and a line for each row that was found wrong in it.
-    case: String,
-    findings: String,
+    case: Told,
+    findings: Told,
     tally: Tally,
     /// The number of the line, and that of the row.
     line: u32,
     row: u32,
     /// What the row answers, and what it has to.
-    told: String,
-    wanted: String,
+    told: Told,
+    wanted: Told,
 }
 
 impl Report {
     /// Of no case.
     pub fn new(alloc: Global) -> Report {
         Report {
-            text: String::new(alloc),
+            text: Told::new(alloc),
             is_right: true,
-            case: String::new(alloc),
-            findings: String::new(alloc),
+            case: Told::new(alloc),
+            findings: Told::new(alloc),
             tally: Tally::new(),
             line: 0,
             row: 0,
-            told: String::new(alloc),
-            wanted: String::new(alloc),
+            told: Told::new(alloc),
+            wanted: Told::new(alloc),
         }
     }
 
-    /// What is printed.
-    pub fn text(&self) -> &str {
-        self.text.as_str()
+    /// What is printed, if memory ran out nowhere.
+    pub fn text(&self) -> Result<&str, AllocError> {
+        let is_row_lost = self.told.is_lost() | self.wanted.is_lost();
+        let is_case_lost = self.case.is_lost() | self.findings.is_lost();
+        if is_row_lost | is_case_lost | self.text.is_lost() {
+            return Err(AllocError);
+        }
+        Ok(self.text.as_str())
     }
 
-    /// Whether each case is as it should be.
-    pub fn is_right(&self) -> bool {
-        self.is_right
+    /// Success, if each case is as it should be.
+    pub fn status(&self) -> ExitCode {
+        if self.is_right {
+            ExitCode::SUCCESS
+        } else {
+            ExitCode::FAILURE
+        }
     }
 
     /// One more line is read.
@@ -83,16 +85,16 @@ impl Report {
     }
 
     /// The line is a row. What it answers is to be put here.
-    pub fn begin_row(&mut self) -> &mut String {
+    pub fn begin_row(&mut self) -> &mut Told {
         self.row = self.line;
         &mut self.told
     }
 
     /// The row has to answer one more line.
-    pub fn want(&mut self, line: &str) -> Result<(), AllocError> {
+    pub fn want(&mut self, line: &str) {
         self.tally.answers = self.tally.answers.saturating_add(1);
-        self.wanted.push_str(line)?;
-        self.wanted.push_str("\n")
+        self.wanted.put(line);
+        self.wanted.put("\n");
     }
 
     /// So many rows of the case are wrong on purpose.
@@ -101,69 +103,74 @@ impl Report {
     }
 
     /// Puts a line for a row that is wrong.
-    fn find(&mut self) -> Result<(), AllocError> {
+    fn find(&mut self) {
         self.tally.wrong = self.tally.wrong.saturating_add(1);
-        let row = self.row;
-        let wanted = self.wanted.as_str();
-        let told = self.told.as_str();
-        writeln!(
-            self.findings,
-            "  line {row}: expected {wanted:?}, came {told:?}"
-        )
+        self.findings.put("  line ");
+        self.findings.put_item(&self.row);
+        self.findings.put(": expected ");
+        self.findings.put_quoted(&self.wanted.as_str());
+        self.findings.put(", came ");
+        self.findings.put_quoted(&self.told.as_str());
+        self.findings.put("\n");
     }
 
     /// The row is over: what it answered is what it had to, or it is wrong.
-    pub fn end_row(&mut self) -> Result<(), AllocError> {
+    pub fn end_row(&mut self) {
         if self.told.as_str() != self.wanted.as_str() {
-            self.find()?;
+            self.find();
         }
         self.told.clear();
         self.wanted.clear();
-        Ok(())
     }
 
     /// Tells how many answers the case has, behind a word.
-    fn put_answers(&mut self, word: &str) -> Result<(), AllocError> {
-        let case = self.case.as_str();
-        let answers = self.tally.answers;
-        write!(self.text, "{word}: {case}: {answers} answers")
+    fn put_answers(&mut self, word: &str) {
+        self.text.put(word);
+        self.text.put(": ");
+        self.text.put(self.case.as_str());
+        self.text.put(": ");
+        self.text.put_item(&self.tally.answers);
+        self.text.put(" answers");
     }
 
     /// Tells how many rows of the case were found wrong.
-    fn put_wrong(&mut self, behind: &str) -> Result<(), AllocError> {
-        let wrong = self.tally.wrong;
-        write!(self.text, ", {wrong} wrong{behind}")
+    fn put_wrong(&mut self, behind: &str) {
+        self.text.put(", ");
+        self.text.put_item(&self.tally.wrong);
+        self.text.put(" wrong");
+        self.text.put(behind);
     }
 
-    /// Tells of the case.
-    fn put_case(&mut self) -> Result<(), AllocError> {
-        let is_right = self.tally.is_right();
-        self.put_answers(if is_right { "ok" } else { "FAILED" })?;
-        if !is_right {
-            self.put_wrong("")?;
-        } else if self.tally.wrong > 0 {
-            self.put_wrong(" on purpose")?;
+    /// Tells of the case, which is right where as many rows were found wrong as are wrong on purpose.
+    fn put_case(&mut self) {
+        if self.tally.wrong != self.tally.meant {
+            self.put_answers("FAILED");
+            self.put_wrong("");
+        } else {
+            self.put_answers("ok");
+            if self.tally.wrong > 0 {
+                self.put_wrong(" on purpose");
+            }
         }
-        self.text.push_str("\n")?;
-        self.text.push_str(self.findings.as_str())
+        self.text.put("\n");
+        self.text.put(self.findings.as_str());
     }
 
     /// The case is over. Of one without answers and findings nothing is told.
-    pub fn end_case(&mut self) -> Result<(), AllocError> {
-        self.end_row()?;
-        self.is_right = self.is_right && self.tally.is_right();
-        if self.tally.answers == 0 && self.tally.wrong == 0 {
-            return Ok(());
+    pub fn end_case(&mut self) {
+        self.end_row();
+        self.is_right &= self.tally.wrong == self.tally.meant;
+        if self.tally.answers > 0 || self.tally.wrong > 0 {
+            self.put_case();
         }
-        self.put_case()
     }
 
     /// A case begins.
-    pub fn begin_case(&mut self, name: &str) -> Result<(), AllocError> {
-        self.end_case()?;
+    pub fn begin_case(&mut self, name: &str) {
+        self.end_case();
         self.case.clear();
         self.findings.clear();
         self.tally = Tally::new();
-        self.case.push_str(name)
+        self.case.put(name);
     }
 }

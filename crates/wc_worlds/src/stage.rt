@@ -1,18 +1,18 @@
 //! What rows act on.
 
 use crate::items::put_items;
-use crate::names::Names;
-use crate::stop::Stop;
-use std::alloc::Global;
+use crate::parts::Parts;
+use crate::told::Told;
+use std::alloc::{AllocError, Global};
 use wc_graph::Graph;
-use wc_value::{Bytes, put};
+use wc_value::{Bytes, Files, Text, put};
 use wc_world::World;
 
 /// What rows act on: bytes, and those that have names, a graph, and a world.
 #[derive(Drop)]
 pub struct Stage {
-    pub names: Names,
-    pub bytes: Bytes,
+    pub names: Files,
+    pub bytes: Parts,
     pub graph: Graph,
     pub world: World,
 }
@@ -21,8 +21,8 @@ impl Stage {
     /// Nothing is there.
     pub fn new(alloc: Global) -> Stage {
         Stage {
-            names: Names::new(alloc),
-            bytes: Bytes::new(alloc),
+            names: Files::new(alloc),
+            bytes: Parts::new(alloc),
             graph: Graph::new(alloc),
             world: World::new(alloc),
         }
@@ -30,30 +30,43 @@ impl Stage {
 
     /// A case begins. What has a name keeps it.
     pub fn begin(&mut self, alloc: Global) {
-        put(&mut self.bytes, Bytes::new(alloc));
+        put(&mut self.bytes, Parts::new(alloc));
         put(&mut self.graph, Graph::new(alloc));
         put(&mut self.world, World::new(alloc));
     }
 
-    /// The bytes are those of these items.
-    pub fn set_bytes(&mut self, alloc: Global, items: &str) -> Result<(), Stop> {
-        self.bytes = Bytes::new(alloc);
-        self.put_bytes(items)
+    /// The bytes are those of these items. Whether they are right.
+    pub fn set_bytes(&mut self, alloc: Global, items: &str, told: &mut Told) -> bool {
+        put(&mut self.bytes, Parts::new(alloc));
+        self.put_bytes(alloc, items, told)
     }
 
-    /// Puts the bytes of these items at the end.
-    pub fn put_bytes(&mut self, items: &str) -> Result<(), Stop> {
-        put_items(&self.names, &mut self.bytes, items)
+    /// Puts the bytes of these items at the end. Whether they are right.
+    pub fn put_bytes(&mut self, alloc: Global, items: &str, told: &mut Told) -> bool {
+        put_items(alloc, &self.names, &mut self.bytes, items);
+        self.bytes.is_right(told)
     }
 
     /// Puts a line of a text at the end.
-    pub fn put_line(&mut self, line: &str) -> Result<(), Stop> {
-        self.bytes.extend(line.as_bytes())?;
-        Ok(self.bytes.extend(b"\n")?)
+    pub fn put_line(&mut self, line: &str, told: &mut Told) {
+        self.bytes.put(line.as_bytes());
+        self.bytes.put(b"\n");
+        let _ = self.bytes.is_right(told);
     }
+}
 
-    /// The bytes get a name.
-    pub fn name_bytes(&mut self, alloc: Global, name: &str) -> Result<(), Stop> {
-        self.names.add(alloc, name, self.bytes.bytes())
+/// Gives bytes a name.
+fn set(alloc: Global, names: &mut Files, name: &str, bytes: &[u8]) -> Result<(), AllocError> {
+    let mut copied = Bytes::new(alloc);
+    copied.extend(bytes)?;
+    names.set(Text::of_str(alloc, name)?, copied)
+}
+
+/// Gives bytes a name that none have.
+pub fn add_name(alloc: Global, names: &mut Files, name: &str, bytes: &[u8], told: &mut Told) {
+    if names.find(name.as_bytes()).is_some() {
+        told.refuse();
+    } else if set(alloc, names, name, bytes).is_err() {
+        told.lose();
     }
 }

@@ -1,7 +1,6 @@
 //! Walks over graphs.
 
-use crate::stop::Stop;
-use crate::telling::{put_error, put_line};
+use crate::told::Told;
 use std::alloc::Global;
 use wc_graph::{Graph, Ids, LinkSet, LinkType, WalkError, ancestors, descendants, order};
 
@@ -30,54 +29,65 @@ fn type_of(byte: u8) -> Option<LinkType> {
     }
 }
 
-/// The types of links that bytes of changes stand for.
-fn types_of(alloc: Global, bytes: &[u8]) -> Result<LinkSet, Stop> {
+/// The types of links that bytes of changes stand for, if each stands for one.
+fn types_of(alloc: Global, bytes: &[u8]) -> Option<LinkSet> {
     let mut types = LinkSet::new(alloc);
     for byte in bytes {
-        types.push(type_of(*byte).ok_or(Stop::NoRow)?)?;
+        types.push(type_of(*byte)?).ok()?;
     }
-    Ok(types)
+    Some(types)
 }
 
 /// Tells numbers of nodes, or how many there are.
-fn put_ids(told: &mut String, word: &str, ids: &[u32]) -> Result<(), Stop> {
+fn put_ids(told: &mut Told, word: &str, ids: &[u32]) {
     if ids.len() > FEW {
-        return Ok(writeln!(told, "{} {word}", ids.len())?);
+        told.put_item(&ids.len());
+        told.put(" ");
+        told.put_line(&word);
+        return;
     }
-    told.push_str(word)?;
+    told.put(word);
     for id in ids {
-        write!(told, " {id}")?;
+        told.put(" ");
+        told.put_item(id);
     }
-    put_line(told, "")
+    told.put("\n");
 }
 
 /// Tells the nodes that a walk gives, or why it gives none.
-fn put_answer(told: &mut String, answer: Result<Ids, WalkError>) -> Result<(), Stop> {
+fn put_answer(told: &mut Told, answer: &Result<Ids, WalkError>) {
     match answer {
         Ok(ids) => put_ids(told, "nodes", ids.as_slice()),
         Err(WalkError::Cycle(ids)) => put_ids(told, "cycle", ids.as_slice()),
-        Err(error) => put_error(told, &error),
+        Err(error) => told.put_line(error),
     }
 }
 
 /// Tells to which nodes walks lead from a node over links of these types.
-pub fn put_walk(
+fn put_reached(
     alloc: Global,
     graph: &Graph,
     way: Way,
     node: u32,
-    types: &[u8],
-    told: &mut String,
-) -> Result<(), Stop> {
-    let types = types_of(alloc, types)?;
+    types: &LinkSet,
+    told: &mut Told,
+) {
     let answer = match way {
-        Way::Up => ancestors(alloc, graph, node, &types),
-        Way::Down => descendants(alloc, graph, node, &types),
+        Way::Up => ancestors(alloc, graph, node, types),
+        Way::Down => descendants(alloc, graph, node, types),
     };
-    put_answer(told, answer)
+    put_answer(told, &answer);
+}
+
+/// Tells the same of a node that a word says, and of types that bytes of changes stand for.
+pub fn put_walk(alloc: Global, graph: &Graph, way: Way, node: &str, types: &[u8], told: &mut Told) {
+    match (node.parse(), types_of(alloc, types)) {
+        (Ok(node), Some(types)) => put_reached(alloc, graph, way, node, &types, told),
+        _ => told.refuse(),
+    }
 }
 
 /// Tells the order of data provenance, or a cycle.
-pub fn put_order(alloc: Global, graph: &Graph, told: &mut String) -> Result<(), Stop> {
-    put_answer(told, order(alloc, graph))
+pub fn put_order(alloc: Global, graph: &Graph, told: &mut Told) {
+    put_answer(told, &order(alloc, graph));
 }

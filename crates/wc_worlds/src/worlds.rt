@@ -1,22 +1,21 @@
 //! Worlds: the changes that they take and refuse, and what they tell.
 
 use crate::changes::changes_of;
-use crate::stop::Stop;
-use crate::telling::{put_done, put_error, put_line};
+use crate::told::Told;
 use std::alloc::Global;
 use std::mem;
 use wc_graph::NodeKind;
 use wc_report::{state_text, tree_lines, value_text};
-use wc_state::Part;
+use wc_state::{Part, ProcessRecord};
 use wc_trees::tree_of;
 use wc_value::{List, Text, Value, Values, Words, let_go, put};
 use wc_world::{Change, Changes, World, WorldError};
 
 /// Tells whether a world takes changes, or why not.
-fn put_judged(told: &mut String, judged: Result<(), WorldError>) -> Result<(), Stop> {
+fn put_judged(told: &mut Told, judged: Result<(), WorldError>) {
     match judged {
-        Ok(()) => put_line(told, "fits"),
-        Err(error) => put_error(told, &error),
+        Ok(()) => told.put("fits\n"),
+        Err(error) => told.put_line(&error),
     }
 }
 
@@ -26,14 +25,13 @@ fn judge(alloc: Global, world: &World, changes: &Changes) -> Result<(), WorldErr
 }
 
 /// Tells whether a world takes the changes that bytes spell, or why not.
-pub fn fits(alloc: Global, world: &World, bytes: &[u8], told: &mut String) -> Result<(), Stop> {
+pub fn fits(alloc: Global, world: &World, bytes: &[u8], told: &mut Told) {
     match changes_of(alloc, bytes) {
         Ok(changes) => {
-            let judged = judge(alloc, world, &changes);
+            put_judged(told, judge(alloc, world, &changes));
             let_go(changes);
-            put_judged(told, judged)
         }
-        Err(error) => put_error(told, &error),
+        Err(error) => told.put_line(&error),
     }
 }
 
@@ -87,15 +85,14 @@ fn worst(alloc: Global, changes: Changes) -> Changes {
 }
 
 /// Tells whether a world takes the last change that bytes spell, made one that no bytes spell, or why not.
-pub fn worse(alloc: Global, world: &World, bytes: &[u8], told: &mut String) -> Result<(), Stop> {
+pub fn worse(alloc: Global, world: &World, bytes: &[u8], told: &mut Told) {
     match changes_of(alloc, bytes) {
         Ok(changes) => {
             let worst = worst(alloc, changes);
-            let judged = judge(alloc, world, &worst);
+            put_judged(told, judge(alloc, world, &worst));
             let_go(worst);
-            put_judged(told, judged)
         }
-        Err(error) => put_error(told, &error),
+        Err(error) => told.put_line(&error),
     }
 }
 
@@ -108,57 +105,76 @@ fn add(alloc: Global, world: &mut World, changes: Changes) -> Result<(), WorldEr
 }
 
 /// A world takes the changes that bytes spell, or it is told why it doesn't.
-pub fn take(alloc: Global, world: &mut World, bytes: &[u8], told: &mut String) -> Result<(), Stop> {
+pub fn take(alloc: Global, world: &mut World, bytes: &[u8], told: &mut Told) {
     match changes_of(alloc, bytes) {
-        Ok(changes) => put_done(told, add(alloc, world, changes)),
-        Err(error) => put_error(told, &error),
+        Ok(changes) => told.put_done(add(alloc, world, changes)),
+        Err(error) => told.put_line(&error),
     }
 }
 
 /// Tells how many batches, nodes, links, processes and libraries there are.
-pub fn put_counts(world: &World, told: &mut String) -> Result<(), Stop> {
+pub fn put_counts(world: &World, told: &mut Told) {
     let batches = world.batches();
     let nodes = world.graph().nodes().len();
     let links = world.graph().links().len();
     let processes = world.records().as_slice().len();
     let libraries = world.libraries().len();
-    write!(told, "batches {batches} nodes {nodes} links {links} ")?;
-    Ok(writeln!(told, "processes {processes} libraries {libraries}")?)
+    told.put_numbers(&[
+        ("batches ", batches as u64),
+        (" nodes ", nodes as u64),
+        (" links ", links as u64),
+        (" processes ", processes as u64),
+        (" libraries ", libraries as u64),
+    ]);
 }
 
-/// Tells the value of a data node.
-pub fn put_value(alloc: Global, world: &World, node: u32, told: &mut String) -> Result<(), Stop> {
-    let at = node.checked_sub(1).ok_or(Stop::NoRow)?;
-    match world.graph().nodes().get(at as usize) {
+/// Tells the value of a node, if it is data.
+fn put_data(alloc: Global, node: Option<&NodeKind>, told: &mut Told) {
+    match node {
         Some(NodeKind::Data(value)) => {
-            let text = value_text(alloc, value)?;
-            put_line(told, text.as_str())
+            told.put_text(value_text(alloc, value));
+            told.put("\n");
         }
-        _ => put_line(told, "no data"),
+        _ => told.put("no data\n"),
     }
 }
 
-/// Tells what a process runs, its state, its fuel, and in which batches it started and ended.
-pub fn put_record(alloc: Global, world: &World, pid: u32, told: &mut String) -> Result<(), Stop> {
-    let Some(record) = world.record_of(pid) else {
-        return put_line(told, "no process");
-    };
-    let definition = record.definition.as_str();
-    let state = state_text(alloc, record.state)?;
-    let state = state.as_str();
-    let (fuel, started, ended) = (record.fuel, record.started, record.ended);
-    write!(told, "{definition} {state} fuel {fuel} ")?;
-    Ok(writeln!(told, "started {started} ended {ended}")?)
+/// Tells the value of a data node.
+pub fn put_value(alloc: Global, world: &World, node: u32, told: &mut Told) {
+    match node.checked_sub(1) {
+        Some(at) => put_data(alloc, world.graph().nodes().get(at as usize), told),
+        None => told.refuse(),
+    }
+}
+
+/// Tells what is kept of a process: what it runs, its state, its fuel, and in which batches it started and ended.
+fn put_kept(alloc: Global, record: &ProcessRecord, told: &mut Told) {
+    told.put(record.definition.as_str());
+    told.put(" ");
+    told.put_text(state_text(alloc, record.state));
+    let (started, ended) = (record.started as u64, record.ended as u64);
+    told.put_numbers(&[
+        (" fuel ", record.fuel),
+        (" started ", started),
+        (" ended ", ended),
+    ]);
+}
+
+/// Tells what is kept of a process, if there is such a one.
+pub fn put_record(alloc: Global, world: &World, pid: u32, told: &mut Told) {
+    match world.record_of(pid) {
+        Some(record) => put_kept(alloc, record, told),
+        None => told.put("no process\n"),
+    }
 }
 
 /// Tells the tree that a world records of a process.
-pub fn put_tree(alloc: Global, world: &World, pid: u32, told: &mut String) -> Result<(), Stop> {
+pub fn put_tree(alloc: Global, world: &World, pid: u32, told: &mut Told) {
     match tree_of(alloc, world, pid) {
         Ok(tree) => {
-            let lines = tree_lines(alloc, &tree);
+            told.put_text(tree_lines(alloc, &tree));
             let_go(tree);
-            Ok(told.push_str(lines?.as_str())?)
         }
-        Err(error) => put_error(told, &error),
+        Err(error) => told.put_line(&error),
     }
 }

@@ -3,12 +3,13 @@
 use crate::calculations::put_calculation;
 use crate::copies::put_copies;
 use crate::lists::{put_fields, put_rooms, put_words};
+use crate::meanings::put_meaning;
 use crate::requests::put_table;
 use crate::shown::Shown;
 use crate::syntax::{put_offsets, put_printed};
 use crate::tokens::put_tokens;
 use crate::values::{put_bytes, put_limits, put_read, put_text};
-use std::alloc::{AllocError, Global};
+use std::alloc::Global;
 use wc_value::{Kind, Text};
 
 /// The kind that a word names.
@@ -47,6 +48,7 @@ fn put_of_values(alloc: Global, shown: &mut Shown, word: &str, text: &str) -> bo
         "rooms" => put_rooms(alloc, shown),
         "copies" => put_copies(alloc, shown),
         "calculation" => put_calculation(alloc, shown, text),
+        "meaning" => put_meaning(alloc, shown, text),
         _ => return false,
     }
     true
@@ -60,14 +62,20 @@ fn put_of_json(alloc: Global, shown: &mut Shown, word: &str, text: &str) {
     }
 }
 
-/// What is found for a text, where a word says as what it is read.
-pub fn answer(alloc: Global, word: &str, text: &str) -> Result<String, AllocError> {
-    let mut shown = Shown::new(alloc);
-    let file = Text::of_str(alloc, text)?;
-    if !put_of_file(alloc, &mut shown, word, &file)
-        && !put_of_values(alloc, &mut shown, word, text)
-    {
-        put_of_json(alloc, &mut shown, word, text);
+/// Puts what is found for a file, where a word says as what it is read.
+fn put_answer(alloc: Global, shown: &mut Shown, word: &str, file: &Text) {
+    let text = file.as_str();
+    if !put_of_file(alloc, shown, word, file) && !put_of_values(alloc, shown, word, text) {
+        put_of_json(alloc, shown, word, text);
     }
-    shown.finish()
+}
+
+/// What is found for a text, where a word says as what it is read.
+pub fn answer(alloc: Global, word: &str, text: &str) -> Shown {
+    let mut shown = Shown::new(alloc);
+    match Text::of_str(alloc, text) {
+        Ok(file) => put_answer(alloc, &mut shown, word, &file),
+        Err(_) => shown.lose(),
+    }
+    shown
 }

@@ -28,26 +28,23 @@ fn deeper(alloc: Global) -> Result<Values, AllocError> {
     Ok(items)
 }
 
-/// Puts an input `deeper` with these items.
-fn put_input(alloc: Global, inputs: &mut Fields, items: Values) -> Result<(), AllocError> {
+/// Sets an input `deeper`.
+fn set_deeper(alloc: Global, inputs: &mut Fields) -> Result<(), AllocError> {
     let name = Text::of_str(alloc, "deeper")?;
+    let items = deeper(alloc)?;
     inputs.set(name, Value::List(items))
 }
 
-/// An input `deeper`.
-fn input(alloc: Global) -> Result<Fields, AllocError> {
-    let items = deeper(alloc)?;
-    let mut inputs = Fields::new(alloc);
-    let put = put_input(alloc, &mut inputs, items);
-    filled(inputs, put)
-}
-
 /// Whole numbers by their ports, from words like `x=1`, or a list of 33 levels.
-fn inputs_of(alloc: Global, text: &str) -> Result<Fields, AllocError> {
-    if text == "deeper" {
-        return input(alloc);
+fn inputs_of(alloc: Global, shown: &mut Shown, text: &str) -> Fields {
+    if text != "deeper" {
+        return fields_of(alloc, shown, text);
     }
-    fields_of(alloc, text)
+    let mut inputs = Fields::new(alloc);
+    if set_deeper(alloc, &mut inputs).is_err() {
+        shown.lose();
+    }
+    inputs
 }
 
 /// Puts the file `y`.
@@ -138,10 +135,7 @@ fn put_outcome(alloc: Global, shown: &mut Shown, file: &Text, inputs: &Fields) {
 /// Puts what the file below the first line makes of the inputs that this says.
 pub fn put_calculation(alloc: Global, shown: &mut Shown, text: &str) {
     let (inputs, file) = text.split_once('\n').unwrap_or((text, ""));
-    let Ok(inputs) = inputs_of(alloc, inputs) else {
-        shown.lose();
-        return;
-    };
+    let inputs = inputs_of(alloc, shown, inputs);
     match Text::of_str(alloc, file) {
         Ok(file) => put_outcome(alloc, shown, &file, &inputs),
         Err(_) => shown.lose(),

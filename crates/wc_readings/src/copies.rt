@@ -40,8 +40,8 @@ fn called(alloc: Global, tree: Tree) -> Result<Branches, AllocError> {
 
 /// A chain that called the function.
 fn chain(alloc: Global) -> Result<Tree, AllocError> {
-    let calls = called(alloc, leaf(alloc)?)?;
     let name = Text::of_str(alloc, "chain")?;
+    let calls = called(alloc, leaf(alloc)?)?;
     let state = ProcessState::Excepted(Reason::Overflow);
     Ok(ended(alloc, name, state, calls))
 }

@@ -51,15 +51,22 @@ pub fn put_words(alloc: Global, shown: &mut Shown, text: &str) {
     }
 }
 
-/// Whole numbers by their keys, from words like `k=1`.
-pub fn fields_of(alloc: Global, text: &str) -> Result<Fields, AllocError> {
+/// Sets a whole number from a word like `k=1`.
+fn set_field(alloc: Global, fields: &mut Fields, word: &str) -> Result<(), AllocError> {
+    let (key, number) = word.split_once('=').unwrap_or((word, ""));
+    let key = Text::of_str(alloc, key)?;
+    fields.set(key, Value::Int(number.parse().unwrap_or(0)))
+}
+
+/// Whole numbers by their keys, from words like `k=1`. A word for which memory runs out is lost.
+pub fn fields_of(alloc: Global, shown: &mut Shown, text: &str) -> Fields {
     let mut fields = Fields::new(alloc);
-    for field in text.split(' ') {
-        let (key, number) = field.split_once('=').unwrap_or((field, ""));
-        let key = Text::of_str(alloc, key)?;
-        fields.set(key, Value::Int(number.parse().unwrap_or(0)))?;
+    for word in text.split(' ') {
+        if set_field(alloc, &mut fields, word).is_err() {
+            shown.lose();
+        }
     }
-    Ok(fields)
+    fields
 }
 
 /// Puts what fields answer, and a copy of them.
@@ -82,17 +89,15 @@ fn put_field_facts(shown: &mut Shown, fields: &Fields, copy: &Fields) {
 
 /// Puts the fields of a text as JSON, and what they answer.
 pub fn put_fields(alloc: Global, shown: &mut Shown, text: &str) {
-    match fields_of(alloc, text) {
-        Ok(fields) => match fields.copy() {
-            Ok(copy) => {
-                put_field_facts(shown, &fields, &copy);
-                put_json(alloc, shown, Value::Dict(copy));
-                let_go(fields);
-            }
-            Err(_) => shown.lose(),
-        },
+    let fields = fields_of(alloc, shown, text);
+    match fields.copy() {
+        Ok(copy) => {
+            put_field_facts(shown, &fields, &copy);
+            put_json(alloc, shown, Value::Dict(copy));
+        }
         Err(_) => shown.lose(),
     }
+    let_go(fields);
 }
 
 /// A list with room and a box, each with an item.

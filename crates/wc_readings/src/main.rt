@@ -6,6 +6,7 @@ mod answers;
 mod calculations;
 mod copies;
 mod lists;
+mod meanings;
 mod requests;
 mod rows;
 mod shown;
@@ -13,7 +14,9 @@ mod syntax;
 mod tokens;
 mod values;
 
-use crate::rows::difference;
+use crate::rows::try_row;
+use crate::shown::Shown;
+use std::alloc::Global;
 use std::io::{self, Read};
 use std::process::ExitCode;
 
@@ -27,49 +30,41 @@ fn input(rt: &HostRuntime) -> io::Result<String> {
     Ok(text)
 }
 
-/// Tries a row, and prints it where something else is found. Whether it is right.
-fn try_row(rt: &HostRuntime, row: &str) -> io::Result<bool> {
-    match difference(rt.alloc(), row)? {
-        None => Ok(true),
-        Some(found) => {
-            println!(rt; "{row}\nbut found: {}", found.trim_end_matches(' '))?;
-            Ok(false)
-        }
-    }
-}
-
 /// Tries the rows of a part, whose name stands above them, and tells how many there are. Whether that is as it should be.
-fn try_part(rt: &HostRuntime, part: &str) -> io::Result<bool> {
+fn try_part(alloc: Global, told: &mut Shown, part: &str) -> bool {
     let (name, rows) = part.split_once("\n\n").unwrap_or((part, ""));
     let mut count: u32 = 0;
     let mut is_right = true;
     for row in rows.split("\n\n") {
         count = count.saturating_add(1);
-        if !try_row(rt, row)? {
-            is_right = false;
-        }
+        is_right &= try_row(alloc, told, row);
     }
     let is_meant = is_right != (name == WRONG);
-    let verdict = if is_meant { "ok" } else { "FAILED" };
-    println!(rt; "{verdict}: {name}: {count} rows")?;
-    Ok(is_meant)
+    told.put(if is_meant { "ok: " } else { "FAILED: " });
+    told.put(name);
+    told.put(": ");
+    told.put_item(&count);
+    told.put(" rows\n");
+    is_meant
 }
 
 /// Tries all parts. Whether all is as it should be.
-fn try_all(rt: &HostRuntime, text: &str) -> io::Result<bool> {
+fn try_all(alloc: Global, told: &mut Shown, text: &str) -> bool {
     let mut is_right = true;
     for part in text.trim_end_matches('\n').split("\n\npart ").skip(1) {
-        if !try_part(rt, part)? {
-            is_right = false;
-        }
+        is_right &= try_part(alloc, told, part);
     }
-    Ok(is_right)
+    is_right
 }
 
 fn main(rt: HostRuntime) -> io::Result<ExitCode> {
     let text = input(&rt)?;
-    if try_all(&rt, text.as_str())? {
-        return Ok(ExitCode::SUCCESS);
-    }
-    Ok(ExitCode::FAILURE)
+    let mut told = Shown::new(rt.alloc());
+    let is_right = try_all(rt.alloc(), &mut told, text.as_str());
+    print!(rt; "{}", told.finish()?)?;
+    Ok(if is_right {
+        ExitCode::SUCCESS
+    } else {
+        ExitCode::FAILURE
+    })
 }

@@ -3,7 +3,7 @@
 use crate::shown::Shown;
 use std::alloc::{AllocError, Global};
 use wc_json::table_from_json;
-use wc_value::{Duplicate, Request, Rows, Table, TableError, encode_request, let_go};
+use wc_value::{Duplicate, Request, Rows, Table, TableError, encode_request, filled, let_go};
 
 /// The bytes of a request in hexadecimal digits.
 fn spelled(alloc: Global, request: &Request) -> Result<String, AllocError> {
@@ -26,13 +26,19 @@ fn put_request(alloc: Global, shown: &mut Shown, table: &Table, request: &Reques
     shown.put("; ");
 }
 
+/// Puts the first of these rows, if there is one, behind others.
+fn put_first(rows: &mut Rows, given: &Rows) -> Result<(), AllocError> {
+    match given.get(0) {
+        Some(first) => rows.push(first.copy()?),
+        None => Ok(()),
+    }
+}
+
 /// The rows of a table with the first once more behind them.
 fn repeated(table: &Table) -> Result<Rows, AllocError> {
     let mut rows = table.rows().copy()?;
-    if let Some(first) = table.rows().get(0) {
-        rows.push(first.copy()?)?;
-    }
-    Ok(rows)
+    let put = put_first(&mut rows, table.rows());
+    filled(rows, put)
 }
 
 /// Puts where rows are refused as a table.

@@ -1,8 +1,8 @@
 //! Rows: a word that says what is read, a text, and below a `=` what is wanted.
 
 use crate::answers::answer;
-use std::alloc::{AllocError, Global};
-use wc_value::filled;
+use crate::shown::Shown;
+use std::alloc::Global;
 
 /// The character for which a sign stands.
 fn meant(sign: char) -> char {
@@ -18,50 +18,46 @@ fn meant(sign: char) -> char {
 }
 
 /// Puts a line with the characters for which signs stand.
-fn put_line(unfolded: &mut String, line: &str) -> Result<(), AllocError> {
+fn put_line(unfolded: &mut Shown, line: &str) {
     for sign in line.chars() {
-        unfolded.push(meant(sign))?;
+        unfolded.put_sign(meant(sign));
     }
-    Ok(())
-}
-
-/// Puts a text whose further lines begin with two spaces, without these.
-fn put_lines(unfolded: &mut String, text: &str) -> Result<(), AllocError> {
-    for (at, line) in text.split("\n  ").enumerate() {
-        if at > 0 {
-            unfolded.push('\n')?;
-        }
-        put_line(unfolded, line)?;
-    }
-    Ok(())
 }
 
 /// A text whose further lines begin with two spaces, without these, and with the characters for which signs stand.
-fn unfolded(alloc: Global, text: &str) -> Result<String, AllocError> {
-    let mut unfolded = String::new(alloc);
-    let put = put_lines(&mut unfolded, text);
-    filled(unfolded, put)
+fn unfolded(alloc: Global, text: &str) -> Shown {
+    let mut unfolded = Shown::new(alloc);
+    for (at, line) in text.split("\n  ").enumerate() {
+        if at > 0 {
+            unfolded.put("\n");
+        }
+        put_line(&mut unfolded, line);
+    }
+    unfolded
 }
 
-/// What is found for a text, where a word says as what it is read.
-fn found(alloc: Global, word: &str, text: &str) -> Result<String, AllocError> {
-    let text = unfolded(alloc, text)?;
-    answer(alloc, word, text.as_str())
+/// Puts a row, and what is found for it.
+fn put_difference(told: &mut Shown, row: &str, found: &str) {
+    told.put(row);
+    told.put("\nbut found: ");
+    told.put(found);
+    told.put("\n");
 }
 
-/// Whether a text is the wanted one. Spaces at the end don't count.
-fn is_wanted(alloc: Global, found: &str, wanted: &str) -> Result<bool, AllocError> {
-    let wanted = unfolded(alloc, wanted.strip_prefix(' ').unwrap_or(wanted))?;
-    Ok(found.trim_end_matches(' ') == wanted.trim_end_matches(' '))
-}
-
-/// What is found for a row, where that isn't what it says. Spaces at the end don't count.
-pub fn difference(alloc: Global, row: &str) -> Result<Option<String>, AllocError> {
+/// Tries a row, and tells of it where something else is found. Whether it is right. Spaces at the end don't count.
+pub fn try_row(alloc: Global, told: &mut Shown, row: &str) -> bool {
     let (asked, wanted) = row.split_once("\n=").unwrap_or((row, ""));
     let (word, text) = asked.split_once(' ').unwrap_or((asked, ""));
-    let found = found(alloc, word, text)?;
-    if is_wanted(alloc, found.as_str(), wanted)? {
-        return Ok(None);
+    let text = unfolded(alloc, text);
+    let wanted = unfolded(alloc, wanted.strip_prefix(' ').unwrap_or(wanted));
+    let found = answer(alloc, word, text.as_str());
+    if text.is_lost() | wanted.is_lost() | found.is_lost() {
+        told.lose();
     }
-    Ok(Some(found))
+    let found = found.as_str().trim_end_matches(' ');
+    let is_right = found == wanted.as_str().trim_end_matches(' ');
+    if !is_right {
+        put_difference(told, row, found);
+    }
+    is_right
 }

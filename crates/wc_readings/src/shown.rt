@@ -19,6 +19,16 @@ impl Shown {
         }
     }
 
+    /// The text so far.
+    pub fn as_str(&self) -> &str {
+        self.text.as_str()
+    }
+
+    /// Whether memory ran out for a part.
+    pub fn is_lost(&self) -> bool {
+        self.is_lost
+    }
+
     /// Memory ran out for a part.
     pub fn lose(&mut self) {
         self.is_lost = true;
@@ -27,6 +37,13 @@ impl Shown {
     /// Puts a text.
     pub fn put(&mut self, part: &str) {
         if self.text.push_str(part).is_err() {
+            self.lose();
+        }
+    }
+
+    /// Puts a character.
+    pub fn put_sign(&mut self, sign: char) {
+        if self.text.push(sign).is_err() {
             self.lose();
         }
     }

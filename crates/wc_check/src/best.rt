@@ -1,3 +1,5 @@
+//! What is found wrong, and which of the findings comes first.
+
 ghost use Rattle.std.specs.Prelude.{◌≡◌, None, IfOk};
 ghost use Rattle.wc_syntax.specs.Findings.{unless};
 ghost use Rattle.wc_check.specs.Least.{least_after, lesser, number_of, stands_before, told};
@@ -79,8 +81,11 @@ impl<'a> Told<'a> {
 /// A rule that is broken at a place of the file, with the name that stands there or none.
 #[derive(Drop)]
 pub struct Finding<'a> {
+    /// The rule that is broken.
     pub fault: Fault,
+    /// What the refusal names.
     pub name: Told<'a>,
+    /// The offset of the place.
     pub at: u32,
 }
 

@@ -1,3 +1,5 @@
+//! What the calls of an outline break: which definition they name, and which ports they give.
+
 ghost use Rattle.std.specs.Prelude.{◌≡◌, flat_map, OnOk};
 ghost use Rattle.wc_syntax.specs.Findings.{callee_of, called_ports, missing_of, missing_port, unknown_of, unknown_port};
 ghost use Rattle.wc_check.specs.Flat.{behind, seen_piece, seen_pieces};

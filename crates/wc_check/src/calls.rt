@@ -1,3 +1,5 @@
+//! The input ports of a library's definitions, as calls meet them.
+
 ghost use Rattle.std.specs.Prelude.{◌≡◌, ◌∷◌, ◌++◌, List, OnOk, IfOk};
 ghost use Rattle.std.specs.Option.{option_copied};
 ghost use Rattle.wc_syntax.specs.declared.definition.Definition.{Definition};

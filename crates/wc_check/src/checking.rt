@@ -1,3 +1,5 @@
+//! A library by all rules: the first place where one is broken, or the checked library.
+
 ghost use Rattle.std.specs.Prelude.{◌≡◌, ◌++◌, None, flat_map, OnOk, IfOk, IfErr};
 ghost use Rattle.wc_syntax.specs.declared.definition.Definition.{Definition};
 ghost use Rattle.wc_syntax.specs.Bare.{bare_library};

@@ -1,3 +1,5 @@
+//! Why a library isn't checked.
+
 ghost use Rattle.std.specs.Prelude.{◌≡◌};
 ghost use Rattle.wc_check.specs.declared.error.CheckError.TheVariants.{OutOfMemory};
 

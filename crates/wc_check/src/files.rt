@@ -1,3 +1,5 @@
+//! The names of a job's files.
+
 ghost use Rattle.std.specs.Prelude.{◌≡◌, flat_map, OnOk};
 ghost use Rattle.std.specs.List.{list_all};
 ghost use Rattle.wc_syntax.specs.Findings.{is_among, is_file_byte, is_file_name, output_files, bad_written, bad_fetched, bad_file_names, repeated_files};

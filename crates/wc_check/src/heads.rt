@@ -1,3 +1,5 @@
+//! The ports and the exit statuses that a definition declares.
+
 ghost use Rattle.std.specs.Prelude.{◌≡◌, [], ◌∷◌, ◌++◌, not, flat_map, OnOk, IfOk, map};
 ghost use Rattle.std.specs.Fmt.{signed_decimal};
 ghost use Rattle.wc_syntax.specs.Findings.{is_among, is_status, result_names, head_of, repeated_ports, reserved_port, reserved_ports, repeated_statuses, repeated_statuses_after, bad_range, bad_declared, declared_numbers, unless, twice};

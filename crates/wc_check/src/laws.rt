@@ -1,3 +1,5 @@
+//! Laws of the rules. Each is the contract of a function that does nothing.
+
 ghost use Rattle.std.specs.Prelude.{◌≡◌, ◌↔◌, List, [], Option};
 ghost use Rattle.wc_check.specs.declared.error.CheckError.{CheckError};
 ghost use Rattle.wc_check.specs.Laws.{RulesForgetOffsets};

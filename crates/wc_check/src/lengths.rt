@@ -1,3 +1,5 @@
+//! Names that have too many bytes.
+
 ghost use Rattle.std.specs.Prelude.{◌≡◌, ◌++◌, map, flat_map};
 ghost use Rattle.wc_syntax.specs.Findings.{long_name, long_names, piece_names, rule_name, stmt_names};
 ghost use Rattle.wc_check.specs.Flat.{seen_piece, seen_pieces};

@@ -1,3 +1,5 @@
+//! The names in expressions, and what is wrong with one.
+
 ghost use Rattle.std.specs.Prelude.{◌≡◌, [], ◌∷◌, flat_map};
 ghost use Rattle.wc_syntax.specs.Mentions.{mentions, mentioned, part_mentions, condition_mentions, rule_mentions, stmt_mentions};
 ghost use Rattle.wc_syntax.specs.Findings.{line_exprs, piece_mentions};

@@ -1,3 +1,5 @@
+//! A definition taken apart: its inputs, its rules and the pieces of its outline.
+
 ghost use Rattle.std.specs.Prelude.{◌≡◌, IfOk};
 ghost use Rattle.wc_syntax.specs.Findings.{inputs_of, pieces_of, rules_of};
 ghost use Rattle.wc_check.specs.Flat.{seen_pieces};

@@ -1,3 +1,5 @@
+//! The pieces of an outline, in the order of the file.
+
 ghost use Rattle.std.specs.Prelude.{◌≡◌, [], ◌∷◌, ◌++◌, map, flat_map, OnOk, IfOk};
 ghost use Rattle.wc_syntax.specs.Mentions.{Does, pieces, step_pieces};
 ghost use Rattle.wc_check.specs.Flat.{seen_piece, seen_pieces, pieces_of_instr, pieces_of_arm};

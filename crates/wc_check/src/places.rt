@@ -1,3 +1,5 @@
+//! Where the instructions, statements, rules and job lines of a definition begin.
+
 ghost use Rattle.std.specs.Prelude.{◌≡◌, ◌++◌, map, flat_map, OnOk, IfOk};
 ghost use Rattle.wc_syntax.specs.Findings.{places, line_places, rule_at, stmt_at, piece_places};
 ghost use Rattle.wc_check.specs.Flat.{seen_piece, seen_pieces};

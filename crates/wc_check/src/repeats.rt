@@ -1,3 +1,5 @@
+//! Items that names stand for, and names that stand twice among them.
+
 ghost use Rattle.std.specs.Prelude.{◌≡◌, [], ◌∷◌, ◌++◌, map, not, OnOk, IfOk};
 ghost use Rattle.wc_syntax.specs.Findings.{head_of, is_among, unless, twice, repeats};
 ghost use Rattle.wc_check.specs.Least.{least_after, Agree};

@@ -1,3 +1,5 @@
+//! The outputs that a definition sets, the statuses that it ends with, and how many items it and a library have.
+
 ghost use Rattle.std.specs.Prelude.{◌≡◌, ◌++◌, map, flat_map, OnOk};
 ghost use Rattle.wc_syntax.specs.Findings.{over, over_counts, over_definitions, is_data, not_nodes, unknown_output, unknown_outputs, undeclared, bad_exits, rule_output, rule_status, piece_status};
 ghost use Rattle.wc_syntax.specs.declared.expression.Form.{out-Form};

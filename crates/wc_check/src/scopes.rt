@@ -1,3 +1,5 @@
+//! Where expressions stand, and which names may stand there.
+
 ghost use Rattle.std.specs.Prelude.{◌≡◌, ◌++◌, OnOk};
 ghost use Rattle.wc_syntax.specs.Findings.{is_among, inputs_of, unless, unknown, unknown_in_rules, unknown_mention, unknown_names, repeated_lets, repeated_lets_in, let_repeats, scope_after, scope_of, first_scope};
 ghost use Rattle.wc_check.specs.Flat.{seen_mention};

@@ -1,3 +1,5 @@
+//! Sets of exit statuses.
+
 ghost use Rattle.std.specs.Prelude.{◌≡◌, [], ◌∷◌, ◌++◌, not, IfOk, OnOk};
 ghost use Rattle.wc_syntax.specs.Findings.{is_status};
 ghost use Rattle.wc_check.specs.Least.{AgreeAt};

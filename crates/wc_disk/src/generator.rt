@@ -7,6 +7,7 @@ use std::alloc::{AllocError, Global};
 /// A linear congruential generator.
 #[derive(Drop)]
 pub struct Generator {
+    /// The number that the next one is drawn from.
     pub x: u64,
     ghost small: { x < 2 ^ 32 },
 }

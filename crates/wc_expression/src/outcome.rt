@@ -1,3 +1,5 @@
+//! What an evaluation gives.
+
 use wc_value::Reason;
 
 /// What an evaluation gives: a value, or why there is none.

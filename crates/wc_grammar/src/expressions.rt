@@ -430,6 +430,7 @@ fn compared(
     further(alloc, left, tokens, bound, Level::Compares)
 }
 
+/// An expression.
 #[cycle(expr)]
 #[tactic(auto, using(crate::proofs::Bounds::expr_is))]
 pub fn expr(alloc: Global, tokens: &[Spot], bound: usize) -> Result<(Expr, &[Spot]), Fault>

@@ -1,3 +1,5 @@
+//! Why nothing was read.
+
 ghost use Rattle.std.specs.Prelude.{◌≡◌};
 ghost use Rattle.wc_grammar.specs.declared.fault.Fault.TheVariants.{OutOfMemory};
 

@@ -21,10 +21,15 @@ use wc_value::Boxed;
 /// How tightly an operator with two operands binds, the tightest first.
 #[derive(Clone, Copy)]
 pub enum Level {
+    /// `*`, `/` and `%`
     Products,
+    /// `+` and `-`
     Sums,
+    /// `==`, `!=`, `<`, `<=`, `>` and `>=`
     Compares,
+    /// `and`
     Ands,
+    /// `or`
     Ors,
 }
 

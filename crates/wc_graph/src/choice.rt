@@ -1,3 +1,5 @@
+//! Which link types a walk may take.
+
 ghost use Rattle.std.specs.Prelude.{◌≡◌, ◌↔◌, IsTrue, Contains};
 ghost use Rattle.wc_graph.specs.Walks.{data_types};
 ghost use Rattle.wc_graph.specs.Choice.{chosen, Chooses, data_choice};
@@ -11,11 +13,17 @@ pub type LinkSet = List<LinkType>;
 /// Which link types a walk may take.
 #[derive(Clone, Copy)]
 pub(crate) struct Choice {
+    /// Data that goes into calculations.
     pub input_calc: bool,
+    /// Data that goes into workflows.
     pub input_work: bool,
+    /// Data that calculations make.
     pub create: bool,
+    /// Data that workflows give back.
     pub give_back: bool,
+    /// Calls of calculations.
     pub call_calc: bool,
+    /// Calls of workflows.
     pub call_work: bool,
 }
 

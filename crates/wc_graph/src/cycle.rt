@@ -1,3 +1,5 @@
+//! Closed walks: the least node on any, and a walk through it.
+
 ghost use Rattle.std.specs.Prelude.{◌≡◌, ℕ, ◌+◌, ◌<◌, ◌≤◌, ◌^◌, List, length, slice_index, MatchOption, IfOk, IfSome, IfNone, IsSome};
 ghost use Rattle.wc_graph.specs.Walks.{Reaches};
 ghost use Rattle.wc_graph.specs.Near.{Near};

@@ -1,3 +1,5 @@
+//! Searches that colour what can be reached from a node.
+
 ghost use Rattle.std.specs.Prelude.{◌≡◌, ◌≢◌, ℕ, ◌+◌, ◌<◌, ◌≤◌, List, [], length, slice_index, replicate, All, IfOk, OnOk, IfSome, IfNone, IsSome};
 ghost use Rattle.wc_graph.specs.Near.{Near};
 ghost use Rattle.wc_graph.specs.Flood.{Floods, CanFlood, IsAtWork, IsEither, count_of};
@@ -8,7 +10,9 @@ use std::alloc::{AllocError, Global};
 /// A node that a search found, and the place in its trail of the node that it was found from.
 #[derive(Clone, Copy, Drop)]
 pub(crate) struct Found {
+    /// Its number.
     pub node: u32,
+    /// The place of the node that it was found from.
     pub by: usize,
 }
 

@@ -1,3 +1,5 @@
+//! The graph, which grows by nodes and links that it takes.
+
 ghost use Rattle.std.specs.Prelude.{◌≡◌, ℕ, [], ◌∷◌, ◌++◌, ◌+◌, ◌-◌, ◌<◌, ◌≤◌, ◌↔◌, ◌⊎◌, length, IfOk, OnOk, OnErr, IsOk, IsErrOf, IsTrue};
 ghost use Rattle.wc_graph.specs.Rules.{IsLinkCorrect};
 ghost use Rattle.wc_graph.specs.Index.{Skips, source_of, target_of};
@@ -201,7 +203,8 @@ impl Graph {
         }
     }
 
-    /// Whether more than 64 links enter a node, by a walk of few steps.
+    /// Whether more than 64 links may enter a node, by a walk of few steps. Where they do it is true; where the index was given up
+    /// for want of memory it is true for each node of a graph with more than 64 links.
     pub fn has_many_into(&self, node: u32) -> bool {
         has_many(self, End::Target, node)
     }

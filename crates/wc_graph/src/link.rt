@@ -1,3 +1,5 @@
+//! Links and their types.
+
 use wc_value::Text;
 
 /// What a link records of its two nodes.

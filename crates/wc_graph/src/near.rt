@@ -1,3 +1,5 @@
+//! The nodes one step from each node.
+
 ghost use Rattle.std.specs.Prelude.{◌≡◌, ℕ, ◌+◌, ◌<◌, ◌^◌, List, [], length, IfOk, slice_index_or};
 ghost use Rattle.wc_graph.specs.declared.link.LinkType.{LinkType};
 ghost use Rattle.wc_graph.specs.Walks.{Leads};

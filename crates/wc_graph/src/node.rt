@@ -1,3 +1,5 @@
+//! What a node is.
+
 use wc_value::Value;
 
 /// What a node of the graph is.

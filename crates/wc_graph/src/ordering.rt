@@ -1,3 +1,5 @@
+//! The order of data provenance.
+
 ghost use Rattle.std.specs.Prelude.{◌≡◌, ◌≢◌, ℕ, ◌+◌, ◌<◌, ◌≤◌, ◌^◌, ◌↔◌, ◌⊎◌, [], length, slice_index, slice_index_or, All, Any, MatchBool, MatchOption, IfOk, IfErr, IfSome, IsSome, OnOk, IsTrue, false};
 ghost use Rattle.std.specs.Ordering.{nat_cmp};
 ghost use Rattle.std.specs.BTreeSet.{contains, IsLowerBound, Updates};

@@ -1,3 +1,5 @@
+//! The ancestors and the descendants of a node.
+
 ghost use Rattle.std.specs.Prelude.{◌≡◌, ◌≢◌, ℕ, ◌≤◌, ◌^◌, ◌↔◌, ◌⊎◌, length, slice_index, IfOk, IfErr, IsErrOf};
 ghost use Rattle.wc_graph.specs.Walks.{Leads, Reaches};
 ghost use Rattle.wc_graph.specs.Near.{Along};

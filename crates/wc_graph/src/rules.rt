@@ -1,3 +1,5 @@
+//! The rules of links, and whether a graph allows a link by them.
+
 ghost use Rattle.std.specs.Prelude.{◌≡◌, ℕ, ◌↔◌, IsTrue, MatchResult, OnOk, IsErrOf, Any};
 ghost use Rattle.wc_graph.specs.Rules.{node_of, Leaves, Enters, TakesTriple, TakesLabel, SharesCreated, SharesCalled, IsCall};
 ghost use Rattle.wc_graph.specs.Refusals.{IsAllowed, Refuses};

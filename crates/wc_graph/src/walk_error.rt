@@ -1,3 +1,5 @@
+//! Why a walk has no answer.
+
 ghost use Rattle.std.specs.Prelude.{◌≡◌};
 ghost use Rattle.wc_graph.specs.declared.walk_error.WalkError.TheVariants.{OutOfMemory};
 
@@ -8,10 +10,13 @@ use thiserror::Error;
 /// Why a walk has no answer.
 #[derive(Debug, Drop, Error)]
 pub enum WalkError {
+    /// No node has this number.
     #[error("no node {0}")]
     NoNode(u32),
+    /// There is no order. These are the nodes of a closed walk, which begins with the least node on any.
     #[error("a cycle of data provenance")]
     Cycle(Ids),
+    /// Memory ran out.
     #[error("out of memory")]
     OutOfMemory,
 }

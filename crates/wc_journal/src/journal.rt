@@ -7,8 +7,11 @@ use crate::batches::Batches;
 /// What is known of a journal on a disk: its version, its generation, and the offset of its last gate.
 #[derive(Drop)]
 pub struct Journal {
+    /// The version, 1 or 2.
     pub(crate) version: u8,
+    /// The generation, at least 1.
     pub(crate) generation: u64,
+    /// The offset of the last gate.
     pub(crate) end: u64,
     ghost is_numbered: { 1 ≤ generation },
     ghost is_some: { 1 ≤ version },

@@ -1,3 +1,5 @@
+//! Why a text has no tokens.
+
 ghost use Rattle.std.specs.Prelude.{◌≡◌};
 ghost use Rattle.wc_lexer.specs.declared.error.LexError.TheVariants.{OutOfMemory};
 
@@ -7,6 +9,7 @@ use thiserror::Error;
 /// Why a text has no tokens: the first place from the left where none goes on.
 #[derive(Clone, Copy, Debug, PartialEq, Eq, Error)]
 pub enum LexError {
+    /// Memory ran out.
     #[error("out of memory")]
     OutOfMemory,
     /// No token begins at this offset, or the backslash there begins no escape.

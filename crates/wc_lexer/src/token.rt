@@ -1,3 +1,5 @@
+//! Tokens: names, numbers, texts, reserved words and signs.
+
 use wc_value::{List, Text};
 
 /// A token, and the offset of its first byte.

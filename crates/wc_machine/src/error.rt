@@ -1,3 +1,5 @@
+//! Why an event has no changes.
+
 ghost use Rattle.std.specs.Prelude.{◌≡◌};
 ghost use Rattle.wc_machine.specs.declared.error.TurnError.TheVariants.{OutOfMemory};
 

@@ -1,9 +1,12 @@
+//! Why a text is no library's.
+
 use thiserror::Error;
 use wc_lexer::LexError;
 
 /// Why a text is no library's.
 #[derive(Clone, Copy, Debug, PartialEq, Eq, Error)]
 pub enum ParseError {
+    /// Memory ran out.
     #[error("out of memory")]
     OutOfMemory,
     /// The text, or the printed text of its library, has more than 1,048,576 bytes.

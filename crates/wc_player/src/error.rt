@@ -6,6 +6,7 @@ use wc_value::TableError;
 /// Why a transcript can't be played.
 #[derive(Clone, Copy)]
 pub enum PlayError {
+    /// Memory ran out.
     OutOfMemory,
     /// A word of a command is no text.
     Word,

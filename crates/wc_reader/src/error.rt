@@ -1,8 +1,11 @@
+//! Why tokens are those of no library.
+
 use thiserror::Error;
 
 /// Why tokens are those of no library.
 #[derive(Clone, Copy, Debug, PartialEq, Eq, Error)]
 pub enum ReadError {
+    /// Memory ran out.
     #[error("out of memory")]
     OutOfMemory,
     /// The token at this offset is the first with which no library's tokens go on.

@@ -1,3 +1,5 @@
+//! Why bytes are not those of changes.
+
 ghost use Rattle.std.specs.Prelude.{◌≡◌};
 ghost use Rattle.wc_record.specs.Readers.{moved};
 ghost use Rattle.wc_record.specs.declared.error.RecordError.TheVariants.{OutOfMemory};

@@ -18,6 +18,7 @@ use wc_value::{Bytes, Text, put_value};
 /// The most items that four bytes can count.
 const MOST: usize = 0xffff_ffff;
 
+/// Puts a number of four bytes.
 #[tactic(auto, unfolding(crate::specs::Spelled::u32_bytes))]
 pub fn put_u32(out: &mut Bytes, number: u32) -> Result<(), AllocError>
     ensures { OnOk result (out.new ≡ out.old ++ u32_bytes number) }
@@ -25,6 +26,7 @@ pub fn put_u32(out: &mut Bytes, number: u32) -> Result<(), AllocError>
     out.extend(&number.to_be_bytes())
 }
 
+/// Puts a number of eight bytes.
 #[tactic(auto, unfolding(crate::specs::Spelled::u64_bytes))]
 pub fn put_u64(out: &mut Bytes, number: u64) -> Result<(), AllocError>
     ensures { OnOk result (out.new ≡ out.old ++ u64_bytes number) }
@@ -32,6 +34,7 @@ pub fn put_u64(out: &mut Bytes, number: u64) -> Result<(), AllocError>
     out.extend(&number.to_be_bytes())
 }
 
+/// Puts a number of eight bytes, in two's complement.
 #[tactic(auto, unfolding(crate::specs::Spelled::i64_bytes))]
 pub fn put_i64(out: &mut Bytes, number: i64) -> Result<(), AllocError>
     ensures { OnOk result (out.new ≡ out.old ++ i64_bytes number) }
@@ -57,6 +60,7 @@ pub fn put_text(out: &mut Bytes, text: &Text) -> Result<(), AllocError>
     wc_value::put_text(out, text.bytes())
 }
 
+/// Puts a truth value as a byte, 00 or 01.
 pub fn put_bool(out: &mut Bytes, truth: bool) -> Result<(), AllocError>
     ensures { OnOk result (out.new ≡ out.old ++ truth_byte truth ∷ []) }
 {

@@ -1,3 +1,5 @@
+//! Copies of what the state of a process is made of.
+
 use crate::context::CtxRef;
 use crate::environment::{Child, Env, Item, NodeValue};
 use crate::record::{Await, Checkpoint, Frame, JobPart, Part, ProcessRecord};

@@ -81,6 +81,7 @@ impl Equivalent<Key> for &str {
 /// doesn't hang on how many there are.
 #[derive(Drop)]
 pub struct Ordered<T> {
+    /// The names with what they hold, in that order.
     pub(crate) map: IndexMap<Key, T>,
 }
 

@@ -9,15 +9,20 @@ use wc_value::{List, Text};
 /// One of the two disks.
 #[derive(Clone, Copy)]
 pub enum Side {
+    /// Disk one.
     One,
+    /// Disk two.
     Two,
 }
 
 /// What a command asks, and what can fail.
 #[derive(Clone, Copy)]
 pub enum Device {
+    /// The shelf.
     Shelf,
+    /// The sink.
     Sink,
+    /// One of the two disks.
     Disk(Side),
     /// The transport, at this task or at any.
     Transport(Option<Task>),
@@ -26,8 +31,11 @@ pub enum Device {
 /// Which bytes a crash leaves where nothing was synced.
 #[derive(Clone, Copy)]
 pub enum Left {
+    /// Those of before.
     Old,
+    /// Those that were written.
     New,
+    /// Those that are drawn from this seed.
     Noise(u32),
 }
 

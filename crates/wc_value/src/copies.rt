@@ -1,3 +1,5 @@
+//! Copies of values, and of what a process asks for, ends as and leaves.
+
 ghost use Rattle.std.specs.Prelude.{◌≡◌, IfOk};
 
 use crate::duplicate::Duplicate;

@@ -1,3 +1,5 @@
+//! What can be copied into an equal value.
+
 ghost use Rattle.std.specs.Prelude.{◌≡◌, IfOk};
 
 use std::alloc::AllocError;

@@ -1,3 +1,5 @@
+//! Canonical bytes, put at the end of bytes.
+
 ghost use Rattle.std.specs.Prelude.{◌≡◌, ◌++◌, ◌<◌, ◌^◌, length, IfOk, OnOk};
 ghost use Rattle.std.specs.Int.{w32, to_be_bytes};
 ghost use Rattle.wc_value.specs.Spelling.{spelling, text};

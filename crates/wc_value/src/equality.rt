@@ -1,3 +1,5 @@
+//! Whether texts, values, requests, results, states and trees are equal.
+
 ghost use Rattle.std.specs.Prelude.{◌≡◌, ◌↔◌, IsTrue};
 
 use crate::list::Bytes;

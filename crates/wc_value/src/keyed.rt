@@ -1,3 +1,5 @@
+//! Entries by name, in the order of the names' bytes.
+
 ghost use Rattle.std.specs.Prelude.{◌≡◌, [], ◌∷◌, ◌++◌, ◌<◌, ◌≤◌, ◌^◌, length, slice_get, true, OnOk, OnErr};
 ghost use Rattle.std.specs.Option.{option_copied};
 ghost use Rattle.wc_value.specs.Ascending.{Ascends, goes_last, lookup, put, place, is_named, value_named};

@@ -1,3 +1,5 @@
+//! Whether a value is within bounds on its canonical bytes and its depth.
+
 ghost use Rattle.std.specs.Prelude.{◌≡◌, ◌+◌, ◌≤◌, ◌-◌, ◌↔◌, ◌<◌, length, IsTrue, SomeIff};
 ghost use Rattle.wc_value.specs.Spelling.{spelling, depth, text, file, pair_of};
 

@@ -1,3 +1,5 @@
+//! Lists, which contracts see as their items.
+
 ghost use Rattle.std.specs.Prelude.{◌≡◌, [], ◌∷◌, ◌++◌, ◌==◌, ◌<◌, ◌≤◌, ◌^◌, ◌↔◌, length, slice_get, IfOk, OnOk, OnErr, OnSome, IsSome};
 ghost use Rattle.std.specs.Option.{option_copied};
 

@@ -1,3 +1,5 @@
+//! Why bytes are not the canonical bytes of a value.
+
 ghost use Rattle.std.specs.Prelude.{◌≡◌};
 ghost use Rattle.wc_value.specs.declared.refusal.ValueError.TheVariants.{OutOfMemory};
 

@@ -1,3 +1,5 @@
+//! Results of jobs by their requests.
+
 ghost use Rattle.std.specs.Prelude.{◌≡◌, IfOk, IfErr, MatchOption};
 ghost use Rattle.std.specs.List.{Contains};
 ghost use Rattle.wc_value.specs.declared.table.TableError.TheVariants.{OutOfMemory};

@@ -1,3 +1,5 @@
+//! Why a world doesn't take a change, or has no answer.
+
 ghost use Rattle.std.specs.Prelude.{◌≡◌};
 ghost use Rattle.wc_world.specs.declared.error.WorldError.TheVariants.{OutOfMemory};
 

@@ -14,9 +14,13 @@ use wc_records::Records;
 /// are made at the end, once for each calculation.
 #[derive(Drop)]
 pub struct Played {
+    /// The provenance graph.
     pub(crate) graph: Graph,
+    /// The records of the processes.
     pub(crate) records: Records,
+    /// The libraries.
     pub(crate) libraries: Libraries,
+    /// How many batches there were.
     pub(crate) batches: u32,
 }
 

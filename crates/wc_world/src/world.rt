@@ -1,3 +1,5 @@
+//! The world that a store holds.
+
 ghost use Rattle.std.specs.Prelude.{◌≡◌, ◌↔◌, length, IsNone};
 ghost use Rattle.std.specs.Option.{option_copied};
 ghost use Rattle.wc_graph.specs.Rules.{IsLinkCorrect};
@@ -19,10 +21,15 @@ use wc_state::ProcessRecord;
 /// Everything that a store holds. It changes by whole lists of changes alone, each of which it accepts.
 #[derive(Drop)]
 pub struct World {
+    /// The provenance graph.
     pub(crate) graph: Graph,
+    /// The records of the processes.
     pub(crate) records: Records,
+    /// The libraries.
     pub(crate) libraries: Libraries,
+    /// How many batches there were.
     pub(crate) batches: u32,
+    /// The digests of the calculations that have finished.
     pub(crate) seals: Seals,
 }
 

@@ -11,9 +11,13 @@ use wc_world::World;
 /// What rows act on: bytes, and those that have names, a graph, and a world.
 #[derive(Drop)]
 pub struct Stage {
+    /// The bytes that have names.
     pub names: Files,
+    /// The bytes.
     pub bytes: Parts,
+    /// The graph.
     pub graph: Graph,
+    /// The world.
     pub world: World,
 }
 

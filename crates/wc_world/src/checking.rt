@@ -34,6 +34,7 @@ fn has_number(draft: &Draft) -> bool
 /// Whether a data node may be made.
 pub(crate) fn check_data(draft: &Draft, value: &Value) -> Result<(), WorldError>
     ensures ok { OnOk result ((s : Setting) → Fits s (drafted draft.now) (change.Data value.now)) }
+    ensures number { OnOk result (HasNumber (drafted draft.now)) }
     ensures refused { IfErr result (λ e. (s : Setting) → Refuses s (drafted draft.now) (change.Data value.now) e) }
 {
     if !has_number(draft) {
@@ -49,6 +50,7 @@ pub(crate) fn check_data(draft: &Draft, value: &Value) -> Result<(), WorldError>
 /// Whether a process may be made.
 pub(crate) fn check_process(draft: &Draft, process: &NewProcess) -> Result<(), WorldError>
     ensures ok { OnOk result ((s : Setting) → Fits s (drafted draft.now) (change.Process process.now)) }
+    ensures number { OnOk result (HasNumber (drafted draft.now)) }
     ensures refused { IfErr result (λ e. (s : Setting) → Refuses s (drafted draft.now) (change.Process process.now) e) }
 {
     if !has_number(draft) {

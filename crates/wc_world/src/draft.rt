@@ -1,6 +1,6 @@
 //! A world on its way through one batch.
 
-ghost use Rattle.std.specs.Prelude.{◌≡◌, ℕ, ◌++◌, ◌⊎◌, OnOk, IfErr};
+ghost use Rattle.std.specs.Prelude.{◌≡◌, ℕ, [], ◌∷◌, ◌++◌, ◌<◌, ◌⊎◌, length, OnOk, IfErr};
 ghost use Rattle.wc_world.specs.declared.change.Change.TheVariants as change;
 ghost use Rattle.wc_world.specs.declared.error.WorldError.TheVariants as error;
 ghost use Rattle.wc_world.specs.Applied.{after_change};
@@ -16,7 +16,7 @@ use crate::checking::{
 use crate::error::WorldError;
 use crate::terms::Terms;
 use crate::world::Libraries;
-use std::alloc::Global;
+use std::alloc::{AllocError, Global};
 use wc_fits::{call_fits, node_of_kind};
 use wc_graph::{Graph, GraphError, Link, NodeKind, is_call};
 use wc_records::{Kept, NewProcess, Records, SetProcess};
@@ -38,6 +38,19 @@ pub(crate) struct Draft {
     pub touched: Vec<u32>,
 }
 
+/// Puts a node at the end, where there is a number for it.
+fn add_node(graph: &mut Graph, kind: NodeKind) -> Result<(), AllocError>
+    requires { length graph.old.nodes < 8000000 }
+    ensures nodes { OnOk result (graph.new.nodes ≡ graph.old.nodes ++ kind ∷ []) }
+    ensures links { graph.new.links ≡ graph.old.links }
+{
+    match graph.add_node(kind) {
+        Ok(_) => Ok(()),
+        Err(GraphError::OutOfMemory) => Err(AllocError),
+        Err(_) => unreachable!(),
+    }
+}
+
 impl Draft {
     fn take_library(&mut self, library: Checked, names: Words) -> Result<(), WorldError>
         ensures fits { OnOk result ((s : Setting) → Fits s (drafted self.old) (change.Library library names)) }
@@ -57,10 +70,8 @@ impl Draft {
         ensures refused { IfErr result (λ e. (e ≡ error.OutOfMemory) ⊎ ((s : Setting) → Refuses s (drafted self.old) (change.Data value) e)) }
     {
         check_data(self, &value)?;
-        match self.graph.add_node(NodeKind::Data(value)) {
-            Ok(_) => Ok(()),
-            Err(_) => Err(WorldError::OutOfMemory),
-        }
+        add_node(&mut self.graph, NodeKind::Data(value))?;
+        Ok(())
     }
 
     fn take_process(&mut self, process: NewProcess) -> Result<(), WorldError>
@@ -74,13 +85,9 @@ impl Draft {
         let number = self.graph.nodes().len() as u32 + 1;
         self.touched.push(number)?;
         self.records.reserve(1)?;
-        match self.graph.add_node(node_of_kind(process.kind)) {
-            Ok(_) => {
-                self.records.push(number, process);
-                Ok(())
-            }
-            Err(_) => Err(WorldError::OutOfMemory),
-        }
+        add_node(&mut self.graph, node_of_kind(process.kind))?;
+        self.records.push(number, process);
+        Ok(())
     }
 
     fn take_link(&mut self, link: Link) -> Result<(), WorldError>

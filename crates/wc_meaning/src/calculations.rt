@@ -11,13 +11,14 @@ use wc_semantics::{Parsed, calculate, parse_result};
 use wc_syntax::{Checked, Definition};
 use wc_value::{Fields, JobResult, Text};
 
-/// What a definition's rules give, where it has rules for this.
+/// What the rules of a function give, or those of a job's `parse` part with its result.
 fn run_rules(
     alloc: Global,
     definition: Option<&Definition>,
     inputs: &Fields,
     job: Option<&JobResult>,
 ) -> Result<Parsed, AllocError>
+    requires { IsSome (ran (option_copied definition) inputs.now (option_copied job)) }
     ensures { IfOk result (λ p. ran (option_copied definition.entry) inputs.now (option_copied job.entry) ≡ Some p) }
 {
     match (definition, job) {
@@ -25,7 +26,7 @@ fn run_rules(
         (Some(Definition::Job(calculation)), Some(given)) => {
             parse_result(alloc, calculation, inputs, given)
         }
-        _ => Err(AllocError),
+        _ => unreachable!(),
     }
 }
 

@@ -9,24 +9,32 @@ use wc_parser::parse;
 use wc_report::tree_lines;
 use wc_semantics::{Kills, Replayed};
 use wc_syntax::Checked;
-use wc_value::{Fields, Rows, Table, Text, Tree, Words, both};
+use wc_value::{Fields, Rows, Table, TableError, Text, Tree, Words, both};
 
 /// The first word of a text, and what stands behind the space that ends it.
 fn first_word(text: &str) -> (&str, &str) {
     text.split_once(' ').unwrap_or((text, ""))
 }
 
-/// The checked library of a file.
-fn checked_of(alloc: Global, file: &Text) -> Result<Checked, AllocError> {
+/// The checked library of a file. Of one that is refused it puts why.
+fn checked_of(alloc: Global, shown: &mut Shown, file: &Text) -> Option<Checked> {
     match parse(alloc, file) {
-        Ok(library) => check(alloc, library).map_err(|_| AllocError),
-        Err(_) => Err(AllocError),
+        Ok(library) => match check(alloc, library) {
+            Ok(checked) => return Some(checked),
+            Err(error) => shown.put_item(&error),
+        },
+        Err(error) => shown.put_item(&error),
     }
+    None
 }
 
 /// A table with no row.
 fn empty_table(alloc: Global) -> Result<Table, AllocError> {
-    Table::new(alloc, Rows::new(alloc)).map_err(|_| AllocError)
+    match Table::new(alloc, Rows::new(alloc)) {
+        Ok(table) => Ok(table),
+        Err(TableError::OutOfMemory) => Err(AllocError),
+        Err(TableError::Twice(_)) => unreachable!(),
+    }
 }
 
 /// The path of the root, or of the process that it called under a label.
@@ -135,15 +143,17 @@ fn put_asked(
     put_answer(alloc, shown, library, question)
 }
 
-/// Puts what words ask of a file's library.
+/// Puts what words ask of a file's library, or why the file is refused.
 fn put_of_file(
     alloc: Global,
     shown: &mut Shown,
     words: &str,
     file: &Text,
 ) -> Result<(), AllocError> {
-    let library = checked_of(alloc, file)?;
-    put_asked(alloc, shown, &library, words)
+    match checked_of(alloc, shown, file) {
+        Some(library) => put_asked(alloc, shown, &library, words),
+        None => Ok(()),
+    }
 }
 
 /// Puts what the first line of a text asks of the library of the file below it.

@@ -1,6 +1,8 @@
 //! A process and all that it called end as killed.
 
-ghost use Rattle.std.specs.Prelude.{◌≡◌, ◌++◌, Some, IfOk, OnOk};
+ghost use Rattle.std.specs.Prelude.{◌≡◌, ◌++◌, Some, IfOk, OnOk, slice_get};
+ghost use Rattle.std.specs.Option.{option_map};
+ghost use Rattle.wc_world.specs.Linked.{call_in};
 ghost use Rattle.wc_world.specs.Records.{calls, find_record, is_call_from};
 ghost use Rattle.wc_machine.specs.Killing.{ends_killed, kill_below, kill_changes, killed};
 
@@ -8,6 +10,7 @@ use crate::fuel::fuel_after;
 use std::alloc::{AllocError, Global};
 use wc_graph::{Link, LinkType};
 use wc_state::{Part, ProcessRecord};
+use wc_trees::places_from;
 use wc_value::ProcessState;
 use wc_world::{Change, Changes, SetProcess, World, has_ended};
 
@@ -29,6 +32,22 @@ fn is_call_from(pid: u32, link: &Link) -> bool
     ensures { result ≡ is_call_from pid link.now }
 {
     calls(link.link) && link.source == pid
+}
+
+/// The number of the process that the link at a place calls, where it is a call from this one.
+fn called_at(world: &World, pid: u32, place: usize) -> Option<u32>
+    ensures { result ≡ option_map (λ l. l.target) (call_in pid (slice_get world.now.world.links place)) }
+{
+    match world.graph().links().get(place) {
+        Some(link) => {
+            if is_call_from(pid, link) {
+                Some(link.target)
+            } else {
+                None
+            }
+        }
+        None => None,
+    }
 }
 
 /// The process ends as killed with this fuel.
@@ -58,11 +77,17 @@ fn put_end(changes: &mut Changes, world: &World, process: &ProcessRecord) -> Res
 
 /// Puts the kill of the process with this number behind the changes, if it is there.
 #[cycle(kill)]
-fn put_called(changes: &mut Changes, world: &World, pid: u32, levels: u32) -> Result<(), AllocError>
+fn put_called(
+    alloc: Global,
+    changes: &mut Changes,
+    world: &World,
+    pid: u32,
+    levels: u32,
+) -> Result<(), AllocError>
     ensures { OnOk result (changes.new ≡ changes.old ++ kill_below levels world.now.world (find_record pid world.now.world.records)) }
 {
     match world.record_of(pid) {
-        Some(process) => put_kill(changes, world, process, levels),
+        Some(process) => put_kill(alloc, changes, world, process, levels),
         None => Ok(()),
     }
 }
@@ -70,6 +95,7 @@ fn put_called(changes: &mut Changes, world: &World, pid: u32, levels: u32) -> Re
 /// Puts the kill of a process behind the changes: what it called, in order, and then the process itself.
 #[cycle(kill)]
 fn put_kill(
+    alloc: Global,
     changes: &mut Changes,
     world: &World,
     process: &ProcessRecord,
@@ -80,10 +106,12 @@ fn put_kill(
     if levels == 0 {
         return put_end(changes, world, process);
     }
-    for link in world.graph().links().as_slice() {
-        if is_call_from(process.node, link) {
-            put_called(changes, world, link.target, levels - 1)?;
-        }
+    let mut places = places_from(alloc, world.graph(), process.node)?;
+    while let Some(place) = places.pop() {
+        let Some(pid) = called_at(world, process.node, place) else {
+            continue;
+        };
+        put_called(alloc, changes, world, pid, levels - 1)?;
     }
     put_end(changes, world, process)
 }
@@ -93,6 +121,6 @@ pub fn kill(alloc: Global, world: &World, process: &ProcessRecord) -> Result<Cha
     ensures { IfOk result (λ cs. cs ≡ kill_changes world.now.world process.now) }
 {
     let mut changes = Changes::new(alloc);
-    put_kill(&mut changes, world, process, LEVELS)?;
+    put_kill(alloc, &mut changes, world, process, LEVELS)?;
     Ok(changes)
 }

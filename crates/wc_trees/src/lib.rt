@@ -1,4 +1,4 @@
-//! What a world records of a process: its tree, and its environment.
+//! What a world records of a process: its tree, and its environment; and where the links from it stand.
 #![tactic(auto)]
 
 mod environments;
@@ -9,4 +9,5 @@ mod trees;
 
 pub use environments::env_of;
 pub use laws::{inputs_are_linked, outputs_are_linked, recorded_trees_unfold};
+pub use linked::places_from;
 pub use trees::tree_of;

@@ -25,7 +25,7 @@ pub(crate) fn places_into(alloc: Global, graph: &Graph, pid: u32) -> Result<Vec<
 
 /// The places of the links that leave a process, the last first.
 #[tactic(auto, using(crate::proofs::Linking::from_first, crate::proofs::Linking::from_next))]
-pub(crate) fn places_from(alloc: Global, graph: &Graph, pid: u32) -> Result<Vec<usize>, AllocError>
+pub fn places_from(alloc: Global, graph: &Graph, pid: u32) -> Result<Vec<usize>, AllocError>
     ensures { IfOk result (λ places. of_node source_of pid (upwards graph.now.links places.items []) ≡ of_node source_of pid graph.now.links) }
 {
     let mut places = Vec::new(alloc);

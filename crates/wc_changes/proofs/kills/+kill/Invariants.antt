@@ -1,5 +1,6 @@
-use Rattle.std.proofs.Common.{◌≡◌, ◌+◌, ◌-◌, ◌*◌, ◌++◌, drop}
+use Rattle.std.proofs.Common.{◌≡◌, ◌+◌, ◌-◌, ◌*◌, ◌++◌, [], vec_len}
 use Rattle.std.specs.Prelude.{flat_map}
+use Rattle.wc_world.specs.Linked.{upwards}
 use Rattle.wc_changes.proofs.Parts.{kill_over}
 use Rattle.wc_changes.proofs.kills.+kill.Given as goal
 
@@ -9,7 +10,10 @@ decreases-put_kill l = 2 * l.levels
 abbrev pub decreases-put_called : goal.decreases-put_called
 decreases-put_called l = 2 * l.levels + 1
 
-abbrev pub invariant-put_kill-loop-link : goal.invariant-put_kill-loop-link
-invariant-put_kill-loop-link l =
-    l.changes ++ flat_map (kill_over (l.levels - 1) l.world.world l.process.node) (drop l.link-index l.link-items)
-    ≡ l.fn.changes ++ flat_map (kill_over (l.levels - 1) l.world.world l.process.node) l.link-items
+abbrev pub invariant-put_kill-loop-place : goal.invariant-put_kill-loop-place
+invariant-put_kill-loop-place l =
+    l.changes ++ flat_map (kill_over (l.levels - 1) l.world.world l.process.node) (upwards l.world.world.links l.places.items [])
+    ≡ l.fn.changes ++ flat_map (kill_over (l.levels - 1) l.world.world l.process.node) l.world.world.links
+
+abbrev pub decreases-put_kill-loop-place : goal.decreases-put_kill-loop-place
+decreases-put_kill-loop-place l = vec_len l.places

@@ -13,12 +13,19 @@ use Rattle.wc_store.specs.declared.error.StoreError.{StoreError}
 use Rattle.wc_store.specs.declared.error.StoreError.TheVariants.{DiskFault, Damaged, Full, AlreadyThere, OutOfMemory}
 use Rattle.wc_store.specs.Refusals.{RefusesLook, CountsOne, IsUnchanged, is_live_after}
 
+-- what is written is refused for no damage
+abbrev pub IsOfWriting : JournalError → Type 0
+IsOfWriting journal_error.DiskFault = Unit {0}
+IsOfWriting (journal_error.Damaged at found) = ⊥
+IsOfWriting (journal_error.Full count limit) = Unit {0}
+IsOfWriting journal_error.OutOfMemory = Unit {0}
+
 -- a journal's refusal of what is written, as a store tells it
-abbrev pub refusal_of : JournalError → StoreError
-refusal_of journal_error.DiskFault = DiskFault
-refusal_of (journal_error.Damaged at found) = OutOfMemory
-refusal_of (journal_error.Full count limit) = Full what.Bytes count limit
-refusal_of journal_error.OutOfMemory = OutOfMemory
+abbrev pub IsToldAs : JournalError → StoreError → Type 0
+IsToldAs journal_error.DiskFault told = told ≡ DiskFault
+IsToldAs (journal_error.Damaged at found) told = ⊥
+IsToldAs (journal_error.Full count limit) told = told ≡ Full what.Bytes count limit
+IsToldAs journal_error.OutOfMemory told = told ≡ OutOfMemory
 
 -- the journal would be longer than the limit; only else may the disk have failed
 abbrev pub RefusesLength : ℕ → ℕ → StoreError → Type 0

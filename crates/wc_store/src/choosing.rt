@@ -67,7 +67,8 @@ fn look<D: Disk>(alloc: Global, disk: &mut D) -> Result<Seen, StoreError>
         Ok(Some(loaded)) => Ok(Seen::Holding(loaded)),
         Err(JournalError::Damaged(at, found)) => Ok(damage_seen(at, found)),
         Err(JournalError::DiskFault) => Err(StoreError::DiskFault),
-        Err(_) => Err(StoreError::OutOfMemory),
+        Err(JournalError::OutOfMemory) => Err(StoreError::OutOfMemory),
+        Err(JournalError::Full(..)) => unreachable!(),
     }
 }
 

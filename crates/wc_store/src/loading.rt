@@ -5,7 +5,7 @@ ghost use Rattle.wc_journal.specs.Reading.{is_snapshot_place};
 ghost use Rattle.wc_record.specs.Reading.{whole};
 ghost use Rattle.wc_world.specs.Applied.{applied};
 ghost use Rattle.wc_world.specs.Accepted.{IsAccepted, is_in_order};
-ghost use Rattle.wc_store.specs.Held.{place_of, is_plain, suits};
+ghost use Rattle.wc_store.specs.Held.{is_plain, suits};
 ghost use Rattle.wc_store.specs.Played.{RefusesReading, RefusesChanges, RefusesPayload, IsPlayed, stop_of, AreCounted, Makes, RefusesBatches, RefusesPlaying};
 ghost use Rattle.wc_store.specs.Refusals.{CountsOne};
 
@@ -77,22 +77,6 @@ fn suits(snapshot: bool, changes: &[Change]) -> bool
     }
 }
 
-/// The byte that a refusal names.
-fn place_of(error: RecordError) -> usize
-    ensures { result ≡ place_of error }
-{
-    match error {
-        RecordError::OutOfMemory => 0,
-        RecordError::Truncated(at)
-        | RecordError::BadTag(at)
-        | RecordError::NotUtf8(at)
-        | RecordError::Unsorted(at)
-        | RecordError::TooDeep(at)
-        | RecordError::Trailing(at)
-        | RecordError::BadLibrary(at) => at,
-    }
-}
-
 /// Reads a payload.
 fn changes_of(alloc: Global, payload: &[u8], last: &mut LastLibrary) -> Result<Changes, Unplayed>
     ensures ok { IfOk result (λ changes. whole payload.now (Ok changes)) }
@@ -101,7 +85,15 @@ fn changes_of(alloc: Global, payload: &[u8], last: &mut LastLibrary) -> Result<C
     match read_changes(alloc, payload, last) {
         Ok(changes) => Ok(changes),
         Err(RecordError::OutOfMemory) => Err(Unplayed::OutOfMemory),
-        Err(error) => Err(Unplayed::Unread(place_of(error))),
+        Err(
+            RecordError::Truncated(at)
+            | RecordError::BadTag(at)
+            | RecordError::NotUtf8(at)
+            | RecordError::Unsorted(at)
+            | RecordError::TooDeep(at)
+            | RecordError::Trailing(at)
+            | RecordError::BadLibrary(at),
+        ) => Err(Unplayed::Unread(at)),
     }
 }
 

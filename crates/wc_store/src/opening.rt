@@ -19,7 +19,7 @@ use crate::place::Place;
 use crate::store::Store;
 use std::alloc::Global;
 use wc_disk::Disk;
-use wc_journal::{Batches, Journal};
+use wc_journal::{Batches, Journal, JournalError};
 use wc_world::World;
 
 /// The world that the batches make of the empty one, which the disk at the place has.
@@ -102,7 +102,8 @@ impl Store {
             return Err(StoreError::AlreadyThere);
         }
         match Journal::create(one, 1) {
-            Err(_) => Err(StoreError::DiskFault),
+            Err(JournalError::DiskFault) => Err(StoreError::DiskFault),
+            Err(_) => unreachable!(),
             Ok(journal) => Ok(Store {
                 world: World::new(alloc),
                 journal,

@@ -5,7 +5,7 @@ ghost use Rattle.wc_journal.specs.Reading.{journal_of, batches_of, is_snapshot_p
 ghost use Rattle.wc_journal.specs.Batches.{payload_of};
 ghost use Rattle.wc_journal.specs.Journals.{IsSettled};
 ghost use Rattle.wc_store.specs.Places.{its};
-ghost use Rattle.wc_store.specs.Placing.{refusal_of, Appends, Replaces};
+ghost use Rattle.wc_store.specs.Placing.{IsOfWriting, IsToldAs, Appends, Replaces};
 ghost use Rattle.wc_store.specs.Stores.{other};
 
 use crate::error::StoreError;
@@ -15,15 +15,16 @@ use wc_disk::Disk;
 use wc_journal::{Batch, Journal, JournalError};
 use wc_state::What;
 
-/// A journal's refusal of what is written.
-pub fn refusal_of(error: JournalError) -> StoreError
-    ensures { result ≡ refusal_of error }
+/// A journal's refusal of what is written, which is never damage.
+fn refusal_of(error: JournalError) -> StoreError
+    requires { IsOfWriting error }
+    ensures { IsToldAs error result }
 {
     match error {
         JournalError::DiskFault => StoreError::DiskFault,
         JournalError::Full(count, limit) => StoreError::Full(What::Bytes, count, limit),
-        JournalError::Damaged(_, _) => StoreError::OutOfMemory,
         JournalError::OutOfMemory => StoreError::OutOfMemory,
+        JournalError::Damaged(..) => unreachable!(),
     }
 }
 

@@ -9,7 +9,6 @@ ghost use Rattle.wc_store.specs.Refusals.{byte_limit};
 ghost use Rattle.wc_store.specs.Preparing.{IsBatchOf, RefusesChanges, RefusesSnapshot, HasGeneration};
 
 use crate::error::StoreError;
-use crate::placing::refusal_of;
 use std::alloc::Global;
 use wc_journal::{Batch, Journal, JournalError};
 use wc_record::{write_changes, write_snapshot};
@@ -82,7 +81,8 @@ fn batch_of(
             let count = journal.size_with(payload.bytes());
             Err(StoreError::Full(What::Bytes, count, byte_limit(version, limits.max_bytes)))
         }
-        Err(_) => Err(StoreError::OutOfMemory),
+        Err(JournalError::OutOfMemory) => Err(StoreError::OutOfMemory),
+        Err(JournalError::DiskFault | JournalError::Damaged(..)) => unreachable!(),
     }
 }
 
@@ -121,6 +121,8 @@ pub fn snapshot_batch(alloc: Global, world: &World, generation: u64) -> Result<B
     let payload = write_snapshot(alloc, world)?;
     match Batch::of(alloc, 2, true, payload.bytes()) {
         Ok(batch) => Ok(batch),
-        Err(error) => Err(refusal_of(error)),
+        Err(JournalError::Full(count, limit)) => Err(StoreError::Full(What::Bytes, count, limit)),
+        Err(JournalError::OutOfMemory) => Err(StoreError::OutOfMemory),
+        Err(JournalError::DiskFault | JournalError::Damaged(..)) => unreachable!(),
     }
 }

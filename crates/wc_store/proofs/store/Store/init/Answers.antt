@@ -24,9 +24,9 @@ returns-in-Ok-clause-parts g c =
     made_parts g.D.Disk g.met.D.Disk.only_now c.in_ok-open.field-0 c.args.one.now c.args.two.now c.open.new.one c.open.new.two c.create.new.disk
     (sym c.if-is_some.ensures) (opened.ok told_one told_two) opened.seen_one opened.seen_two opened.any_moment_one opened.any_moment_two opened.durable_two (c.in-Ok.ensures.any_moment (c.open.ensures.tells_one ∙ told_one))
 
-pub returns-in-Err-clause-parts : goal.returns-in-Err-clause-parts
-returns-in-Err-clause-parts g c =
+pub returns-in-Err-DiskFault-clause-parts : goal.returns-in-Err-DiskFault-clause-parts
+returns-in-Err-DiskFault-clause-parts g c =
     λ told_one told_two.
     let opened = c.in_ok-open.ensures in
     inr (made_parts g.D.Disk g.met.D.Disk.only_now c.in_ok-open.field-0 c.args.one.now c.args.two.now c.open.new.one c.open.new.two c.create.new.disk
-    (sym c.if-is_some.ensures) (opened.ok told_one told_two) opened.seen_one opened.seen_two opened.any_moment_one opened.any_moment_two opened.durable_two (c.in-Err.ensures.any_moment (c.open.ensures.tells_one ∙ told_one)))
+    (sym c.if-is_some.ensures) (opened.ok told_one told_two) opened.seen_one opened.seen_two opened.any_moment_one opened.any_moment_two opened.durable_two (c.in-Err-DiskFault.ensures.any_moment (c.open.ensures.tells_one ∙ told_one)))

@@ -92,6 +92,7 @@ module _ {D : Type 0} (g : disk.Ghosts D) where
         generation = tt;
         settled = tt;
         held = tt;
+        written = tt;
         any_moment = moment;
         refused = reading_as e s told refused;
         untouched = replace_untouched T Journal old new e s told refused untouched;

@@ -1,5 +1,5 @@
 -- What the calls of a journal leave at one of the two disks of a store.
-use Rattle.std.specs.Prelude.{◌≡◌, ◌+◌, ◌-◌, ◌^◌, ◌<◌, ◌≤◌, ℕ, true, List, [], ◌∷◌, min, Result, IsTrue, IfOk, IfErr, OnOk, OnErr}
+use Rattle.std.specs.Prelude.{◌≡◌, ◌+◌, ◌-◌, ◌^◌, ◌<◌, ◌≤◌, ◌++◌, ℕ, true, List, [], ◌∷◌, min, Result, IsTrue, IfOk, IfErr, OnOk, OnErr}
 use Rattle.wc_disk.specs.declared.disk.Disk as disk
 use Rattle.wc_disk.specs.Images.{LeavesOnly}
 use Rattle.wc_journal.specs.declared.error.JournalError.{JournalError}
@@ -8,6 +8,7 @@ use Rattle.wc_journal.specs.declared.journal.Journal.{Journal}
 use Rattle.wc_journal.specs.Reading.{holds, journal_of}
 use Rattle.wc_journal.specs.Journals.{IsSettled, with_batch, HoldsEither, IsReplaced}
 use Rattle.wc_journal.specs.Refusals.{size_after}
+use Rattle.wc_journal.specs.Spelled.{spelled}
 use Rattle.wc_state.specs.declared.record.What.TheVariants as what
 use Rattle.wc_store.specs.declared.error.StoreError.{StoreError}
 use Rattle.wc_store.specs.declared.error.StoreError.TheVariants.{DiskFault, Damaged, Full, AlreadyThere, OutOfMemory}
@@ -54,12 +55,13 @@ pub record Appends {D T : Type 0} (g : disk.Ghosts D) (payload : List ℕ) (limi
   pub tells : g.tells new ≡ g.tells old
   pub cause : CountsOne result (g.faults old) (g.faults new)
 
--- The disk holds a journal of this generation with this snapshot, or a crash leaves what was there, no journal, or that one.
+-- The disk has the bytes of a journal of this generation with this snapshot and none behind them, or a crash leaves what was there, no journal, or that one.
 pub record Replaces {D : Type 0} (g : disk.Ghosts D) (number : ℕ) (payload : List ℕ) (old new : D) (result : Result Journal StoreError) : Type 0 where
   pub version : IfOk result (λ journal. journal.version ≡ 2)
   pub generation : IfOk result (λ journal. journal.generation ≡ number)
   pub settled : IfOk result (λ journal. IsTrue (g.tells old) → IsSettled g journal new)
   pub held : OnOk result (IsTrue (g.tells old) → journal_of (g.seen new) ≡ holds 2 number ((26, payload) ∷ []))
+  pub written : OnOk result (IsTrue (g.tells old) → g.seen new ≡ spelled 2 number (payload ∷ []) ++ 0 ∷ [])
   pub any_moment : IsTrue (g.tells old) → LeavesOnly g old new (IsReplaced (g.seen old) (holds 2 number ((26, payload) ∷ [])))
   pub refused : IfErr result RefusesLook
   pub untouched : IsUnchanged result old new

@@ -1,11 +1,13 @@
 -- When a store stands for two disks, and what its calls leave on them.
-use Rattle.std.specs.Prelude.{◌≡◌, ◌≤◌, ◌+◌, ◌⊎◌, ℕ, List, [], Option, Some, None, Result, Ok, Err}
+use Rattle.std.specs.Prelude.{◌≡◌, ◌≤◌, ◌+◌, ◌⊎◌, ◌++◌, ℕ, List, [], ◌∷◌, Option, Some, None, Result, Ok, Err}
 use Rattle.wc_disk.specs.declared.disk.Disk as disk
 use Rattle.wc_disk.specs.Steps.{Only}
 use Rattle.wc_disk.specs.Images.{LeavesOnly}
 use Rattle.wc_journal.specs.declared.journal.Journal.{Journal}
 use Rattle.wc_journal.specs.Reading.{Placed, no_journal, holds, journal_of, batches_of, end_of}
 use Rattle.wc_journal.specs.Journals.{IsSettled}
+use Rattle.wc_journal.specs.Spelled as journal
+use Rattle.wc_record.specs.Spelled.{spelled}
 use Rattle.wc_store.specs.declared.error.StoreError.{StoreError}
 use Rattle.wc_store.specs.declared.error.StoreError.TheVariants.{DiskFault, Damaged, Full, AlreadyThere, OutOfMemory}
 use Rattle.wc_store.specs.declared.store.Store.{Store}
@@ -14,6 +16,7 @@ use Rattle.wc_store.specs.declared.place.Place.TheVariants as place
 use Rattle.wc_state.specs.declared.record.Limits.{Limits}
 use Rattle.wc_world.specs.World.{World, empty}
 use Rattle.wc_world.specs.Applied.{applied}
+use Rattle.wc_world.specs.Snapshot.{snapshot}
 use Rattle.wc_world.specs.declared.change.Change.{Change}
 use Rattle.wc_store.specs.Places.{number_of, its}
 use Rattle.wc_store.specs.Choosing.{Choice, on, chosen}
@@ -74,6 +77,10 @@ pub record PackLeaves {D : Type 0} (g : disk.Ghosts D) (place : Place) (world : 
   pub untouched : its place one_new two_new ≡ its place one two
   pub each : LeavesOnly g (other place one two) (other place one_new two_new)
       (λ image. HoldsAs place (g.seen (its place one two)) image (a_world world))
+
+-- the bytes of a disk that was packed: a journal of this generation with the world's snapshot alone, a gate that is not open, and nothing behind it
+abbrev pub packed_image : ℕ → World → List ℕ
+packed_image generation world = journal.spelled 2 generation (spelled (snapshot world) ∷ []) ++ 0 ∷ []
 
 -- an image that `init` makes on disk one: no journal, or the empty one of generation 1
 abbrev pub IsMade : List ℕ → Type 0

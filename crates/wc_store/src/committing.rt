@@ -8,7 +8,7 @@ ghost use Rattle.wc_world.specs.Snapshot.{snapshot};
 ghost use Rattle.wc_store.specs.Places.{number_of, opposite};
 ghost use Rattle.wc_store.specs.Held.{is_plain};
 ghost use Rattle.wc_store.specs.Preparing.{HasGeneration};
-ghost use Rattle.wc_store.specs.Stores.{StandsFor, CommitLeaves, PackLeaves, other};
+ghost use Rattle.wc_store.specs.Stores.{StandsFor, CommitLeaves, PackLeaves, packed_image, other};
 ghost use Rattle.wc_state.specs.Ranges.{AreLimits};
 ghost use Rattle.wc_store.specs.Refusals.{Counts, RefusesCommit, RefusesPack, IsUnchanged, is_live_after, byte_limit, committed_bytes};
 
@@ -92,6 +92,8 @@ impl Store {
         ensures written { OnOk result (IsTrue (D.tells one.old) → IsTrue (D.tells two.old)
             → journal_of (D.seen (other self.old.place one.new two.new))
             ≡ holds 2 (self.old.journal.generation + 1) ((26, spelled (snapshot self.old.world.world)) ∷ [])) }
+        ensures image { OnOk result (IsTrue (D.tells one.old) → IsTrue (D.tells two.old)
+            → D.seen (other self.old.place one.new two.new) ≡ packed_image (self.old.journal.generation + 1) self.old.world.world) }
         ensures live { self.new.live ≡ is_live_after result true }
         ensures refused { IfErr result (RefusesPack self.old.journal.generation self.old.world.world) }
         ensures fits { OnOk result (HasGeneration self.old.journal.generation self.old.world.world) }

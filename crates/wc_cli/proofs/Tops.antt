@@ -7,7 +7,8 @@ use Rattle.clap.specs.Walk.{Names, idle, Walk, walked, walk, walk_from, with_def
 use Rattle.clap.specs.Simple.{new_shape, label_of, names_of, entered}
 use Rattle.clap.specs.Faults.{settle_fault, turn_fault, walk_fault, level_fault, defaults_fault, check_fault, built_fault, entered_fault}
 use Rattle.clap.specs.Kinds.{Kinds, or_else}
-use Rattle.wc_cli.specs.Words.{Line, line_of, options_of, operands_alone}
+use Rattle.wc_cli.specs.Table.{options_of}
+use Rattle.wc_cli.specs.Words.{Line, line_of, operands_alone}
 use Rattle.wc_cli.specs.Line as set
 use Rattle.wc_cli.proofs.Lines.{read_whole}
 use Rattle.wc_cli.proofs.Rows.{known, same_text, turned}

@@ -1,19 +1,19 @@
 -- What `clap` reads of words is the command that they are.
-use Rattle.std.proofs.Common.{◌≡◌, ◌∙◌, ◌⊎◌, ℕ, Bool, true, false, ◌||◌, List, [], ◌∷◌, Option, Some, None, if◌then◌else◌, refl, sym, ap, subst, codes, true≢false, inl, inr}
-use Rattle.std.specs.Prelude.{find, fold, option_map, option_and_then, slice_get}
-use Rattle.std.specs.Bool.{⊤}
+use Rattle.std.proofs.Common.{◌≡◌, ◌∙◌, ◌⊎◌, ℕ, Bool, true, false, not, ◌&&◌, ◌||◌, List, [], ◌∷◌, Option, Some, None, if◌then◌else◌, refl, sym, ap, subst, true≢false, inl, inr}
+use Rattle.std.specs.Prelude.{find, fold, map, option_map, option_and_then, slice_get}
+use Rattle.std.specs.List.{list_all}
 use Rattle.std.specs.Str.{bytes_eq, chars}
 use Rattle.clap.specs.Lexer.{long_of, short_of}
 use Rattle.clap.specs.Words.{App, Row, Text, fault_of, subcommand_of, is_simple, is_simple_and_free, all_of, first_of}
 use Rattle.clap.specs.Walk.{Walk, idle, answers_to, walked, walk, walk_from, nothing_held, rows_after}
-use Rattle.clap.specs.Simple.{built, entered, names_of}
+use Rattle.clap.specs.Simple.{argument_words, built, entered, names_of}
 use Rattle.clap.specs.Faults.{turn_fault, walk_fault, flags_fault, defaults_fault, built_fault}
 use Rattle.clap.specs.Kinds.{Kinds, or_else}
 use Rattle.clap.specs.declared.error.kind.ErrorKind.TheVariants as kind
-use Rattle.wc_cli.specs.declared.command.Command.{Command}
-use Rattle.wc_cli.specs.Words.{Line, Values, line_of, are_of, value_of, options_of, dry_of, check_of, submit_of, run_of, drill_of, alone, one_number, with_number, named_command, command_in, command_of}
-use Rattle.wc_cli.specs.declared.command.Command.TheVariants.{Init, View, Pack}
-use Rattle.wc_cli.specs.declared.command.View.TheVariants as view
+use Rattle.wc_cli.specs.declared.table.Form.{Form}
+use Rattle.wc_cli.specs.declared.table.Form.TheVariants as form
+use Rattle.wc_cli.specs.Table.{Entry, table, entry_among, form_of, option_names, options_among, options_of}
+use Rattle.wc_cli.specs.Words.{Line, Values, line_of, are_of, value_of, formed, named_command, command_in, command_of}
 use Rattle.wc_cli.specs.Line as set
 use Rattle.wc_cli.proofs.Rows.{known}
 use Rattle.wc_cli.proofs.Look.{Look, look}
@@ -24,44 +24,35 @@ use Rattle.wc_cli.proofs.Tops.{top, ready_app, names, fault_at, name_unknown, le
 -- ---- the command line as it is built
 
 abbrev commands : List Text
-commands = codes "dry" ∷ codes "submit" ∷ codes "run" ∷ codes "check" ∷ codes "init" ∷ codes "list" ∷ codes "tree" ∷ codes "show" ∷ codes "graph" ∷ codes "pause" ∷ codes "play" ∷ codes "kill"
-    ∷ codes "pack" ∷ codes "verify" ∷ codes "drill" ∷ []
+commands = map (λ e. e.word) table
 
 built_line : built set.line_app ≡ ready_app commands
+unfolding table
 built_line = refl
 
 pub simple : is_simple set.line_app ≡ true
+unfolding table
 simple = refl
 
 pub free : is_simple_and_free set.line_app ≡ true
+unfolding table
 free = refl
 
 -- ---- a word that is no command
 
-abbrev AreOther : Text → List Text → Type 0
-AreOther word [] = ⊤
-AreOther word (name ∷ names) = (bytes_eq word name ≡ false) × AreOther word names
-
-others : (word : Text) (names : List Text) → known names word ≡ false → AreOther word names
-others word [] k = tt
-others word (name ∷ names) k = go (bytes_eq word name) refl (others word names)
+no_entry : (entries : List Entry) (word : Text) → known (map (λ e. e.word) entries) word ≡ false → entry_among word entries ≡ None
+no_entry [] word k = refl
+no_entry (e ∷ es) word k = go (bytes_eq word e.word) refl (no_entry es word)
   where
-    go : (b : Bool) → bytes_eq word name ≡ b → (known names word ≡ false → AreOther word names) → (bytes_eq word name ≡ false) × AreOther word names
-    go true e more = absurd (true≢false (sym (ap (λ (x : Bool). x || known names word) e) ∙ k))
-    go false e more = (e, more (sym (ap (λ (x : Bool). x || known names word) e) ∙ k))
+    words : List Text
+    words = map (λ x. x.word) es
+
+    go : (b : Bool) → bytes_eq word e.word ≡ b → (known words word ≡ false → entry_among word es ≡ None) → entry_among word (e ∷ es) ≡ None
+    go true is more = absurd (true≢false (sym (ap (λ (x : Bool). x || known words word) is) ∙ k))
+    go false is more = rw is (more (sym (ap (λ (x : Bool). x || known words word) is) ∙ k))
 
 unknown_command : (word : Text) (operands : List Text) (value : Values) → known commands word ≡ false → named_command word operands value ≡ None
-unknown_command word operands value k =
-    let a : AreOther word commands = others word commands k in
-    rw (a.0, a.1.1.1.0, a.1.0, a.1.1.0, a.1.1.1.1.0, a.1.1.1.1.1.0, a.1.1.1.1.1.1.1.1.0, a.1.1.1.1.1.1.1.1.1.1.1.1.0, a.1.1.1.1.1.1.1.1.1.1.1.1.1.0, a.1.1.1.1.1.1.1.1.1.1.1.1.1.1.0)
-    (go (one_number operands) (bytes_eq word (codes "tree")) (bytes_eq word (codes "show")) (bytes_eq word (codes "pause")) (bytes_eq word (codes "play")) (bytes_eq word (codes "kill"))
-    a.1.1.1.1.1.1.0 a.1.1.1.1.1.1.1.0 a.1.1.1.1.1.1.1.1.1.0 a.1.1.1.1.1.1.1.1.1.1.0 a.1.1.1.1.1.1.1.1.1.1.1.0)
-  where
-    go : (o : Option ℕ) (t s p q r : Bool) → t ≡ false → s ≡ false → p ≡ false → q ≡ false → r ≡ false
-        → option_and_then (λ (n : ℕ). if t then Some (View (view.Tree n)) else if s then Some (View (view.Show n)) else if p then Some (Rattle.wc_cli.specs.declared.command.Command.TheVariants.Pause n)
-        else if q then Some (Rattle.wc_cli.specs.declared.command.Command.TheVariants.Play n) else if r then Some (Rattle.wc_cli.specs.declared.command.Command.TheVariants.Kill n) else None) o ≡ None
-    go None t s p q r e f g h i = refl
-    go (Some n) t s p q r e f g h i = rw (e, f, g, h, i) refl
+unknown_command word operands value k = rw (no_entry table word k) refl
 
 no_command : (word : Text) (ws : List Text) → known commands word ≡ false → command_of (word ∷ ws) ≡ None
 no_command word ws k = go (line_of ws)
@@ -150,40 +141,39 @@ only_value (Some v) = refl
 value_is : (rows : List Row) (l : Line) (n : Text) → Says rows l → bytes_eq set.operand_id n ≡ false → set.values_in rows n ≡ value_of n l.options
 value_is rows l n says apart = first_is n rows ∙ ap (option_and_then (λ vs. slice_get vs 0)) (says.1 n apart) ∙ only_value (value_of n l.options)
 
-dry_same : (operands : List Text) (f g : Values) → f (codes "inputs") ≡ g (codes "inputs") → f (codes "table") ≡ g (codes "table") → f (codes "fuel") ≡ g (codes "fuel") → dry_of operands f ≡ dry_of operands g
-dry_same [] f g e1 e2 e3 = refl
-dry_same (file ∷ []) f g e1 e2 e3 = refl
-dry_same (file ∷ name ∷ given) f g e1 e2 e3 = rw (e1, e2, e3) refl
+-- no option is called as the operands are, so a command asks for no value by this name
+abbrev masked : Values → Values
+masked f n = if bytes_eq set.operand_id n then None else f n
 
-submit_same : (operands : List Text) (f g : Values) → f (codes "inputs") ≡ g (codes "inputs") → f (codes "settings") ≡ g (codes "settings") → submit_of operands f ≡ submit_of operands g
-submit_same [] f g e1 e2 = refl
-submit_same (file ∷ []) f g e1 e2 = refl
-submit_same (file ∷ name ∷ given) f g e1 e2 = rw (e1, e2) refl
+formed_masked : (x : Form) (operands : List Text) (f : Values) → formed x operands f ≡ formed x operands (masked f)
+formed_masked form.Dry [] f = refl
+formed_masked form.Dry (file ∷ []) f = refl
+formed_masked form.Dry (file ∷ name ∷ given) f = refl
+formed_masked form.Check operands f = refl
+formed_masked form.Submit [] f = refl
+formed_masked form.Submit (file ∷ []) f = refl
+formed_masked form.Submit (file ∷ name ∷ given) f = refl
+formed_masked form.Run [] f = refl
+formed_masked form.Run (w ∷ ws) f = refl
+formed_masked (form.Alone which) operands f = refl
+formed_masked (form.Numbered which) operands f = refl
+formed_masked form.Drill operands f = refl
 
-run_same : (operands : List Text) (f g : Values) → f (codes "turns") ≡ g (codes "turns") → f (codes "seed") ≡ g (codes "seed") → f (codes "settings") ≡ g (codes "settings") → run_of operands f ≡ run_of operands g
-run_same [] f g e1 e2 e3 = rw (e1, e2, e3) refl
-run_same (w ∷ ws) f g e1 e2 e3 = refl
+masked_same : (f g : Values) → ((n : Text) → bytes_eq set.operand_id n ≡ false → f n ≡ g n) → masked f ≡ masked g
+masked_same f g is = λ i n. at n i
+  where
+    at : (n : Text) → masked f n ≡ masked g n
+    at n = go (bytes_eq set.operand_id n) refl
+      where
+        go : (b : Bool) → bytes_eq set.operand_id n ≡ b → (if b then None else f n) ≡ (if b then None else g n)
+        go true e = refl
+        go false e = is n e
 
-abbrev chosen : Text → List Text → Option Command → Option Command → Option Command → Option Command
-chosen word operands dry submit run =
-    if bytes_eq word (codes "dry") then dry
-    else if bytes_eq word (codes "check") then check_of operands
-    else if bytes_eq word (codes "submit") then submit
-    else if bytes_eq word (codes "run") then run
-    else if bytes_eq word (codes "init") then alone Init operands
-    else if bytes_eq word (codes "list") then alone (View view.List) operands
-    else if bytes_eq word (codes "graph") then alone (View view.Graph) operands
-    else if bytes_eq word (codes "pack") then alone Pack operands
-    else if bytes_eq word (codes "verify") then alone (View view.Verify) operands
-    else if bytes_eq word (codes "drill") then drill_of operands
-    else option_and_then (with_number word) (one_number operands)
+formed_same : (x : Form) (operands : List Text) (f g : Values) → ((n : Text) → bytes_eq set.operand_id n ≡ false → f n ≡ g n) → formed x operands f ≡ formed x operands g
+formed_same x operands f g is = formed_masked x operands f ∙ ap (formed x operands) (masked_same f g is) ∙ sym (formed_masked x operands g)
 
 named_same : (word : Text) (rows : List Row) (l : Line) → Says rows l → named_command word (set.operands_in rows) (set.values_in rows) ≡ named_command word l.operands (λ name. value_of name l.options)
-named_same word rows l says =
-    ap (λ (o : List Text). named_command word o f) says.0
-    ∙ ap (λ (d : Option Command). chosen word l.operands d (submit_of l.operands f) (run_of l.operands f)) (dry_same l.operands f g (is (codes "inputs") refl) (is (codes "table") refl) (is (codes "fuel") refl))
-    ∙ ap (λ (s : Option Command). chosen word l.operands (dry_of l.operands g) s (run_of l.operands f)) (submit_same l.operands f g (is (codes "inputs") refl) (is (codes "settings") refl))
-    ∙ ap (λ (r : Option Command). chosen word l.operands (dry_of l.operands g) (submit_of l.operands g) r) (run_same l.operands f g (is (codes "turns") refl) (is (codes "seed") refl) (is (codes "settings") refl))
+named_same word rows l says = ap (λ (o : List Text). named_command word o f) says.0 ∙ go (form_of word)
   where
     f : Values
     f = set.values_in rows
@@ -191,21 +181,31 @@ named_same word rows l says =
     g : Values
     g = λ name. value_of name l.options
 
-    is : (n : Text) → bytes_eq set.operand_id n ≡ false → f n ≡ g n
-    is n apart = value_is rows l n says apart
+    go : (o : Option Form) → option_and_then (λ x. formed x l.operands f) o ≡ option_and_then (λ x. formed x l.operands g) o
+    go None = refl
+    go (Some x) = formed_same x l.operands f g (λ n apart. value_is rows l n says apart)
 
 -- ---- all words
 
--- no option of a command is called as the operands are
-options_apart : (word : Text) → Apart (options_of word)
-options_apart word = go (bytes_eq word (codes "dry")) (bytes_eq word (codes "submit")) (bytes_eq word (codes "run"))
+-- no option of these commands is called as the operands are
+abbrev are_apart : List Entry → Bool
+are_apart = list_all (λ e. not (known (option_names e) set.operand_id))
+
+among_apart : (entries : List Entry) (word : Text) → are_apart entries ≡ true → Apart (options_among word entries)
+among_apart [] word all = refl
+among_apart (e ∷ es) word all = go (bytes_eq word e.word) refl (known (option_names e) set.operand_id) refl (among_apart es word)
   where
-    go : (d s r : Bool) → Apart (if d then codes "inputs" ∷ codes "table" ∷ codes "fuel" ∷ [] else if s then codes "inputs" ∷ codes "settings" ∷ []
-        else if r then codes "turns" ∷ codes "seed" ∷ codes "settings" ∷ [] else [])
-    go true s r = refl
-    go false true r = refl
-    go false false true = refl
-    go false false false = refl
+    go : (b : Bool) → bytes_eq word e.word ≡ b → (k : Bool) → known (option_names e) set.operand_id ≡ k → (are_apart es ≡ true → Apart (options_among word es)) → Apart (options_among word (e ∷ es))
+    go b is true same more = absurd (true≢false (sym all ∙ ap (λ (x : Bool). not x && are_apart es) same))
+    go true is false same more = rw is same
+    go false is false same more = rw is (more (sym (ap (λ (x : Bool). not x && are_apart es) same) ∙ all))
+
+table_apart : are_apart table ≡ true
+unfolding table
+table_apart = refl
+
+options_apart : (word : Text) → Apart (options_of word)
+options_apart word = among_apart table word table_apart
 
 -- where there is no fault, the command is that of the subcommand that is met; where there is one, there is no command
 abbrev pub Meets : List Text → Kinds → Option (Text × List Row) → Type 0
@@ -232,5 +232,13 @@ meets_built (word ∷ ws) utf8 = go (known commands word) refl
         (meets_fate word ws _ _ (leaf word (options_of word) (options_apart word) ws utf8.1)))
     go false k = inr (top_refused word ws (look word utf8.0) k, no_command word ws k)
 
+-- no word is the program's name
+words_alone : (words : List Text) → argument_words set.line_app words ≡ words
+unfolding table
+words_alone words = refl
+
+abbrev MeetsAs : List Text → App → List Text → Type 0
+MeetsAs words a ws = Meets words (built_fault a nothing_held ws) (entered a (walk a.top.rules (names_of a) nothing_held ws).stopped)
+
 pub meets : (words : List Text) → AreUtf8 words → Meets words (fault_of set.line_app words) (subcommand_of set.line_app words)
-meets words utf8 = subst (λ (a : App). Meets words (built_fault a nothing_held words) (entered a (walk a.top.rules (names_of a) nothing_held words).stopped)) (sym built_line) (meets_built words utf8)
+meets words utf8 = subst (MeetsAs words (built set.line_app)) (sym (words_alone words)) (subst (λ (a : App). MeetsAs words a words) (sym built_line) (meets_built words utf8))

@@ -1,9 +1,10 @@
 -- The command line, as `clap` is set up to read it: each command has its options, and takes any number of operands.
-use Rattle.std.specs.Prelude.{true, List, [], Option, Some, unwrap_or, option_and_then, codes}
+use Rattle.std.specs.Prelude.{true, List, [], Option, Some, unwrap_or, option_and_then, fold, codes}
 use Rattle.clap.specs.Words.{App, Row, Rule, Text, all_of, first_of, new_app, new_rule, with_rule, with_subcommand}
 use Rattle.clap.specs.Simple.{new_shape}
 use Rattle.clap.specs.declared.builder.action.ArgAction.TheVariants.{Set, Append}
 use Rattle.wc_cli.specs.declared.command.Command.{Command}
+use Rattle.wc_cli.specs.Table.{Entry, option_names, table}
 use Rattle.wc_cli.specs.Words.{Values, named_command}
 
 -- `--NAME VALUE` or `--NAME=VALUE`, at most once
@@ -22,15 +23,6 @@ operands = record (new_rule operand_id) { action = Some Append }
 abbrev pub plain_app : Text → App
 plain_app name = with_rule (new_app name) operands
 
-abbrev pub dry_app : App
-dry_app = with_rule (with_rule (with_rule (plain_app (codes "dry")) (option (codes "inputs"))) (option (codes "table"))) (option (codes "fuel"))
-
-abbrev pub submit_app : App
-submit_app = with_rule (with_rule (plain_app (codes "submit")) (option (codes "inputs"))) (option (codes "settings"))
-
-abbrev pub run_app : App
-run_app = with_rule (with_rule (with_rule (plain_app (codes "run")) (option (codes "turns"))) (option (codes "seed"))) (option (codes "settings"))
-
 -- the first word is a command, with no help
 abbrev pub base_app : App
 base_app = record {
@@ -44,22 +36,21 @@ base_app = record {
   subs = [];
 }
 
--- an application with one more command that has no option
-abbrev pub with_plain : App → Text → App
-with_plain a name = with_subcommand a (plain_app name).top
+-- a command with one option more
+abbrev pub with_option : App → Text → App
+with_option a name = with_rule a (option name)
 
-abbrev pub with_options_app : App
-with_options_app = with_subcommand (with_subcommand (with_subcommand base_app dry_app.top) submit_app.top) run_app.top
+-- a command with its options
+abbrev pub command_app : Entry → App
+command_app e = fold with_option (plain_app e.word) (option_names e)
 
-abbrev pub with_store_app : App
-with_store_app = with_plain (with_plain (with_plain (with_plain with_options_app (codes "check")) (codes "init")) (codes "list")) (codes "tree")
-
-abbrev pub with_views_app : App
-with_views_app = with_plain (with_plain (with_plain (with_plain with_store_app (codes "show")) (codes "graph")) (codes "pause")) (codes "play")
+-- an application with one command more
+abbrev pub with_command : App → Entry → App
+with_command a e = with_subcommand a (command_app e).top
 
 -- the whole command line
 abbrev pub line_app : App
-line_app = with_plain (with_plain (with_plain (with_plain with_views_app (codes "kill")) (codes "pack")) (codes "verify")) (codes "drill")
+line_app = fold with_command base_app table
 
 -- ---- what `clap` has read
 

@@ -7,6 +7,14 @@ use Rattle.std.specs.Str.Parse.{digits_value}
 use Rattle.wc_cli.specs.declared.command.Command.{Command}
 use Rattle.wc_cli.specs.declared.command.Command.TheVariants.{Check, Dry, Init, Submit, Run, View, Pause, Play, Kill, Pack, Drill}
 use Rattle.wc_cli.specs.declared.command.View.TheVariants as view
+use Rattle.wc_cli.specs.declared.table.Bounds.{Bounds}
+use Rattle.wc_cli.specs.declared.table.Form.{Form}
+use Rattle.wc_cli.specs.declared.table.Form.TheVariants as form
+use Rattle.wc_cli.specs.declared.table.Lone.{Lone}
+use Rattle.wc_cli.specs.declared.table.Lone.TheVariants as lone
+use Rattle.wc_cli.specs.declared.table.Numbered.{Numbered}
+use Rattle.wc_cli.specs.declared.table.Numbered.TheVariants as numbered
+use Rattle.wc_cli.specs.Table.{Amount, nodes, seeds, chain_counts, for_inputs, for_results, for_settings, for_fuel, for_turns, for_seed, form_of, options_of}
 
 -- ---- a word PORT=VALUE
 
@@ -102,51 +110,36 @@ abbrev pub within : ℕ → ℕ → Option ℕ → Option ℕ
 within least most None = None
 within least most (Some n) = if nat_le least n && nat_le n most then Some n else None
 
--- the number that an option writes, at most so much; the usual one where the option isn't there
-abbrev pub number_up_to : ℕ → ℕ → Option (List ℕ) → Option ℕ
-number_up_to most usual None = Some usual
-number_up_to most usual (Some text) = within 0 most (digits_of text)
+-- the number that a text writes, within bounds
+abbrev pub number_in : Bounds → List ℕ → Option ℕ
+number_in bounds text = within bounds.least bounds.most (digits_of text)
 
--- the number of a node or a process: of 32 bits, and not zero
-abbrev pub number_of : List ℕ → Option ℕ
-number_of text = within 1 4294967295 (digits_of text)
-
--- ---- the commands
-
--- the names of the options that a command has
-abbrev pub options_of : List ℕ → List (List ℕ)
-options_of word =
-    if bytes_eq word (codes "dry") then codes "inputs" ∷ codes "table" ∷ codes "fuel" ∷ []
-    else if bytes_eq word (codes "submit") then codes "inputs" ∷ codes "settings" ∷ []
-    else if bytes_eq word (codes "run") then codes "turns" ∷ codes "seed" ∷ codes "settings" ∷ []
-    else []
+-- ---- the options of a command
 
 -- what stands for an option, by its name
 abbrev pub Values : Type 0
 Values = List ℕ → Option (List ℕ)
 
--- how much fuel `--fuel` allows
-abbrev pub fuel_of : Option (List ℕ) → Option ℕ
-fuel_of = number_up_to 1000000000 100000
+-- the number that an option writes; the usual one where the option isn't there
+abbrev pub number_or : Bounds → ℕ → Option (List ℕ) → Option ℕ
+number_or bounds usual None = Some usual
+number_or bounds usual (Some text) = number_in bounds text
 
--- how many turns `--turns` allows
-abbrev pub turns_of : Option (List ℕ) → Option ℕ
-turns_of = number_up_to 1000000000 1000000
+abbrev pub amount_of : Amount → Values → Option ℕ
+amount_of a value = number_or a.bounds a.usual (value a.name)
 
--- the seed that `--seed` gives
-abbrev pub seed_of : Option (List ℕ) → Option ℕ
-seed_of = number_up_to 2147483647 0
+-- ---- the operands of a command, and the command that they make
 
 abbrev pub dry_with : List ℕ → List ℕ → Option (List (List ℕ × List ℕ)) → Option (List ℕ) → Option (List ℕ) → Option ℕ → Option Command
 dry_with file name (Some given) inputs table (Some fuel) = Some (Dry file name given inputs table fuel)
 dry_with file name _ inputs table _ = None
 
--- `dry FILE NAME [PORT=VALUE]... [--inputs F] [--table F] [--fuel N]`
+-- `FILE NAME [PORT=VALUE]...`
 abbrev pub dry_of : List (List ℕ) → Values → Option Command
-dry_of (file ∷ name ∷ given) value = dry_with file name (cut_all given) (value (codes "inputs")) (value (codes "table")) (fuel_of (value (codes "fuel")))
+dry_of (file ∷ name ∷ given) value = dry_with file name (cut_all given) (value for_inputs) (value for_results) (amount_of for_fuel value)
 dry_of _ value = None
 
--- `check FILE`
+-- `FILE`
 abbrev pub check_of : List (List ℕ) → Option Command
 check_of (file ∷ []) = Some (Check file)
 check_of _ = None
@@ -155,32 +148,32 @@ abbrev pub submit_with : List ℕ → List ℕ → Option (List (List ℕ × Lis
 submit_with file name (Some given) inputs settings = Some (Submit file name given inputs settings)
 submit_with file name None inputs settings = None
 
--- `submit FILE NAME [PORT=VALUE]... [--inputs F] [--settings F]`
+-- `FILE NAME [PORT=VALUE]...`
 abbrev pub submit_of : List (List ℕ) → Values → Option Command
-submit_of (file ∷ name ∷ given) value = submit_with file name (cut_all given) (value (codes "inputs")) (value (codes "settings"))
+submit_of (file ∷ name ∷ given) value = submit_with file name (cut_all given) (value for_inputs) (value for_settings)
 submit_of _ value = None
 
 abbrev pub run_with : Option ℕ → Option ℕ → Option (List ℕ) → Option Command
 run_with (Some turns) (Some seed) settings = Some (Run turns seed settings)
 run_with _ _ settings = None
 
--- `run [--turns N] [--seed S] [--settings F]`
+-- no operands
 abbrev pub run_of : List (List ℕ) → Values → Option Command
-run_of [] value = run_with (turns_of (value (codes "turns"))) (seed_of (value (codes "seed"))) (value (codes "settings"))
+run_of [] value = run_with (amount_of for_turns value) (amount_of for_seed value) (value for_settings)
 run_of _ value = None
 
 -- the number of a node or a process, where it is the one operand
 abbrev pub one_number : List (List ℕ) → Option ℕ
-one_number (n ∷ []) = number_of n
+one_number (n ∷ []) = number_in nodes n
 one_number _ = None
 
 abbrev pub drill_with : Option ℕ → Option ℕ → Option Command
 drill_with (Some seed) (Some count) = Some (Drill seed count)
 drill_with _ _ = None
 
--- `drill SEED N`
+-- `SEED N`
 abbrev pub drill_of : List (List ℕ) → Option Command
-drill_of (seed ∷ count ∷ []) = drill_with (within 0 2147483647 (digits_of seed)) (within 0 10000 (digits_of count))
+drill_of (seed ∷ count ∷ []) = drill_with (number_in seeds seed) (number_in chain_counts count)
 drill_of _ = None
 
 -- a command that takes no operands
@@ -188,30 +181,35 @@ abbrev pub alone : Command → List (List ℕ) → Option Command
 alone c [] = Some c
 alone c _ = None
 
--- `tree PID`, `show N`, `pause PID`, `play PID`, `kill PID`
-abbrev pub with_number : List ℕ → ℕ → Option Command
-with_number word n =
-    if bytes_eq word (codes "tree") then Some (View (view.Tree n))
-    else if bytes_eq word (codes "show") then Some (View (view.Show n))
-    else if bytes_eq word (codes "pause") then Some (Pause n)
-    else if bytes_eq word (codes "play") then Some (Play n)
-    else if bytes_eq word (codes "kill") then Some (Kill n)
-    else None
+abbrev pub lone_command : Lone → Command
+lone_command lone.Init = Init
+lone_command lone.List = View view.List
+lone_command lone.Graph = View view.Graph
+lone_command lone.Verify = View view.Verify
+lone_command lone.Pack = Pack
 
--- the command with this name, these operands and these values of its options
+abbrev pub with_number : Numbered → ℕ → Command
+with_number numbered.Tree n = View (view.Tree n)
+with_number numbered.Show n = View (view.Show n)
+with_number numbered.Pause n = Pause n
+with_number numbered.Play n = Play n
+with_number numbered.Kill n = Kill n
+
+-- the command of this form, with these operands and these values of its options
+abbrev pub formed : Form → List (List ℕ) → Values → Option Command
+formed form.Dry operands value = dry_of operands value
+formed form.Check operands value = check_of operands
+formed form.Submit operands value = submit_of operands value
+formed form.Run operands value = run_of operands value
+formed (form.Alone which) operands value = alone (lone_command which) operands
+formed (form.Numbered which) operands value = option_map (with_number which) (one_number operands)
+formed form.Drill operands value = drill_of operands
+
+-- ---- all words
+
+-- the command with this word, these operands and these values of its options
 abbrev pub named_command : List ℕ → List (List ℕ) → Values → Option Command
-named_command word operands value =
-    if bytes_eq word (codes "dry") then dry_of operands value
-    else if bytes_eq word (codes "check") then check_of operands
-    else if bytes_eq word (codes "submit") then submit_of operands value
-    else if bytes_eq word (codes "run") then run_of operands value
-    else if bytes_eq word (codes "init") then alone Init operands
-    else if bytes_eq word (codes "list") then alone (View view.List) operands
-    else if bytes_eq word (codes "graph") then alone (View view.Graph) operands
-    else if bytes_eq word (codes "pack") then alone Pack operands
-    else if bytes_eq word (codes "verify") then alone (View view.Verify) operands
-    else if bytes_eq word (codes "drill") then drill_of operands
-    else option_and_then (with_number word) (one_number operands)
+named_command word operands value = option_and_then (λ f. formed f operands value) (form_of word)
 
 -- the command with this name and line, where it has the options of the line
 abbrev pub command_in : List ℕ → Line → Option Command

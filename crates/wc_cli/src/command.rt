@@ -5,30 +5,16 @@ ghost use Rattle.std.specs.List.{list_all};
 ghost use Rattle.std.specs.Str.{is_utf8};
 ghost use Rattle.clap.specs.Words.{all_of, found_of, rows_of, subcommand_rows_of};
 ghost use Rattle.wc_cli.specs.Line.{operand_id, operands_in, values_in, command_met};
-ghost use Rattle.wc_cli.specs.Words.{cut_word, cut_all, digits_of, within, number_up_to, number_of, dry_of, check_of, submit_of, run_of, drill_of, one_number, with_number, alone, named_command, command_of};
+ghost use Rattle.wc_cli.specs.Words.{cut_word, cut_all, digits_of, within, number_in, number_or, dry_of, check_of, submit_of, run_of, drill_of, one_number, alone, lone_command, with_number, formed, named_command, command_of};
 
 use crate::line::{OPERAND, matches_of};
+use crate::table::{
+    Amount, Bounds, CHAINS, FUEL, Form, INPUTS, Lone, NODE, Numbered, RESULTS, SEED, SEEDS,
+    SETTINGS, TURNS, form_of,
+};
 use clap::ArgMatches;
 use std::alloc::{AllocError, Global};
 use wc_value::{Duplicate, List, Text, Words};
-
-/// The most fuel that may be asked for.
-const MOST_FUEL: u64 = 1_000_000_000;
-
-/// The fuel where none is asked for.
-const FUEL: u64 = 100_000;
-
-/// The most turns that may be asked for.
-const MOST_TURNS: u64 = 1_000_000_000;
-
-/// The turns where none are asked for.
-const TURNS: u64 = 1_000_000;
-
-/// The greatest seed.
-const MOST_SEED: u64 = 2_147_483_647;
-
-/// The most chains that a drill may run.
-const MOST_CHAINS: u64 = 10_000;
 
 /// A word `PORT=VALUE`, cut at its first `=`.
 pub type Given = (Text, Text);
@@ -168,33 +154,23 @@ fn number(text: &str) -> Option<u64>
     text.parse::<u64>().ok()
 }
 
-/// The number that a text writes in decimal digits, if it is one from the least to the most.
-fn number_within(text: &str, least: u64, most: u64) -> Option<u64>
-    ensures { result ≡ within least most (digits_of text.now) }
+/// The number that a text writes in decimal digits, if it is one within bounds.
+fn number_in(bounds: Bounds, text: &str) -> Option<u64>
+    ensures { result ≡ number_in bounds text.now }
 {
     match number(text) {
-        Some(number) if least <= number && number <= most => Some(number),
+        Some(number) if bounds.least <= number && number <= bounds.most => Some(number),
         _ => None,
     }
 }
 
-/// The number that an option writes, at most so much; the usual one where the option isn't there.
-fn number_up_to(most: u64, usual: u64, value: Option<&str>) -> Option<u64>
-    ensures { result ≡ number_up_to most usual (option_map (λ text. text.now) value.entry) }
+/// The number that an option writes; the usual one where the option isn't there.
+fn number_or(bounds: Bounds, usual: u64, value: Option<&str>) -> Option<u64>
+    ensures { result ≡ number_or bounds usual (option_map (λ text. text.now) value.entry) }
 {
     match value {
-        Some(text) => number_within(text, 0, most),
+        Some(text) => number_in(bounds, text),
         None => Some(usual),
-    }
-}
-
-/// The number of a node or a process that a text writes in decimal digits.
-fn number_of(text: &str) -> Option<u32>
-    ensures { result ≡ number_of text.now }
-{
-    match number_within(text, 1, u32::MAX as u64) {
-        Some(node) => Some(node as u32),
-        None => None,
     }
 }
 
@@ -203,6 +179,13 @@ fn value<'a>(matches: &ArgMatches<'a>, name: &str) -> Option<&'a str>
     ensures { option_map (λ text. text.now) result ≡ values_in (rows_of (found_of matches.now)) name.now }
 {
     matches.get_str(name)
+}
+
+/// The number that stands for an option, if it is one that the option takes.
+fn amount_of(amount: Amount, matches: &ArgMatches) -> Option<u64>
+    ensures { result ≡ number_or amount.bounds amount.usual (values_in (rows_of (found_of matches.now)) amount.name.now) }
+{
+    number_or(amount.bounds, amount.usual, value(matches, amount.name))
 }
 
 /// A copy of what stands for the option with this name.
@@ -254,14 +237,14 @@ fn dry_command(
     let [file, name, given @ ..] = operands else {
         return Ok(None);
     };
-    let fuel = number_up_to(MOST_FUEL, FUEL, value(matches, "fuel"));
+    let fuel = amount_of(FUEL, matches);
     match (fuel, cut_words(alloc, given)?) {
         (Some(fuel), Some(given)) => Ok(Some(Command::Dry {
             file: file.copy()?,
             name: name.copy()?,
             given,
-            inputs: value_of(alloc, matches, "inputs")?,
-            table: value_of(alloc, matches, "table")?,
+            inputs: value_of(alloc, matches, INPUTS)?,
+            table: value_of(alloc, matches, RESULTS)?,
             fuel,
         })),
         _ => Ok(None),
@@ -294,8 +277,8 @@ fn submit_command(
             file: file.copy()?,
             name: name.copy()?,
             given,
-            inputs: value_of(alloc, matches, "inputs")?,
-            settings: value_of(alloc, matches, "settings")?,
+            inputs: value_of(alloc, matches, INPUTS)?,
+            settings: value_of(alloc, matches, SETTINGS)?,
         })),
         None => Ok(None),
     }
@@ -312,13 +295,13 @@ fn run_command(
     if !operands.is_empty() {
         return Ok(None);
     }
-    let turns = number_up_to(MOST_TURNS, TURNS, value(matches, "turns"));
-    let seed = number_up_to(MOST_SEED, 0, value(matches, "seed"));
+    let turns = amount_of(TURNS, matches);
+    let seed = amount_of(SEED, matches);
     match (turns, seed) {
         (Some(turns), Some(seed)) => Ok(Some(Command::Run {
             turns,
             seed,
-            settings: value_of(alloc, matches, "settings")?,
+            settings: value_of(alloc, matches, SETTINGS)?,
         })),
         _ => Ok(None),
     }
@@ -331,8 +314,8 @@ fn drill_command(operands: &[Text]) -> Option<Command>
     let [seed, count] = operands else {
         return None;
     };
-    let seed = number_within(seed.as_str(), 0, MOST_SEED);
-    let count = number_within(count.as_str(), 0, MOST_CHAINS);
+    let seed = number_in(SEEDS, seed.as_str());
+    let count = number_in(CHAINS, count.as_str());
     match (seed, count) {
         (Some(seed), Some(count)) => Some(Command::Drill {
             seed: seed as u32,
@@ -346,9 +329,12 @@ fn drill_command(operands: &[Text]) -> Option<Command>
 fn numbered(operands: &[Text]) -> Option<u32>
     ensures { result ≡ one_number operands.now }
 {
-    match operands {
-        [text] => number_of(text.as_str()),
-        _ => None,
+    let [text] = operands else {
+        return None;
+    };
+    match number_in(NODE, text.as_str()) {
+        Some(number) => Some(number as u32),
+        None => None,
     }
 }
 
@@ -363,41 +349,66 @@ fn alone(command: Command, operands: &[Text]) -> Option<Command>
     }
 }
 
-/// The command with the number that is the one operand.
-fn numbered_command(word: &str, number: u32) -> Option<Command>
-    ensures { result ≡ with_number word.now number }
+/// The command that is its word alone.
+fn lone_command(which: Lone) -> Command
+    ensures { result ≡ lone_command which }
 {
-    match word {
-        "tree" => Some(Command::View(View::Tree { pid: number })),
-        "show" => Some(Command::View(View::Show { node: number })),
-        "pause" => Some(Command::Pause { pid: number }),
-        "play" => Some(Command::Play { pid: number }),
-        "kill" => Some(Command::Kill { pid: number }),
-        _ => None,
+    match which {
+        Lone::Init => Command::Init,
+        Lone::List => Command::View(View::List),
+        Lone::Graph => Command::View(View::Graph),
+        Lone::Verify => Command::View(View::Verify),
+        Lone::Pack => Command::Pack,
     }
 }
 
-/// The command with this name, and what was read of the words behind it.
-fn named(alloc: Global, word: &str, matches: &ArgMatches) -> Result<Option<Command>, AllocError>
-    ensures { IfOk result (λ c. c ≡ named_command word.now (operands_in (rows_of (found_of matches.now))) (values_in (rows_of (found_of matches.now)))) }
+/// The command of the node or the process with this number.
+fn with_number(which: Numbered, number: u32) -> Command
+    ensures { result ≡ with_number which number }
+{
+    match which {
+        Numbered::Tree => Command::View(View::Tree { pid: number }),
+        Numbered::Show => Command::View(View::Show { node: number }),
+        Numbered::Pause => Command::Pause { pid: number },
+        Numbered::Play => Command::Play { pid: number },
+        Numbered::Kill => Command::Kill { pid: number },
+    }
+}
+
+/// The command of the node or the process whose number is the one operand.
+fn numbered_command(which: Numbered, operands: &[Text]) -> Option<Command>
+    ensures { result ≡ option_map (with_number which) (one_number operands.now) }
+{
+    match numbered(operands) {
+        Some(number) => Some(with_number(which, number)),
+        None => None,
+    }
+}
+
+/// The command of this form, and what was read of the words behind it.
+fn formed(alloc: Global, form: Form, matches: &ArgMatches) -> Result<Option<Command>, AllocError>
+    ensures { IfOk result (λ c. c ≡ formed form (operands_in (rows_of (found_of matches.now))) (values_in (rows_of (found_of matches.now)))) }
 {
     let words = operands_of(alloc, matches)?;
     let operands = words.as_slice();
-    match word {
-        "dry" => dry_command(alloc, operands, matches),
-        "check" => check_command(operands),
-        "submit" => submit_command(alloc, operands, matches),
-        "run" => run_command(alloc, operands, matches),
-        "init" => Ok(alone(Command::Init, operands)),
-        "list" => Ok(alone(Command::View(View::List), operands)),
-        "graph" => Ok(alone(Command::View(View::Graph), operands)),
-        "pack" => Ok(alone(Command::Pack, operands)),
-        "verify" => Ok(alone(Command::View(View::Verify), operands)),
-        "drill" => Ok(drill_command(operands)),
-        _ => match numbered(operands) {
-            Some(number) => Ok(numbered_command(word, number)),
-            None => Ok(None),
-        },
+    match form {
+        Form::Dry => dry_command(alloc, operands, matches),
+        Form::Check => check_command(operands),
+        Form::Submit => submit_command(alloc, operands, matches),
+        Form::Run => run_command(alloc, operands, matches),
+        Form::Alone(which) => Ok(alone(lone_command(which), operands)),
+        Form::Numbered(which) => Ok(numbered_command(which, operands)),
+        Form::Drill => Ok(drill_command(operands)),
+    }
+}
+
+/// The command with this word, and what was read of the words behind it.
+fn named(alloc: Global, word: &str, matches: &ArgMatches) -> Result<Option<Command>, AllocError>
+    ensures { IfOk result (λ c. c ≡ named_command word.now (operands_in (rows_of (found_of matches.now))) (values_in (rows_of (found_of matches.now)))) }
+{
+    match form_of(word) {
+        Some(form) => formed(alloc, form, matches),
+        None => Ok(None),
     }
 }
 

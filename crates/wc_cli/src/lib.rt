@@ -3,5 +3,6 @@
 
 mod command;
 mod line;
+mod table;
 
 pub use command::{Command, Given, Givens, View, command_of};

@@ -1,10 +1,12 @@
 //! The command line, as `clap` is set up to read it.
 
-ghost use Rattle.std.specs.Prelude.{◌≡◌, ◌≢◌, [], false, map, IfOk, MatchOption};
-ghost use Rattle.clap.specs.Words.{app_of, rule_of, kind_of, fault_of, subcommand_of, subcommand_rows_of, with_rule, with_subcommand};
+ghost use Rattle.std.specs.Prelude.{◌≡◌, ◌≢◌, [], false, fold, map, IfOk, MatchOption};
+ghost use Rattle.clap.specs.Words.{app_of, rule_of, kind_of, fault_of, subcommand_of, subcommand_rows_of};
 ghost use Rattle.clap.specs.declared.builder.command.Command.TheViews.{out-Command};
-ghost use Rattle.wc_cli.specs.Line.{option, operands, plain_app, dry_app, submit_app, run_app, base_app, with_plain, with_options_app, with_store_app, with_views_app, line_app};
+ghost use Rattle.wc_cli.specs.Table.{choice_of, entry_of, name_of};
+ghost use Rattle.wc_cli.specs.Line.{option, operands, plain_app, base_app, with_option, command_app, with_command, line_app};
 
+use crate::table::{Choice, Entry, commands, name_of};
 use clap::error::ErrorKind;
 use clap::{Arg, ArgAction, ArgMatches, Command, Error};
 use std::alloc::{AllocError, Global};
@@ -35,7 +37,7 @@ fn with_option<'a>(
     name: &'a str,
 ) -> Result<Command<'a>, AllocError>
     requires { (out-Command command).has_globals ≡ false }
-    ensures shape { IfOk result (λ c. app_of c ≡ with_rule (app_of command.entry) (option name.entry.now)) }
+    ensures shape { IfOk result (λ c. app_of c ≡ with_option (app_of command.entry) name.entry.now) }
     ensures local { IfOk result (λ c. (out-Command c).has_globals ≡ false) }
 {
     let option = option_named(alloc, name);
@@ -54,39 +56,30 @@ fn plain<'a>(alloc: Global, name: &'a str) -> Result<Command<'a>, AllocError>
     Ok(added)
 }
 
-/// The command `dry` with its options.
-fn dry<'a>(alloc: Global) -> Result<Command<'a>, AllocError>
-    ensures shape { IfOk result (λ c. app_of c ≡ dry_app) }
+/// The command with these options more.
+fn with_options<'a>(
+    alloc: Global,
+    command: Command<'a>,
+    options: &[Choice],
+) -> Result<Command<'a>, AllocError>
+    requires { (out-Command command).has_globals ≡ false }
+    ensures shape { IfOk result (λ c. app_of c ≡ fold with_option (app_of command.entry) (map name_of (map choice_of options.now))) }
     ensures local { IfOk result (λ c. (out-Command c).has_globals ≡ false) }
 {
-    let command = plain(alloc, "dry")?;
-    let with_inputs = with_option(alloc, command, "inputs")?;
-    let with_table = with_option(alloc, with_inputs, "table")?;
-    let with_fuel = with_option(alloc, with_table, "fuel")?;
-    Ok(with_fuel)
+    let mut command = command;
+    for choice in options {
+        command = with_option(alloc, command, name_of(*choice))?;
+    }
+    Ok(command)
 }
 
-/// The command `submit` with its options.
-fn submit<'a>(alloc: Global) -> Result<Command<'a>, AllocError>
-    ensures shape { IfOk result (λ c. app_of c ≡ submit_app) }
+/// The command of an entry of the table, with its options.
+fn command_of<'a>(alloc: Global, entry: &Entry) -> Result<Command<'a>, AllocError>
+    ensures shape { IfOk result (λ c. app_of c ≡ command_app (entry_of entry.now)) }
     ensures local { IfOk result (λ c. (out-Command c).has_globals ≡ false) }
 {
-    let command = plain(alloc, "submit")?;
-    let with_inputs = with_option(alloc, command, "inputs")?;
-    let with_settings = with_option(alloc, with_inputs, "settings")?;
-    Ok(with_settings)
-}
-
-/// The command `run` with its options.
-fn run<'a>(alloc: Global) -> Result<Command<'a>, AllocError>
-    ensures shape { IfOk result (λ c. app_of c ≡ run_app) }
-    ensures local { IfOk result (λ c. (out-Command c).has_globals ≡ false) }
-{
-    let command = plain(alloc, "run")?;
-    let with_turns = with_option(alloc, command, "turns")?;
-    let with_seed = with_option(alloc, with_turns, "seed")?;
-    let with_settings = with_option(alloc, with_seed, "settings")?;
-    Ok(with_settings)
+    let command = plain(alloc, entry.word)?;
+    with_options(alloc, command, entry.options)
 }
 
 /// The command line before it has a command. There is no help.
@@ -102,74 +95,37 @@ fn base<'a>(alloc: Global) -> Command<'a>
 }
 
 /// The command line with one command more.
-fn with_command<'a>(line: Command<'a>, command: Command<'a>) -> Result<Command<'a>, AllocError>
-    requires { (out-Command command).has_globals ≡ false }
-    ensures { IfOk result (λ c. app_of c ≡ with_subcommand (app_of line.entry) (app_of command.entry).top) }
+fn with_command<'a>(
+    alloc: Global,
+    line: Command<'a>,
+    entry: &Entry,
+) -> Result<Command<'a>, AllocError>
+    ensures { IfOk result (λ c. app_of c ≡ with_command (app_of line.entry) (entry_of entry.now)) }
 {
+    let command = command_of(alloc, entry)?;
     line.subcommand(command)
 }
 
-/// The command line with one command more, which has no option.
-fn with_plain<'a>(
+/// The command line with these commands more.
+fn with_commands<'a>(
     alloc: Global,
     line: Command<'a>,
-    name: &'a str,
+    entries: &[Entry],
 ) -> Result<Command<'a>, AllocError>
-    ensures { IfOk result (λ c. app_of c ≡ with_plain (app_of line.entry) name.entry.now) }
+    ensures { IfOk result (λ c. app_of c ≡ fold with_command (app_of line.entry) (map entry_of entries.now)) }
 {
-    let command = plain(alloc, name)?;
-    let added = with_command(line, command)?;
-    Ok(added)
-}
-
-/// The commands with options.
-fn with_options<'a>(alloc: Global) -> Result<Command<'a>, AllocError>
-    ensures { IfOk result (λ c. app_of c ≡ with_options_app) }
-{
-    let line = base(alloc);
-    let dry = dry(alloc)?;
-    let to_dry = with_command(line, dry)?;
-    let submit = submit(alloc)?;
-    let to_submit = with_command(to_dry, submit)?;
-    let run = run(alloc)?;
-    let to_run = with_command(to_submit, run)?;
-    Ok(to_run)
-}
-
-/// The commands up to `tree`.
-fn up_to_tree<'a>(alloc: Global) -> Result<Command<'a>, AllocError>
-    ensures { IfOk result (λ c. app_of c ≡ with_store_app) }
-{
-    let line = with_options(alloc)?;
-    let to_check = with_plain(alloc, line, "check")?;
-    let to_init = with_plain(alloc, to_check, "init")?;
-    let to_list = with_plain(alloc, to_init, "list")?;
-    let to_tree = with_plain(alloc, to_list, "tree")?;
-    Ok(to_tree)
-}
-
-/// The commands up to `play`.
-fn up_to_play<'a>(alloc: Global) -> Result<Command<'a>, AllocError>
-    ensures { IfOk result (λ c. app_of c ≡ with_views_app) }
-{
-    let line = up_to_tree(alloc)?;
-    let to_show = with_plain(alloc, line, "show")?;
-    let to_graph = with_plain(alloc, to_show, "graph")?;
-    let to_pause = with_plain(alloc, to_graph, "pause")?;
-    let to_play = with_plain(alloc, to_pause, "play")?;
-    Ok(to_play)
+    let mut line = line;
+    for entry in entries {
+        line = with_command(alloc, line, entry)?;
+    }
+    Ok(line)
 }
 
 /// The whole command line.
 fn whole<'a>(alloc: Global) -> Result<Command<'a>, AllocError>
     ensures { IfOk result (λ c. app_of c ≡ line_app) }
 {
-    let line = up_to_play(alloc)?;
-    let to_kill = with_plain(alloc, line, "kill")?;
-    let to_pack = with_plain(alloc, to_kill, "pack")?;
-    let to_verify = with_plain(alloc, to_pack, "verify")?;
-    let to_drill = with_plain(alloc, to_verify, "drill")?;
-    Ok(to_drill)
+    with_commands(alloc, base(alloc), commands())
 }
 
 /// Whether memory ran out.

@@ -1,0 +1,128 @@
+-- The table of commands: the word of each, its operands and its options with their ranges.
+use Rattle.std.specs.Prelude.{ℕ, List, [], ◌∷◌, Option, option_map, unwrap_or, find, map, codes}
+use Rattle.std.specs.Str.{bytes_eq}
+use Rattle.wc_cli.specs.declared.table.Bounds.{Bounds}
+use Rattle.wc_cli.specs.declared.table.Choice.{Choice as Taken}
+use Rattle.wc_cli.specs.declared.table.Choice.TheVariants as taken
+use Rattle.wc_cli.specs.declared.table.Form.{Form}
+use Rattle.wc_cli.specs.declared.table.Form.TheVariants.{Dry, Check, Submit, Run, Alone, Numbered, Drill}
+use Rattle.wc_cli.specs.declared.table.Lone.TheVariants.{Init, List as Processes, Graph, Verify, Pack}
+use Rattle.wc_cli.specs.declared.table.Numbered.TheVariants.{Tree, Show, Pause, Play, Kill}
+use Rattle.wc_cli.specs.declared.table.Entry.{Entry as Written}
+
+-- ---- ranges
+
+-- the numbers of nodes and processes, of 32 bits
+abbrev pub nodes : Bounds
+nodes = record { least = 1; most = 4294967295 }
+
+-- the seeds of runs and drills
+abbrev pub seeds : Bounds
+seeds = record { least = 0; most = 2147483647 }
+
+-- how many turns may be asked for, of runs and of evaluations
+abbrev pub turn_counts : Bounds
+turn_counts = record { least = 0; most = 1000000000 }
+
+-- how many chains a drill may run
+abbrev pub chain_counts : Bounds
+chain_counts = record { least = 0; most = 10000 }
+
+-- an option that takes a number: its name, the numbers that it takes, and the number where it isn't there
+pub record Amount : Type 0 where
+  pub name : List ℕ
+  pub bounds : Bounds
+  pub usual : ℕ
+
+abbrev pub for_fuel : Amount
+for_fuel = record { name = codes "fuel"; bounds = turn_counts; usual = 100000 }
+
+abbrev pub for_turns : Amount
+for_turns = record { name = codes "turns"; bounds = turn_counts; usual = 1000000 }
+
+abbrev pub for_seed : Amount
+for_seed = record { name = codes "seed"; bounds = seeds; usual = 0 }
+
+-- the options that take a text
+abbrev pub for_inputs : List ℕ
+for_inputs = codes "inputs"
+
+abbrev pub for_results : List ℕ
+for_results = codes "table"
+
+abbrev pub for_settings : List ℕ
+for_settings = codes "settings"
+
+-- an option: one that takes a text, or one that takes a number
+pub data Choice : Type 0 where
+  text : List ℕ → Choice
+  number : Amount → Choice
+
+abbrev pub name_of : Choice → List ℕ
+name_of (text name) = name
+name_of (number amount) = amount.name
+
+-- ---- commands
+
+-- a command: its word, its operands with the command that they make, and its options
+pub record Entry : Type 0 where
+  pub word : List ℕ
+  pub form : Form
+  pub options : List Choice
+
+abbrev entry : List ℕ → Form → List Choice → Entry
+entry word form options = record { word = word; form = form; options = options }
+
+-- The commands. `Dry` and `Submit` take `FILE NAME [PORT=VALUE]...`, `Check` takes `FILE`, `Run` and `Alone` take no operands,
+-- `Numbered` takes one of `nodes`, and `Drill` one of `seeds` and one of `chain_counts`.
+unfoldable pub table : List Entry
+table =
+    entry (codes "dry") Dry (text for_inputs ∷ text for_results ∷ number for_fuel ∷ [])
+    ∷ entry (codes "check") Check []
+    ∷ entry (codes "init") (Alone Init) []
+    ∷ entry (codes "submit") Submit (text for_inputs ∷ text for_settings ∷ [])
+    ∷ entry (codes "run") Run (number for_turns ∷ number for_seed ∷ text for_settings ∷ [])
+    ∷ entry (codes "list") (Alone Processes) []
+    ∷ entry (codes "tree") (Numbered Tree) []
+    ∷ entry (codes "show") (Numbered Show) []
+    ∷ entry (codes "graph") (Alone Graph) []
+    ∷ entry (codes "verify") (Alone Verify) []
+    ∷ entry (codes "pause") (Numbered Pause) []
+    ∷ entry (codes "play") (Numbered Play) []
+    ∷ entry (codes "kill") (Numbered Kill) []
+    ∷ entry (codes "pack") (Alone Pack) []
+    ∷ entry (codes "drill") Drill []
+    ∷ []
+
+-- ---- what the table says of a word
+
+-- the first of these commands that has this word
+abbrev pub entry_among : List ℕ → List Entry → Option Entry
+entry_among word = find (λ e. bytes_eq word e.word)
+
+abbrev pub form_among : List ℕ → List Entry → Option Form
+form_among word entries = option_map (λ e. e.form) (entry_among word entries)
+
+-- the form of the command with this word, if there is one
+abbrev pub form_of : List ℕ → Option Form
+form_of word = form_among word table
+
+-- the names of the options of an entry
+abbrev pub option_names : Entry → List (List ℕ)
+option_names e = map name_of e.options
+
+abbrev pub options_among : List ℕ → List Entry → List (List ℕ)
+options_among word entries = unwrap_or (option_map option_names (entry_among word entries)) []
+
+-- the names of the options that the command with this word has
+abbrev pub options_of : List ℕ → List (List ℕ)
+options_of word = options_among word table
+
+-- ---- what the program writes
+
+abbrev pub choice_of : Taken → Choice
+choice_of (taken.Text name) = text name.now
+choice_of (taken.Number a) = number (record { name = a.name.now; bounds = a.bounds; usual = a.usual })
+
+abbrev pub entry_of : Written → Entry
+entry_of e = entry e.word.now e.form (map choice_of e.options.now)

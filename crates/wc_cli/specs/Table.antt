@@ -74,7 +74,7 @@ abbrev entry : List ℕ → Form → List Choice → Entry
 entry word form options = record { word = word; form = form; options = options }
 
 -- The commands. `Dry` and `Submit` take `FILE NAME [PORT=VALUE]...`, `Check` takes `FILE`, `Run` and `Alone` take no operands,
--- `Numbered` takes one of `nodes`, and `Drill` one of `seeds` and one of `chain_counts`.
+-- `Numbered` takes one number within its bounds, and `Drill` two.
 unfoldable pub table : List Entry
 table =
     entry (codes "dry") Dry (text for_inputs ∷ text for_results ∷ number for_fuel ∷ [])
@@ -83,15 +83,15 @@ table =
     ∷ entry (codes "submit") Submit (text for_inputs ∷ text for_settings ∷ [])
     ∷ entry (codes "run") Run (number for_turns ∷ number for_seed ∷ text for_settings ∷ [])
     ∷ entry (codes "list") (Alone Processes) []
-    ∷ entry (codes "tree") (Numbered Tree) []
-    ∷ entry (codes "show") (Numbered Show) []
+    ∷ entry (codes "tree") (Numbered nodes Tree) []
+    ∷ entry (codes "show") (Numbered nodes Show) []
     ∷ entry (codes "graph") (Alone Graph) []
     ∷ entry (codes "verify") (Alone Verify) []
-    ∷ entry (codes "pause") (Numbered Pause) []
-    ∷ entry (codes "play") (Numbered Play) []
-    ∷ entry (codes "kill") (Numbered Kill) []
+    ∷ entry (codes "pause") (Numbered nodes Pause) []
+    ∷ entry (codes "play") (Numbered nodes Play) []
+    ∷ entry (codes "kill") (Numbered nodes Kill) []
     ∷ entry (codes "pack") (Alone Pack) []
-    ∷ entry (codes "drill") Drill []
+    ∷ entry (codes "drill") (Drill seeds chain_counts) []
     ∷ []
 
 -- ---- what the table says of a word

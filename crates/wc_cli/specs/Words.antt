@@ -14,7 +14,7 @@ use Rattle.wc_cli.specs.declared.table.Lone.{Lone}
 use Rattle.wc_cli.specs.declared.table.Lone.TheVariants as lone
 use Rattle.wc_cli.specs.declared.table.Numbered.{Numbered}
 use Rattle.wc_cli.specs.declared.table.Numbered.TheVariants as numbered
-use Rattle.wc_cli.specs.Table.{Amount, nodes, seeds, chain_counts, for_inputs, for_results, for_settings, for_fuel, for_turns, for_seed, form_of, options_of}
+use Rattle.wc_cli.specs.Table.{Amount, for_inputs, for_results, for_settings, for_fuel, for_turns, for_seed, form_of, options_of}
 
 -- ---- a word PORT=VALUE
 
@@ -162,19 +162,19 @@ abbrev pub run_of : List (List ℕ) → Values → Option Command
 run_of [] value = run_with (amount_of for_turns value) (amount_of for_seed value) (value for_settings)
 run_of _ value = None
 
--- the number of a node or a process, where it is the one operand
-abbrev pub one_number : List (List ℕ) → Option ℕ
-one_number (n ∷ []) = number_in nodes n
-one_number _ = None
+-- the number that is the one operand
+abbrev pub one_number : Bounds → List (List ℕ) → Option ℕ
+one_number bounds (n ∷ []) = number_in bounds n
+one_number bounds _ = None
 
 abbrev pub drill_with : Option ℕ → Option ℕ → Option Command
 drill_with (Some seed) (Some count) = Some (Drill seed count)
 drill_with _ _ = None
 
 -- `SEED N`
-abbrev pub drill_of : List (List ℕ) → Option Command
-drill_of (seed ∷ count ∷ []) = drill_with (number_in seeds seed) (number_in chain_counts count)
-drill_of _ = None
+abbrev pub drill_of : Bounds → Bounds → List (List ℕ) → Option Command
+drill_of seeds counts (seed ∷ count ∷ []) = drill_with (number_in seeds seed) (number_in counts count)
+drill_of seeds counts _ = None
 
 -- a command that takes no operands
 abbrev pub alone : Command → List (List ℕ) → Option Command
@@ -202,8 +202,8 @@ formed form.Check operands value = check_of operands
 formed form.Submit operands value = submit_of operands value
 formed form.Run operands value = run_of operands value
 formed (form.Alone which) operands value = alone (lone_command which) operands
-formed (form.Numbered which) operands value = option_map (with_number which) (one_number operands)
-formed form.Drill operands value = drill_of operands
+formed (form.Numbered bounds which) operands value = option_map (with_number which) (one_number bounds operands)
+formed (form.Drill seeds counts) operands value = drill_of seeds counts operands
 
 -- ---- all words
 

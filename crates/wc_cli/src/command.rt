@@ -9,8 +9,7 @@ ghost use Rattle.wc_cli.specs.Words.{cut_word, cut_all, digits_of, within, numbe
 
 use crate::line::{OPERAND, matches_of};
 use crate::table::{
-    Amount, Bounds, CHAINS, FUEL, Form, INPUTS, Lone, NODE, Numbered, RESULTS, SEED, SEEDS,
-    SETTINGS, TURNS, form_of,
+    Amount, Bounds, FUEL, Form, INPUTS, Lone, Numbered, RESULTS, SEED, SETTINGS, TURNS, form_of,
 };
 use clap::ArgMatches;
 use std::alloc::{AllocError, Global};
@@ -155,17 +154,19 @@ fn number(text: &str) -> Option<u64>
 }
 
 /// The number that a text writes in decimal digits, if it is one within bounds.
-fn number_in(bounds: Bounds, text: &str) -> Option<u64>
+fn number_in(bounds: Bounds, text: &str) -> Option<u32>
     ensures { result ≡ number_in bounds text.now }
 {
     match number(text) {
-        Some(number) if bounds.least <= number && number <= bounds.most => Some(number),
+        Some(number) if bounds.least as u64 <= number && number <= bounds.most as u64 => {
+            Some(number as u32)
+        }
         _ => None,
     }
 }
 
 /// The number that an option writes; the usual one where the option isn't there.
-fn number_or(bounds: Bounds, usual: u64, value: Option<&str>) -> Option<u64>
+fn number_or(bounds: Bounds, usual: u32, value: Option<&str>) -> Option<u32>
     ensures { result ≡ number_or bounds usual (option_map (λ text. text.now) value.entry) }
 {
     match value {
@@ -182,7 +183,7 @@ fn value<'a>(matches: &ArgMatches<'a>, name: &str) -> Option<&'a str>
 }
 
 /// The number that stands for an option, if it is one that the option takes.
-fn amount_of(amount: Amount, matches: &ArgMatches) -> Option<u64>
+fn amount_of(amount: Amount, matches: &ArgMatches) -> Option<u32>
     ensures { result ≡ number_or amount.bounds amount.usual (values_in (rows_of (found_of matches.now)) amount.name.now) }
 {
     number_or(amount.bounds, amount.usual, value(matches, amount.name))
@@ -245,7 +246,7 @@ fn dry_command(
             given,
             inputs: value_of(alloc, matches, INPUTS)?,
             table: value_of(alloc, matches, RESULTS)?,
-            fuel,
+            fuel: fuel as u64,
         })),
         _ => Ok(None),
     }
@@ -299,8 +300,8 @@ fn run_command(
     let seed = amount_of(SEED, matches);
     match (turns, seed) {
         (Some(turns), Some(seed)) => Ok(Some(Command::Run {
-            turns,
-            seed,
+            turns: turns as u64,
+            seed: seed as u64,
             settings: value_of(alloc, matches, SETTINGS)?,
         })),
         _ => Ok(None),
@@ -308,33 +309,27 @@ fn run_command(
 }
 
 /// The command `drill` with these operands.
-fn drill_command(operands: &[Text]) -> Option<Command>
-    ensures { result ≡ drill_of operands.now }
+fn drill_command(seeds: Bounds, counts: Bounds, operands: &[Text]) -> Option<Command>
+    ensures { result ≡ drill_of seeds counts operands.now }
 {
     let [seed, count] = operands else {
         return None;
     };
-    let seed = number_in(SEEDS, seed.as_str());
-    let count = number_in(CHAINS, count.as_str());
+    let seed = number_in(seeds, seed.as_str());
+    let count = number_in(counts, count.as_str());
     match (seed, count) {
-        (Some(seed), Some(count)) => Some(Command::Drill {
-            seed: seed as u32,
-            count: count as u32,
-        }),
+        (Some(seed), Some(count)) => Some(Command::Drill { seed, count }),
         _ => None,
     }
 }
 
-/// The number of a node or a process, where it is the one operand.
-fn numbered(operands: &[Text]) -> Option<u32>
-    ensures { result ≡ one_number operands.now }
+/// The number that is the one operand.
+fn numbered(bounds: Bounds, operands: &[Text]) -> Option<u32>
+    ensures { result ≡ one_number bounds operands.now }
 {
-    let [text] = operands else {
-        return None;
-    };
-    match number_in(NODE, text.as_str()) {
-        Some(number) => Some(number as u32),
-        None => None,
+    match operands {
+        [text] => number_in(bounds, text.as_str()),
+        _ => None,
     }
 }
 
@@ -376,10 +371,10 @@ fn with_number(which: Numbered, number: u32) -> Command
 }
 
 /// The command of the node or the process whose number is the one operand.
-fn numbered_command(which: Numbered, operands: &[Text]) -> Option<Command>
-    ensures { result ≡ option_map (with_number which) (one_number operands.now) }
+fn numbered_command(bounds: Bounds, which: Numbered, operands: &[Text]) -> Option<Command>
+    ensures { result ≡ option_map (with_number which) (one_number bounds operands.now) }
 {
-    match numbered(operands) {
+    match numbered(bounds, operands) {
         Some(number) => Some(with_number(which, number)),
         None => None,
     }
@@ -397,8 +392,8 @@ fn formed(alloc: Global, form: Form, matches: &ArgMatches) -> Result<Option<Comm
         Form::Submit => submit_command(alloc, operands, matches),
         Form::Run => run_command(alloc, operands, matches),
         Form::Alone(which) => Ok(alone(lone_command(which), operands)),
-        Form::Numbered(which) => Ok(numbered_command(which, operands)),
-        Form::Drill => Ok(drill_command(operands)),
+        Form::Numbered(bounds, which) => Ok(numbered_command(bounds, which, operands)),
+        Form::Drill(seeds, counts) => Ok(drill_command(seeds, counts, operands)),
     }
 }
 

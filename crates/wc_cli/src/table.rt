@@ -8,9 +8,9 @@ ghost use Rattle.wc_cli.specs.Table.{choice_of, entry_of, name_of, table, form_a
 #[derive(Clone, Copy)]
 pub struct Bounds {
     /// The least number.
-    pub least: u64,
+    pub least: u32,
     /// The greatest number.
-    pub most: u64,
+    pub most: u32,
 }
 
 /// An option that takes a number.
@@ -21,7 +21,7 @@ pub struct Amount {
     /// The numbers that may be asked for.
     pub bounds: Bounds,
     /// The number where none is asked for.
-    pub usual: u64,
+    pub usual: u32,
 }
 
 /// An option, and what it takes.
@@ -76,10 +76,10 @@ pub enum Form {
     Run,
     /// A word alone: no operands.
     Alone(Lone),
-    /// A word and one number, of a node or a process.
-    Numbered(Numbered),
-    /// `drill SEED N`.
-    Drill,
+    /// A word and one number within these bounds, of a node or a process.
+    Numbered(Bounds, Numbered),
+    /// `drill SEED N`: two numbers within these bounds.
+    Drill(Bounds, Bounds),
 }
 
 /// A command of the command line.
@@ -93,13 +93,13 @@ pub struct Entry {
 }
 
 /// The numbers of nodes and processes.
-pub const NODE: Bounds = Bounds {
+const NODE: Bounds = Bounds {
     least: 1,
-    most: u32::MAX as u64,
+    most: u32::MAX,
 };
 
 /// The seeds of runs and drills.
-pub const SEEDS: Bounds = Bounds {
+const SEEDS: Bounds = Bounds {
     least: 0,
     most: 2_147_483_647,
 };
@@ -111,7 +111,7 @@ const TURN_COUNTS: Bounds = Bounds {
 };
 
 /// How many chains a drill may run.
-pub const CHAINS: Bounds = Bounds {
+const CHAINS: Bounds = Bounds {
     least: 0,
     most: 10_000,
 };
@@ -188,12 +188,12 @@ static COMMANDS: [Entry; 15] = [
     },
     Entry {
         word: "tree",
-        form: Form::Numbered(Numbered::Tree),
+        form: Form::Numbered(NODE, Numbered::Tree),
         options: &[],
     },
     Entry {
         word: "show",
-        form: Form::Numbered(Numbered::Show),
+        form: Form::Numbered(NODE, Numbered::Show),
         options: &[],
     },
     Entry {
@@ -208,17 +208,17 @@ static COMMANDS: [Entry; 15] = [
     },
     Entry {
         word: "pause",
-        form: Form::Numbered(Numbered::Pause),
+        form: Form::Numbered(NODE, Numbered::Pause),
         options: &[],
     },
     Entry {
         word: "play",
-        form: Form::Numbered(Numbered::Play),
+        form: Form::Numbered(NODE, Numbered::Play),
         options: &[],
     },
     Entry {
         word: "kill",
-        form: Form::Numbered(Numbered::Kill),
+        form: Form::Numbered(NODE, Numbered::Kill),
         options: &[],
     },
     Entry {
@@ -228,7 +228,7 @@ static COMMANDS: [Entry; 15] = [
     },
     Entry {
         word: "drill",
-        form: Form::Drill,
+        form: Form::Drill(SEEDS, CHAINS),
         options: &[],
     },
 ];

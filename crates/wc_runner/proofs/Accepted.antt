@@ -25,7 +25,7 @@ use Rattle.wc_runner.specs.declared.error.RunError.{RunError}
 use Rattle.wc_runner.specs.declared.error.RunError.TheVariants.{DiskFault, Full, OutOfMemory}
 use Rattle.wc_runner.specs.Leaves.{IsTurnWithin}
 use Rattle.wc_runner.specs.Outside.{Answers, Outside}
-use Rattle.wc_runner.specs.Refusals.{Counts, IsUnchanged, RefusesPrepared, RefusesStep, RefusesStored, is_live_after}
+use Rattle.wc_runner.specs.Refusals.{Counts, IsUnchanged, RefusesItsCommit, RefusesPrepared, RefusesStep, RefusesStored, is_live_after}
 use Rattle.wc_runner.specs.Trips.{TurnOf}
 use Rattle.wc_runner.specs.Turning.{IsOfCommit, IsPrepared, IsReady, IsRoomOrMemory, RefusesChanges, of_turn}
 use Rattle.wc_runner.proofs.ManyTurns.{one_batch}
@@ -72,9 +72,12 @@ module _ (o : Outside) (pid : ℕ) (w : World) (cs : List Change) (p : IsPrepare
   pub turn_within : (journal next : Journal) → IsLonger o.limits journal cs next → IsTurnWithin o pid w (applied w cs) next
   turn_within journal next longer = record { turn = turn_made; fits = (p.room.0, longer.fits); batch = turn_counted }
 
+  its_commit : (journal : Journal) (e : StoreError) → RefusesCommit journal o.limits w cs e → RefusesItsCommit o journal w pid e
+  its_commit journal e h = record { changes = cs; turn = p.turn; accepted = p.accepted; room = p.room; refused = h }
+
   pub commit_refused : (journal : Journal) (e : RunError) → RefusesStored journal o.limits w cs e → RefusesStep o journal w pid e
-  commit_refused journal DiskFault h = (cs, p.turn, h)
-  commit_refused journal (Full what count limit) h = inr (cs, p.turn, h)
+  commit_refused journal DiskFault h = its_commit journal store_error.DiskFault h
+  commit_refused journal (Full what count limit) h = inr (its_commit journal (store_error.Full what count limit) h)
   commit_refused journal OutOfMemory h = tt
 
 -- ---- refusals

@@ -15,7 +15,7 @@ use Rattle.wc_store.specs.declared.error.StoreError.TheVariants as store_error
 use Rattle.wc_runner.specs.declared.error.RunError.{RunError}
 use Rattle.wc_runner.specs.declared.error.RunError.TheVariants.{DiskFault, Full, OutOfMemory}
 use Rattle.wc_runner.specs.Outside.{Outside}
-use Rattle.wc_runner.specs.Refusals.{RefusesStep}
+use Rattle.wc_runner.specs.Refusals.{RefusesItsCommit, RefusesStep}
 
 -- of one version
 pub commit_by : (j k : Journal) (limits : Limits) (w : World) (cs : List Change) (e : StoreError) → k.end ≡ j.end → k.version ≡ j.version → RefusesCommit j limits w cs e
@@ -32,9 +32,19 @@ commit_by j k limits w cs (store_error.Full thing.Generations count limit) end v
 commit_by j k limits w cs store_error.AlreadyThere end version h = h
 commit_by j k limits w cs store_error.OutOfMemory end version h = h
 
+its_commit_by : (o : Outside) (j k : Journal) (w : World) (pid : ℕ) (e : StoreError) → k.end ≡ j.end → k.version ≡ j.version → RefusesItsCommit o j w pid e
+    → RefusesItsCommit o k w pid e
+its_commit_by o j k w pid e end version h = record {
+  changes = h.changes;
+  turn = h.turn;
+  accepted = h.accepted;
+  room = h.room;
+  refused = commit_by j k o.limits w h.changes e end version h.refused;
+}
+
 -- and so is a turn
 pub step_by : (o : Outside) (j k : Journal) (w : World) (pid : ℕ) (e : RunError) → k.end ≡ j.end → k.version ≡ j.version → RefusesStep o j w pid e → RefusesStep o k w pid e
-step_by o j k w pid DiskFault end version h = (h.0, h.1, commit_by j k o.limits w h.0 store_error.DiskFault end version h.2)
+step_by o j k w pid DiskFault end version h = its_commit_by o j k w pid store_error.DiskFault end version h
 step_by o j k w pid (Full what count limit) end version (inl h) = inl h
-step_by o j k w pid (Full what count limit) end version (inr h) = inr (h.0, h.1, commit_by j k o.limits w h.0 (store_error.Full what count limit) end version h.2)
+step_by o j k w pid (Full what count limit) end version (inr h) = inr (its_commit_by o j k w pid (store_error.Full what count limit) end version h)
 step_by o j k w pid OutOfMemory end version h = tt

@@ -16,13 +16,14 @@ use Rattle.wc_machine.specs.declared.answer.TaskAnswer.{TaskAnswer}
 use Rattle.wc_machine.specs.declared.answer.TaskAnswer.TheVariants as answer
 use Rattle.wc_machine.specs.Asking.{Need, nothing, performs, need}
 use Rattle.wc_machine.specs.Machine.{Leads, turn}
-use Rattle.wc_machine.specs.Refusals.{IsFull}
+use Rattle.wc_machine.specs.Refusals.{HasRoom, IsFull}
 use Rattle.wc_store.specs.Refusals.{RefusesCommit}
+use Rattle.wc_store.specs.declared.error.StoreError.{StoreError}
 use Rattle.wc_store.specs.declared.error.StoreError.TheVariants as store_error
 use Rattle.wc_runner.specs.declared.error.RunError.{RunError}
 use Rattle.wc_runner.specs.declared.error.RunError.TheVariants.{DiskFault, Full, OutOfMemory}
 use Rattle.wc_runner.specs.Outside.{Outside, Answers, AnswersNeed, IsKnown}
-use Rattle.wc_runner.specs.Refusals.{RefusesStep}
+use Rattle.wc_runner.specs.Refusals.{RefusesItsCommit, RefusesStep}
 use Rattle.wc_runner.specs.Trips.{IsTurn, TurnOf, RestsAt, Turns, none, one_more, one_rest}
 
 -- All that is known of the one is known of the other.
@@ -64,14 +65,21 @@ module _ (o p : Outside) (wide : Widens o p) where
   pub turn_of_widened : (pid : ℕ) (w v : World) → TurnOf o pid w v → TurnOf p pid w v
   turn_of_widened pid w v t = record { changes = t.changes; turn = turn_widened pid w t.changes t.turn; accepted = t.accepted; after = t.after }
 
+  its_commit_widened : (journal : Journal) (w : World) (pid : ℕ) (e : StoreError) → RefusesItsCommit o journal w pid e → RefusesItsCommit p journal w pid e
+  its_commit_widened journal w pid e h = record {
+    changes = h.changes;
+    turn = turn_widened pid w h.changes h.turn;
+    accepted = h.accepted;
+    room = subst (λ (l : Limits). HasRoom l.max_nodes (applied w h.changes)) wide.limits h.room;
+    refused = subst (λ (l : Limits). RefusesCommit journal l w h.changes e) wide.limits h.refused;
+  }
+
   -- and one that is refused by what was known is refused by what is known later
   pub step_widened : (journal : Journal) (w : World) (pid : ℕ) (e : RunError) → RefusesStep o journal w pid e → RefusesStep p journal w pid e
-  step_widened journal w pid DiskFault h =
-      (h.0, turn_widened pid w h.0 h.1, subst (λ (l : Limits). RefusesCommit journal l w h.0 store_error.DiskFault) wide.limits h.2)
+  step_widened journal w pid DiskFault h = its_commit_widened journal w pid store_error.DiskFault h
   step_widened journal w pid (Full what count limit) (inl h) =
       inl (h.0, turn_widened pid w h.0 h.1, subst (λ (l : Limits). IsFull l.max_nodes (applied w h.0) what count limit) wide.limits h.2)
-  step_widened journal w pid (Full what count limit) (inr h) =
-      inr (h.0, turn_widened pid w h.0 h.1, subst (λ (l : Limits). RefusesCommit journal l w h.0 (store_error.Full what count limit)) wide.limits h.2)
+  step_widened journal w pid (Full what count limit) (inr h) = inr (its_commit_widened journal w pid (store_error.Full what count limit) h)
   step_widened journal w pid OutOfMemory h = tt
 
   pub rest_widened : (w : World) → RestsAt o w → RestsAt p w

@@ -5,7 +5,9 @@ use Rattle.wc_journal.specs.declared.journal.Journal.{Journal}
 use Rattle.wc_state.specs.declared.record.Limits.{Limits}
 use Rattle.wc_world.specs.declared.change.Change.{Change}
 use Rattle.wc_world.specs.World.{World}
-use Rattle.wc_machine.specs.Refusals.{FullOf}
+use Rattle.wc_world.specs.Accepted.{IsAccepted}
+use Rattle.wc_world.specs.Applied.{applied}
+use Rattle.wc_machine.specs.Refusals.{FullOf, HasRoom}
 use Rattle.wc_machine.specs.declared.error.TurnError.TheVariants as turn_error
 use Rattle.wc_store.specs.Refusals.{RefusesCommit}
 use Rattle.wc_store.specs.declared.error.StoreError.{StoreError}
@@ -18,11 +20,17 @@ use Rattle.wc_runner.specs.declared.error.RunError.TheVariants.{DiskFault, Full,
 
 -- ---- one turn
 
--- the changes of the process's turn can't be committed, for this reason
-abbrev pub RefusesItsCommit : Outside → Journal → World → (pid : ℕ) → StoreError → Type 0
-RefusesItsCommit o journal w pid e = (cs : List Change) × IsTurn o pid w cs × RefusesCommit journal o.limits w cs e
+-- The world takes the changes of the process's turn, and would have neither too many nodes nor too many batches after them, but they can't be
+-- committed, for this reason.
+pub record RefusesItsCommit (o : Outside) (journal : Journal) (w : World) (pid : ℕ) (e : StoreError) : Type 0 where
+  pub changes : List Change
+  pub turn : IsTurn o pid w changes
+  pub accepted : IsAccepted w changes
+  pub room : HasRoom o.limits.max_nodes (applied w changes)
+  pub refused : RefusesCommit journal o.limits w changes e
 
--- The turn of the process is refused as one on the world alone, or its changes can't be committed. Want of memory may come at any time.
+-- The turn of the process is refused as one on the world alone, by its nodes or else its batches, or else its changes can't be committed. Want
+-- of memory may come at any time.
 abbrev pub RefusesStep : Outside → Journal → World → (pid : ℕ) → RunError → Type 0
 RefusesStep o journal w pid DiskFault = RefusesItsCommit o journal w pid store_error.DiskFault
 RefusesStep o journal w pid (Full what count limit) =

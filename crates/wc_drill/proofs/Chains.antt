@@ -84,7 +84,7 @@ storable first second w cs s accepted room =
       leads = leads;
       accepted = accepted;
       plain = plainly cs (events_are_plain usual_limits.poll_ms w (submits_chain first second) cs leads);
-      nodes = room.0;
+      room = room;
     }
 
 -- ---- by what is handed to a submission
@@ -116,12 +116,13 @@ module _ (first second : ℕ) (w : World) (l : List Definition) (caching : List 
 -- ---- a commit
 
 pub submitted : (first second : ℕ) (w : World) (cs : List Change) → IsStorable first second w cs → IsSubmitted first second w (applied w cs)
-submitted first second w cs s = record { changes = cs; leads = s.leads; accepted = s.accepted; after = refl; nodes = s.nodes }
+submitted first second w cs s = record { changes = cs; leads = s.leads; accepted = s.accepted; after = refl; nodes = s.room.0 }
 
 pub chain_refused : (first second : ℕ) (w : World) (cs : List Change) (journal : Journal) (e : RunError) → IsStorable first second w cs → RefusesStored journal usual_limits w cs e
     → RefusesChain first second journal w e
 chain_refused first second w cs journal DiskFault s h = tt
-chain_refused first second w cs journal (Full what count limit) s h = inr (cs, s.leads, h)
+chain_refused first second w cs journal (Full what count limit) s h =
+    inr (record { changes = cs; leads = s.leads; accepted = s.accepted; room = s.room; refused = h })
 chain_refused first second w cs journal OutOfMemory s h = tt
 
 -- it is refused alike by a journal that ends at the same place, in the same version
@@ -129,7 +130,13 @@ pub chain_by : (first second : ℕ) (j k : Journal) (w : World) (e : RunError) �
 chain_by first second j k w DiskFault end version h = tt
 chain_by first second j k w (Full what count limit) end version (inl h) = inl h
 chain_by first second j k w (Full what count limit) end version (inr h) =
-    inr (h.0, h.1, commit_by j k usual_limits w h.0 (store_error.Full what count limit) end version h.2)
+    inr (record {
+      changes = h.changes;
+      leads = h.leads;
+      accepted = h.accepted;
+      room = h.room;
+      refused = commit_by j k usual_limits w h.changes (store_error.Full what count limit) end version h.refused;
+    })
 chain_by first second j k w OutOfMemory end version h = tt
 
 pub crowd_refused : (first second : ℕ) (w : World) (journal : Journal) (e : RunError) → IsCrowded first second w e → RefusesChain first second journal w e

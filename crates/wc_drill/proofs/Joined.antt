@@ -23,7 +23,7 @@ use Rattle.wc_drill.specs.declared.error.DrillError.{DrillError}
 use Rattle.wc_drill.specs.Drilled.{Drills, HasDrilled, Submitted, outside, turns_of}
 use Rattle.wc_drill.specs.Leaves.{AreDurable, HoldsOnOne, HoldsNow, IsBegun, IsFirst}
 use Rattle.wc_drill.specs.Refusals.{Counts, EndsDrill, RefusesChains, RefusesDrilled, of_run}
-use Rattle.wc_drill.specs.Running.{EndsSo}
+use Rattle.wc_drill.specs.Running.{EndsSo, TakesFewer}
 use Rattle.wc_drill.specs.Storing.{SubmittedSome}
 
 none_taken : (most : ℕ) (w : World) → SomeTurns outside most w w
@@ -78,17 +78,17 @@ module _ {D : Type 0} (g : disk.Ghosts D) (seed count : ℕ) where
   module _ (told : Type 0) (begun : World) (submitted : Submitted seed count empty begun) (store : Store) (one two : D) (made : IsFirst store)
       (takes : SomeTurns outside (turns_of count) begun store.world.world) (stands : store.live ≡ true → told → StandsFor g store one two) where
     -- the run broke off
-    pub run_refused : (e : RunError) → store.live ≡ is_live_after {T = Unit {0}} (Err e) → RefusesRun outside store e
-        → RefusesDrilled g told seed count one two (of_run e)
-    run_refused run.DiskFault live refused = tt
-    run_refused (run.Full what most limit) live refused = record {
+    pub run_refused : (e : RunError) → store.live ≡ is_live_after {T = Unit {0}} (Err e) → TakesFewer (turns_of count) begun store.world.world
+        → RefusesRun outside store e → RefusesDrilled g told seed count one two (of_run e)
+    run_refused run.DiskFault live fewer refused = tt
+    run_refused (run.Full what most limit) live fewer refused = record {
       world = store.world.world;
       drills = of_turns seed count begun store.world.world submitted takes;
       journal = store.journal;
       holds = λ t. holds_by g store one two made (stands live t);
-      refused = inr (refused.pid, refused.refused);
+      refused = inr (record { begun = begun; submitted = submitted; fewer = fewer; pid = refused.pid; refused = refused.refused });
     }
-    run_refused run.OutOfMemory live refused = tt
+    run_refused run.OutOfMemory live fewer refused = tt
 
     -- the run came to an end
     module _ (live : store.live ≡ true) where

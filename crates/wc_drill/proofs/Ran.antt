@@ -16,7 +16,7 @@ use Rattle.wc_drill.specs.declared.error.DrillError.{DrillError}
 use Rattle.wc_drill.specs.Drilled.{Drills, HasDrilled, Submitted, outside, turns_of}
 use Rattle.wc_drill.specs.Leaves.{AreDurable, HoldsNow, IsBegun, IsFirst}
 use Rattle.wc_drill.specs.Refusals.{Counts, EndsDrill, RefusesChains, RefusesDrilled, of_run}
-use Rattle.wc_drill.specs.Running.{EndsSo}
+use Rattle.wc_drill.specs.Running.{EndsSo, TakesFewer}
 use Rattle.wc_drill.specs.Storing.{SubmittedSome}
 use Rattle.wc_drill.proofs.Joined.{chains_leave, chains_refused, counts_broken, counts_ended, durable, live_begun, run_done, run_ended, run_leaves, run_refused}
 
@@ -104,10 +104,10 @@ module _ {D : Type 0} (g : disk.Ghosts D) (seed count : ℕ) (old : Store) (one 
 
     -- the run broke off
     module _ (e : RunError) (d : DrillError) (told_as : d ≡ of_run e) (live : s.live ≡ is_live_after {T = Unit {0}} (Err e)) where
-      pub stopped_refused : RefusesRun outside s e → RefusesDrilled g Told seed count one_s two_s d
-      stopped_refused refused =
+      pub stopped_refused : TakesFewer (turns_of count) mid.world.world s.world.world → RefusesRun outside s e → RefusesDrilled g Told seed count one_s two_s d
+      stopped_refused fewer refused =
           subst (RefusesDrilled g Told seed count one_s two_s) (sym told_as)
-          (run_refused g seed count Told mid.world.world submitted s one_s two_s first takes stands e live refused)
+          (run_refused g seed count Told mid.world.world submitted s one_s two_s first takes stands e live fewer refused)
 
       pub stopped_durable : IsBegun {T = ℕ} (Err d) → IsTrue (g.tells one) → IsTrue (g.tells two) → AreDurable g one_s two_s
       stopped_durable begun told told_too =

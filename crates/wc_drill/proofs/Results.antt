@@ -1,6 +1,6 @@
 -- What is known of results.
 use Rattle.std.proofs.Common.{◌≡◌, Bool, Result, Ok, Err, refl, subst}
-use Rattle.std.specs.Prelude.{IfErr, IfOk, OnOk}
+use Rattle.std.specs.Prelude.{IfErr, IfOk, OnErr, OnOk}
 use Rattle.wc_runner.specs.Refusals.{IsUnchanged}
 use Rattle.wc_runner.specs.declared.error.RunError.{RunError}
 use Rattle.wc_runner.specs.declared.error.RunError.TheVariants.{DiskFault, Full, OutOfMemory}
@@ -8,6 +8,10 @@ use Rattle.wc_runner.specs.declared.error.RunError.TheVariants.{DiskFault, Full,
 pub on_ok : {A E : Type 0} (r : Result A E) (P Q : Type 0) → (P → Q) → OnOk r P → OnOk r Q
 on_ok (Ok a) P Q more h = more h
 on_ok (Err e) P Q more h = tt
+
+pub on_err : {A E : Type 0} (r : Result A E) (P Q : Type 0) → (P → Q) → OnErr r P → OnErr r Q
+on_err (Ok a) P Q more h = tt
+on_err (Err e) P Q more h = more h
 
 pub if_ok : {A E : Type 0} (r : Result A E) (P Q : A → Type 0) → ((a : A) → P a → Q a) → IfOk r P → IfOk r Q
 if_ok (Ok a) P Q more h = more a h

@@ -17,11 +17,12 @@ use Rattle.wc_runner.specs.Leaves.{SomeTurns}
 use Rattle.wc_runner.specs.Outside.{Outside, in_run}
 use Rattle.wc_runner.specs.Refusals.{RefusesRun}
 use Rattle.wc_runner.specs.Running.{TakesTurns, TakesAll, TakesUpTo, TakesWithin, EndsAs, FitsAfter}
+use Rattle.wc_runner.specs.Running.{TakesFewer as FewerTaken}
 use Rattle.wc_runner.proofs.Widened.{Widens, step_widened, turns_widened}
 use Rattle.wc_drill.specs.Squares.{square_rows}
 use Rattle.wc_drill.proofs.Rows.{row_is_squared}
 use Rattle.wc_drill.specs.Drilled.{outside, usual_limits}
-use Rattle.wc_drill.specs.Running.{EndsSo, TakesJust}
+use Rattle.wc_drill.specs.Running.{EndsSo, TakesFewer, TakesJust}
 
 module _ {T P : Type 0} (h : transport.Ghosts T) (k : pacer.Ghosts P) (limits : Limits) (usual : limits ≡ usual_limits) (tr tr_new : T) (pa_new : P)
     (table : h.table tr ≡ Some (square_rows 100)) where
@@ -38,6 +39,10 @@ module _ {T P : Type 0} (h : transport.Ghosts T) (k : pacer.Ghosts P) (limits : 
 
   takes_just : (all : ℕ) (w v : World) (begun now : ℕ) → TakesAll known all w v begun now → TakesJust all w v
   takes_just all w v begun now t = record { count = t.count; rests = t.rests; all_of_them = t.all_of_them; turns = turns_widened known outside wide t.count t.rests w v t.turns }
+
+  -- and it breaks off before it has taken all
+  pub takes_fewer : (most : ℕ) (w v : World) (begun now : ℕ) → FewerTaken known most w v begun now → TakesFewer most w v
+  takes_fewer most w v begun now t = (t.0, t.1, takes_just t.0 w v begun now t.2)
 
   -- what it has taken
   takes_turns : (most : ℕ) (w v : World) (begun now : ℕ) → TakesUpTo known most w v begun now → TakesTurns outside most w v

@@ -20,7 +20,7 @@ use Rattle.wc_drill.specs.declared.error.DrillError.{DrillError}
 use Rattle.wc_drill.specs.declared.error.DrillError.TheVariants.{DiskFault, Damaged, Full, AlreadyThere, Spent, Resting, OutOfMemory}
 use Rattle.wc_drill.specs.Drilled.{Submitted, Drills, outside, turns_of}
 use Rattle.wc_drill.specs.Leaves.{HoldsOnOne, HoldsNow}
-use Rattle.wc_drill.specs.Running.{TakesJust}
+use Rattle.wc_drill.specs.Running.{TakesFewer, TakesJust}
 use Rattle.wc_drill.specs.Storing.{RefusesChain}
 
 -- what a drill tells of what breaks off a run
@@ -62,11 +62,19 @@ RefusesChains seed count w store run.DiskFault = Unit {0}
 RefusesChains seed count w store (run.Full what many limit) = IsFullAtChain seed count w store (run.Full what many limit)
 RefusesChains seed count w store run.OutOfMemory = Unit {0}
 
--- What the world is too full for: the submission of its next chain, or the turn of a ready process.
+-- All chains are submitted, fewer turns and rests are taken than there are, and the turn of a ready process finds the store full.
+pub record IsFullAtTurn (seed count : ℕ) (journal : Journal) (w : World) (e : RunError) : Type 0 where
+  pub begun : World
+  pub submitted : Submitted seed count empty begun
+  pub fewer : TakesFewer (turns_of count) begun w
+  pub pid : ℕ
+  pub refused : RefusesStep outside journal w pid e
+
+-- What the world is too full for: the submission of its next chain, or, once all are submitted, the turn of a ready process.
 abbrev pub IsTooFullFor : (seed count : ℕ) → Journal → World → RunError → Type 0
 IsTooFullFor seed count journal w e =
     ((chain : ℕ) × (chain < count) × Submitted seed chain empty w × RefusesChain (first_number chain seed) (second_number chain seed) journal w e)
-    ⊎ ((pid : ℕ) × RefusesStep outside journal w pid e)
+    ⊎ IsFullAtTurn seed count journal w e
 
 -- The disks hold a world that the drill makes, and which is too full for what comes next, by the journal that keeps it.
 pub record IsDrillFull {D : Type 0} (g : disk.Ghosts D) (told : Type 0) (seed count : ℕ) (one two : D) (e : RunError) : Type 0 where

@@ -1,5 +1,5 @@
 -- How the run of a drill ends.
-use Rattle.std.specs.Prelude.{◌≡◌, ℕ, ◌+◌, true, false}
+use Rattle.std.specs.Prelude.{◌≡◌, ℕ, ◌+◌, ◌<◌, true, false}
 use Rattle.wc_world.specs.World.{World}
 use Rattle.wc_core.specs.Standing.{is_any_live, is_resting}
 use Rattle.wc_runner.specs.declared.running.RunEnd.{RunEnd}
@@ -13,6 +13,10 @@ pub record TakesJust (all : ℕ) (w v : World) : Type 0 where
   pub rests : ℕ
   pub all_of_them : count + rests ≡ all
   pub turns : Turns outside count rests w v
+
+-- fewer than so many were taken
+abbrev pub TakesFewer : (most : ℕ) → World → World → Type 0
+TakesFewer most w v = (all : ℕ) × (all < most) × TakesJust all w v
 
 -- no process is live, or else each live one is held up, or else as many turns and rests were taken as are given
 abbrev pub EndsSo : (turns : ℕ) → World → World → RunEnd → Type 0

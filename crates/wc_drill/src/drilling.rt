@@ -1,6 +1,6 @@
 //! Drills.
 
-ghost use Rattle.std.specs.Prelude.{◌≡◌, ◌≤◌, true, IsTrue, IfOk, IfErr};
+ghost use Rattle.std.specs.Prelude.{◌≡◌, ◌≤◌, true, IsTrue, IfOk, IfErr, OnErr};
 ghost use Rattle.wc_world.specs.World.{World as AWorld, empty};
 ghost use Rattle.wc_disk.specs.Images.{LeavesOnly};
 ghost use Rattle.wc_store.specs.Held.{IsHeld, nothing};
@@ -13,7 +13,7 @@ ghost use Rattle.wc_drill.specs.Squares.{square_rows};
 ghost use Rattle.wc_drill.specs.Drilled.{Drills, HasDrilled, outside, turns_of};
 ghost use Rattle.wc_drill.specs.Leaves.{AreDurable, DrilledBeside, DrilledOr, HoldsNow, IsBegun, IsFirst, RefusedLeaves};
 ghost use Rattle.wc_drill.specs.Refusals.{Counts, EndsDrill, IsOfInit, RefusesDrill, RefusesDrilled, of_init};
-ghost use Rattle.wc_drill.specs.Running.{EndsSo};
+ghost use Rattle.wc_drill.specs.Running.{EndsSo, TakesFewer};
 
 use crate::error::DrillError;
 use crate::running::run_chains;
@@ -68,6 +68,7 @@ fn run_all<D: Disk>(
     requires stands { IsTrue (D.tells one.old) → IsTrue (D.tells two.old) → StandsFor D.Disk store.old one.old two.old }
     ensures takes { SomeTurns outside (turns_of count) store.old.world.world store.new.world.world }
     ensures ends { IfOk result (EndsSo (turns_of count) store.old.world.world store.new.world.world) }
+    ensures early { OnErr result (TakesFewer (turns_of count) store.old.world.world store.new.world.world) }
     ensures live { store.new.live ≡ is_live_after result }
     ensures refused { IfErr result (RefusesRun outside store.new) }
     ensures still { store.new.live ≡ true → IsTrue (D.tells one.old) → IsTrue (D.tells two.old) → StandsFor D.Disk store.new one.new two.new }

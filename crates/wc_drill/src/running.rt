@@ -1,12 +1,12 @@
 //! The run of a drill.
 
-ghost use Rattle.std.specs.Prelude.{◌≡◌, Some, true, IsTrue, IfOk, IfErr};
+ghost use Rattle.std.specs.Prelude.{◌≡◌, Some, true, IsTrue, IfOk, IfErr, OnErr};
 ghost use Rattle.wc_store.specs.Stores.{StandsFor};
 ghost use Rattle.wc_runner.specs.Leaves.{LeavesWorlds, SomeTurns};
 ghost use Rattle.wc_runner.specs.Refusals.{Counts, RefusesRun, is_live_after};
 ghost use Rattle.wc_drill.specs.Squares.{square_rows};
 ghost use Rattle.wc_drill.specs.Drilled.{outside};
-ghost use Rattle.wc_drill.specs.Running.{EndsSo};
+ghost use Rattle.wc_drill.specs.Running.{EndsSo, TakesFewer};
 
 use crate::submitting::usual_limits;
 use std::alloc::Global;
@@ -31,6 +31,7 @@ pub(crate) fn run_chains<D: Disk, T: Transport, P: Pacer>(
     requires table { T.table transport.old ≡ Some (square_rows 100) }
     ensures takes { SomeTurns outside turns store.old.world.world store.new.world.world }
     ensures ends { IfOk result (EndsSo turns store.old.world.world store.new.world.world) }
+    ensures early { OnErr result (TakesFewer turns store.old.world.world store.new.world.world) }
     ensures live { store.new.live ≡ is_live_after result }
     ensures refused { IfErr result (RefusesRun outside store.new) }
     ensures still { store.new.live ≡ true → IsTrue (D.tells one.old) → IsTrue (D.tells two.old) → StandsFor D.Disk store.new one.new two.new }

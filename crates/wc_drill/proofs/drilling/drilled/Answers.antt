@@ -30,7 +30,7 @@ pub returns-clause-refused : goal.returns-clause-refused
 returns-clause-refused g c =
     let f = c.in-Ok.ensures in
     let e = c.in-Err-run_all.ensures in
-    stopped_refused g.D.Disk c.args.seed c.args.count c.args.store c.args.one.now c.args.two.now c.requires.empty c.requires.made c.submit_chains.new.store c.submit_chains.new.one c.submit_chains.new.two f.place f.tells f.cause f.all c.run_all.new.store c.run_all.new.one c.run_all.new.two e.place e.takes e.still c.in-Err-run_all.error c.from-in-Err-run_all.result c.from-in-Err-run_all.ensures e.live e.refused
+    stopped_refused g.D.Disk c.args.seed c.args.count c.args.store c.args.one.now c.args.two.now c.requires.empty c.requires.made c.submit_chains.new.store c.submit_chains.new.one c.submit_chains.new.two f.place f.tells f.cause f.all c.run_all.new.store c.run_all.new.one c.run_all.new.two e.place e.takes e.still c.in-Err-run_all.error c.from-in-Err-run_all.result c.from-in-Err-run_all.ensures e.live e.early e.refused
 
 pub returns-clause-durable : goal.returns-clause-durable
 returns-clause-durable g c =

@@ -1,8 +1,8 @@
 use Rattle.wc_runner.specs.Leaves.{SomeTurns, of_world}
 use Rattle.wc_runner.proofs.Leaving.{weaker_leaves}
 use Rattle.wc_drill.specs.Drilled.{outside}
-use Rattle.wc_drill.proofs.Turned.{ends_so, refuses_run, some_turns, takes_some}
-use Rattle.wc_drill.proofs.Results.{if_err, if_ok}
+use Rattle.wc_drill.proofs.Turned.{ends_so, refuses_run, some_turns, takes_fewer, takes_some}
+use Rattle.wc_drill.proofs.Results.{if_err, if_ok, on_err}
 use Rattle.wc_drill.proofs.running.run_chains.Goals as goal
 
 pub returns-clause-takes : goal.returns-clause-takes
@@ -12,6 +12,10 @@ returns-clause-takes g c =
 pub returns-clause-ends : goal.returns-clause-ends
 returns-clause-ends g c =
     if_ok c.run.result _ _ (λ e. ends_so g.T.Transport g.P.Pacer c.usual_limits-limits.result c.usual_limits-limits.ensures.value c.args.transport.now c.run.new.transport c.run.new.pacer c.requires.table c.args.turns c.args.store.now.world.world c.run.new.store.world.world (g.P.Pacer.rests c.args.pacer.now) (g.P.Pacer.rests c.run.new.pacer) e) c.run.ensures.ends
+
+pub returns-clause-early : goal.returns-clause-early
+returns-clause-early g c =
+    on_err c.run.result _ _ (λ t. takes_fewer g.T.Transport g.P.Pacer c.usual_limits-limits.result c.usual_limits-limits.ensures.value c.args.transport.now c.run.new.transport c.run.new.pacer c.requires.table c.args.turns c.args.store.now.world.world c.run.new.store.world.world (g.P.Pacer.rests c.args.pacer.now) (g.P.Pacer.rests c.run.new.pacer) t) c.run.ensures.early
 
 pub returns-clause-refused : goal.returns-clause-refused
 returns-clause-refused g c =

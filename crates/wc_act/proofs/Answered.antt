@@ -11,6 +11,7 @@ use Rattle.wc_plan.specs.declared.error.PlanError.TheVariants as plan_error
 use Rattle.wc_act.specs.declared.error.ReplyError.{ReplyError}
 use Rattle.wc_plan.specs.declared.reply.Reply.{Reply}
 use Rattle.wc_plan.specs.declared.status.Cause.{Cause}
+use Rattle.wc_plan.specs.declared.status.Status.{Status}
 use Rattle.wc_plan.specs.declared.status.Status.TheVariants as status
 use Rattle.wc_plan.specs.Calls.{CountsShelf}
 use Rattle.wc_act.specs.Calls.{CountsDisks, CountsReply, of_plan, of_act, status_of}
@@ -81,8 +82,10 @@ act_ended : (e : ActError) → status_of (Err (of_act e)) ≡ ended_by e
 act_ended act_error.OutOfMemory = refl
 act_ended act_error.DiskFault = refl
 
+pub act_ends : (P : Status → Type 0) (result : Result Reply ReplyError) (e : ActError) → FailsWith result (of_act e) → P (status_of result) → EndsWith P (Err e)
+act_ends P result e fails ends =
+    subst P (act_ended e) (subst (λ (r : Result Reply ReplyError). P (status_of r)) (sym (fails_is result (of_act e) fails)) ends)
+
 pub act_undone : (told : Option (List ℕ → Option (List ℕ))) (words : List (List ℕ)) (d : Deed) (result : Result Reply ReplyError) (e : ActError) → FailsWith result (of_act e)
     → Plans told (command_of words) (plan.On d) → LeaveUndone told words (status_of result) → EndsWith (row d).undone (Err e)
-act_undone told words d result e fails plans undone =
-    subst (row d).undone (act_ended e)
-    (subst (λ (r : Result Reply ReplyError). (row d).undone (status_of r)) (sym (fails_is result (of_act e) fails)) (undone d plans))
+act_undone told words d result e fails plans undone = act_ends (row d).undone result e fails (undone d plans)

@@ -1,13 +1,14 @@
 -- What a call leaves at any moment.
-use Rattle.std.proofs.Common.{◌≤◌, inl, inr, ⊎_elim, ℕ, List, Option, arith}
+use Rattle.std.proofs.Common.{◌≡◌, ◌≤◌, inl, inr, ⊎_elim, ℕ, Bool, IsTrue, List, Option, sym, subst, ◌∙◌, arith}
 use Rattle.wc_disk.specs.declared.disk.Disk as disk
 use Rattle.wc_disk.specs.Images.{LeavesOnly}
+use Rattle.wc_disk.specs.Steps.{Only}
 use Rattle.wc_disk.proofs.Runs.{no_call, weaker_run}
 use Rattle.wc_store.specs.Stores.{InTwoParts}
 use Rattle.wc_cli.specs.Words.{command_of}
 use Rattle.wc_plan.specs.declared.deed.Deed.{Deed}
 use Rattle.wc_plan.specs.declared.deed.Plan.TheVariants as plan
-use Rattle.wc_act.specs.Crashes.{EachPair, LeavesPairs, LeavesKept, ComesOfNothing, Kept, OneSide, AtAnyMoment, BegunBy, MadeBy, LeavesMade}
+use Rattle.wc_act.specs.Crashes.{EachPair, LeavesPairs, LeavesKept, ComesOfNothing, Kept, OneSide, AtAnyMoment, IsOfEachMoment, BegunBy, MadeBy, LeavesMade}
 use Rattle.wc_plan.specs.Plans.{Plans}
 use Rattle.wc_act.specs.Rows.{row}
 
@@ -87,6 +88,22 @@ module _ {D : Type 0} (g : disk.Ghosts D) (at_now : (d : D) (image : List ℕ) �
   pub exit_moments : (one two one_new two_new : D) (P : List ℕ → List ℕ → Type 0) → AtAnyMoment g one two one_new two_new P → EachPair g one_new two_new P
   exit_moments one two one_new two_new P (inl side) a b la lb = side_exit one one_new two two_new P side a b la lb
   exit_moments one two one_new two_new P (inr side) a b la lb = side_exit two two_new one one_new (λ y x. P x y) side b a lb la
+
+  -- a disk that is not written, and on which nothing is pending at entry, has at any moment the image alone that it may leave at exit
+  beside_each : (rest rest_new own own_new : D) (P : List ℕ → List ℕ → Type 0) → g.may_leave rest_new (g.seen rest_new) → Only (g.seen rest) (g.may_leave rest)
+      → OneSide g rest rest_new own own_new P → (a b : List ℕ) → g.left_since rest_new (g.moment rest) a → g.left_since own_new (g.moment own) b → P a b
+  beside_each rest rest_new own own_new P reads durable side a b la lb =
+      side.own_only.each b lb a (subst (g.may_leave rest_new) (same ∙ sym (durable a (side.rest_only.each a la))) reads)
+    where
+      same : g.seen rest_new ≡ g.seen rest
+      same = durable (g.seen rest_new) (side.rest_only.each (g.seen rest_new) (counts rest_new (g.moment rest) (g.seen rest_new) side.rest_only.later reads))
+
+  pub each_moment : ((d : D) → IsTrue (g.tells d) → g.may_leave d (g.seen d)) → ((d e : D) → g.tells d ≡ g.tells e) → (one two one_new two_new : D)
+      (P : List ℕ → List ℕ → Type 0) → IsOfEachMoment g one two one_new two_new P
+  each_moment reads_as alike one two one_new two_new P tells rests (inl side) a b la lb =
+      beside_each one one_new two two_new P (reads_as one_new (subst (λ (t : Bool). IsTrue t) (alike one one_new) tells)) (rests.rests_one side.rest_only) side a b la lb
+  each_moment reads_as alike one two one_new two_new P tells rests (inr side) a b la lb =
+      beside_each two two_new one one_new (λ y x. P x y) (reads_as two_new (subst (λ (t : Bool). IsTrue t) (alike one two_new) tells)) (rests.rests_two side.rest_only) side b a lb la
 
   -- ---- by words
 

@@ -27,8 +27,8 @@ abbrev pub of_act : ActError → ReplyError
 of_act act_error.OutOfMemory = reply_error.OutOfMemory
 of_act act_error.DiskFault = reply_error.DiskFault
 
--- `ReadFault` comes only where the shelf's count rose by one, before any disk is asked, and `DiskFault` only where the count of one of the
--- disks rose by one; each other count stays
+-- `ReadFault` comes only where the shelf's count rose by one, and then both disks are as before, and `DiskFault` only where the count of one of
+-- the disks rose by one; each other count stays
 abbrev pub CountsReply : {D : Type 0} → Result Reply ReplyError → (shelf shelf' one one' two two' : ℕ) → (d d' e e' : D) → Type 0
 CountsReply (Ok reply) shelf shelf' one one' two two' d d' e e' = (shelf' ≡ shelf) × (one' ≡ one) × (two' ≡ two)
 CountsReply (Err reply_error.OutOfMemory) shelf shelf' one one' two two' d d' e e' = (shelf' ≡ shelf) × (one' ≡ one) × (two' ≡ two)

@@ -1,5 +1,5 @@
 -- What a crash leaves of a store, and what each call of the program keeps.
-use Rattle.std.specs.Prelude.{◌≡◌, ◌⊎◌, ℕ, List, Option}
+use Rattle.std.specs.Prelude.{◌≡◌, ◌⊎◌, ℕ, IsTrue, List, Option}
 use Rattle.wc_disk.specs.declared.disk.Disk as disk
 use Rattle.wc_disk.specs.Images.{LeavesOnly}
 use Rattle.wc_disk.specs.Steps.{Only}
@@ -89,6 +89,25 @@ pub record OneSide {D : Type 0} (g : disk.Ghosts D) (rest rest_new own own_new :
 -- one of the disks, or the other, is not written
 abbrev pub AtAnyMoment : {D : Type 0} → disk.Ghosts D → (one two one_new two_new : D) → (List ℕ → List ℕ → Type 0) → Type 0
 AtAnyMoment g one two one_new two_new P = OneSide g one one_new two two_new P ⊎ OneSide g two two_new one one_new (λ b a. P a b)
+
+-- ---- at moments of both disks
+
+-- Nothing is pending at entry on a disk that is not written.
+pub record RestsDurable {D : Type 0} (g : disk.Ghosts D) (one two one_new two_new : D) : Type 0 where
+  pub rests_one : LeavesOnly g one one_new (g.may_leave one) → Only (g.seen one) (g.may_leave one)
+  pub rests_two : LeavesOnly g two two_new (g.may_leave two) → Only (g.seen two) (g.may_leave two)
+
+-- each image of disk one at any moment of the call has P beside each of disk two at any moment of it
+abbrev pub AtEachMoment : {D : Type 0} → disk.Ghosts D → (one two one_new two_new : D) → (List ℕ → List ℕ → Type 0) → Type 0
+AtEachMoment g one two one_new two_new P = (a b : List ℕ) → g.left_since one_new (g.moment one) a → g.left_since two_new (g.moment two) b → P a b
+
+-- what holds at any moment of one disk beside the images of the other at exit holds at each moment of both, where nothing is pending at entry on a
+-- disk that is not written
+abbrev pub IsOfEachMoment : {D : Type 0} → disk.Ghosts D → (one two one_new two_new : D) → (List ℕ → List ℕ → Type 0) → Type 0
+IsOfEachMoment g one two one_new two_new P =
+    IsTrue (g.tells one) → RestsDurable g one two one_new two_new → AtAnyMoment g one two one_new two_new P → AtEachMoment g one two one_new two_new P
+
+-- ---- by deeds
 
 -- what a deed leaves
 abbrev pub LeavesKept : {D : Type 0} → disk.Ghosts D → (begins : World → Type 0) → (makes : World → World → Images → Type 0) → (one two one_new two_new : D) → Type 0

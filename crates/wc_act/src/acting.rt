@@ -9,7 +9,7 @@ ghost use Rattle.wc_act.specs.Owed.{visit, OwedDeed};
 ghost use Rattle.wc_plan.specs.Plans.{IsReadyDeed, IsReadyWork};
 ghost use Rattle.wc_act.specs.Statuses.{IsDoneOrFull};
 ghost use Rattle.wc_act.specs.Rows.{row, work_row};
-ghost use Rattle.wc_act.specs.Undone.{EndsWith, LeavesUnwritten};
+ghost use Rattle.wc_act.specs.Undone.{EndsWith, IsBeforeTurns, LeavesUnwritten};
 ghost use Rattle.wc_plan.specs.declared.deed.Deed.TheVariants.{Work as OnStore};
 
 use crate::beginning::init_reply;
@@ -49,6 +49,7 @@ fn worked<D: Disk, T: Transport, P: Pacer>(
     ensures tells { (D.tells one.new ≡ D.tells one.old) × (D.tells two.new ≡ D.tells two.old) }
     ensures untouched { EndsWith (work_row work).undone result → (one.new ≡ one.old) × (two.new ≡ two.old) }
     ensures idle { IsNoRun work → (transport.new ≡ transport.old) × (pacer.new ≡ pacer.old) }
+    ensures unbegun { EndsWith IsBeforeTurns result → (transport.new ≡ transport.old) × (pacer.new ≡ pacer.old) }
     ensures asked { AsksByTurns T.Transport (OnStore work) transport.old transport.new }
     ensures outside { IfOk result (λ r. IsTrue (D.tells one.old) → IsTrue (D.tells two.old)
         → WorksOutside (exchange T.Transport P.Pacer transport.old transport.new pacer.old pacer.new) work store.old.world.world (D.seen one.new, D.seen two.new) r.status) }
@@ -79,6 +80,7 @@ fn work_reply<D: Disk, T: Transport, P: Pacer>(
     ensures tells { (D.tells one.new ≡ D.tells one.old) × (D.tells two.new ≡ D.tells two.old) }
     ensures undone { EndsWith (row (OnStore work)).undone result → IsTrue (D.tells one.old) → IsTrue (D.tells two.old) → LeavesUnwritten D.Disk one.old two.old one.new two.new }
     ensures idle { IsNoRun work → (transport.new ≡ transport.old) × (pacer.new ≡ pacer.old) }
+    ensures unbegun { EndsWith IsBeforeTurns result → (transport.new ≡ transport.old) × (pacer.new ≡ pacer.old) }
     ensures asked { AsksByTurns T.Transport (OnStore work) transport.old transport.new }
     ensures outside { IfOk result (λ r. IsDoneOrFull r.status → IsTrue (D.tells one.old) → IsTrue (D.tells two.old)
         → ActsOutside (exchange T.Transport P.Pacer transport.old transport.new pacer.old pacer.new) (OnStore work) (D.seen one.old, D.seen two.old) (D.seen one.new, D.seen two.new) r.status) }
@@ -106,6 +108,7 @@ pub fn act<D: Disk, T: Transport, P: Pacer>(
     ensures tells { (D.tells one.new ≡ D.tells one.old) × (D.tells two.new ≡ D.tells two.old) }
     ensures undone { EndsWith (row deed).undone result → IsTrue (D.tells one.old) → IsTrue (D.tells two.old) → LeavesUnwritten D.Disk one.old two.old one.new two.new }
     ensures idle { IsIdle deed → (transport.new ≡ transport.old) × (pacer.new ≡ pacer.old) }
+    ensures unbegun { EndsWith IsBeforeTurns result → (transport.new ≡ transport.old) × (pacer.new ≡ pacer.old) }
     ensures asked { AsksByTurns T.Transport deed transport.old transport.new }
     ensures outside { IfOk result (λ r. IsDoneOrFull r.status → IsTrue (D.tells one.old) → IsTrue (D.tells two.old)
         → ActsOutside (exchange T.Transport P.Pacer transport.old transport.new pacer.old pacer.new) deed (D.seen one.old, D.seen two.old) (D.seen one.new, D.seen two.new) r.status) }

@@ -1,11 +1,14 @@
 //! Laws of what is held. Each is the contract of a function that does nothing.
 
-ghost use Rattle.std.specs.Prelude.{[]};
+ghost use Rattle.std.specs.Prelude.{ℕ, [], List, Option};
 ghost use Rattle.wc_store.specs.Held.{IsHeld, nothing};
 ghost use Rattle.wc_store.specs.Laws.{HeldIsOne, HeldIsReached};
 ghost use Rattle.wc_runner.specs.Laws.{WorldsContinueThemselves};
-ghost use Rattle.wc_act.specs.Crashes.{HoldsSound};
+ghost use Rattle.wc_plan.specs.declared.deed.Deed.{Deed};
+ghost use Rattle.wc_act.specs.Crashes.{BegunBy, HoldsSound, IsOfEachMoment, Kept, MadeBy};
+ghost use Rattle.wc_act.specs.Rows.{row};
 
+use wc_disk::Disk;
 use wc_runner::worlds_continue_themselves;
 use wc_store::{held_worlds_are_reached, images_hold_one_thing};
 
@@ -13,6 +16,15 @@ use wc_store::{held_worlds_are_reached, images_hold_one_thing};
 pub fn empty_disks_hold_nothing()
     ensures nothing { IsHeld [] [] nothing }
     ensures meets { HoldsSound [] [] }
+{}
+
+/// Where nothing is pending at entry on a disk that is not written, what is promised of each image of the other, beside those that this one may leave at
+/// exit, is promised beside each image that it has at any moment: what `act` leaves, what the words of the top call make, and that it is sound.
+pub fn pairs_of_any_moments_are_kept<D: Disk>()
+    ensures kept { (d : Deed) (one two one_new two_new : D) → IsOfEachMoment D.Disk one two one_new two_new (Kept D.Disk (row d).begins (row d).makes one two) }
+    ensures made { (told : Option (List ℕ → Option (List ℕ))) (words : List (List ℕ)) (one two one_new two_new : D)
+        → IsOfEachMoment D.Disk one two one_new two_new (Kept D.Disk (BegunBy told words) (MadeBy told words) one two) }
+    ensures sound { (one two one_new two_new : D) → IsOfEachMoment D.Disk one two one_new two_new HoldsSound }
 {}
 
 /// What is known of the worlds that a store holds.

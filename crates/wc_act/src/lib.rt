@@ -14,4 +14,4 @@ mod views;
 
 pub use acting::act;
 pub use error::{ActError, ReplyError};
-pub use laws::{empty_disks_hold_nothing, worlds_are_kept};
+pub use laws::{empty_disks_hold_nothing, pairs_of_any_moments_are_kept, worlds_are_kept};

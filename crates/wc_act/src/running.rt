@@ -9,7 +9,7 @@ ghost use Rattle.wc_act.specs.Crashes.{AreDurable, LeavesPairs, HoldsKeeping};
 ghost use Rattle.wc_act.specs.Outside.{exchange, RunsOutside};
 ghost use Rattle.wc_act.specs.Rows.{run_row};
 ghost use Rattle.wc_act.specs.Running.{status_of, has_run};
-ghost use Rattle.wc_act.specs.Undone.{EndsWith};
+ghost use Rattle.wc_act.specs.Undone.{EndsWith, IsBeforeTurns};
 ghost use Rattle.wc_world.specs.World.{World as AWorld};
 
 use crate::error::ActError;
@@ -67,7 +67,7 @@ pub(crate) fn run_reply<D: Disk, T: Transport, P: Pacer>(
     ensures kept { IsTrue (D.tells one.old) → IsTrue (D.tells two.old) → LeavesPairs D.Disk one.old two.old one.new two.new (HoldsKeeping (run_row options).makes store.old.world.world) }
     ensures durable { IfOk result (λ r. IsTrue (D.tells one.old) → IsTrue (D.tells two.old) → AreDurable D.Disk one.new two.new) }
     ensures tells { (D.tells one.new ≡ D.tells one.old) × (D.tells two.new ≡ D.tells two.old) }
-    ensures untouched { EndsWith (run_row options).undone result → (one.new ≡ one.old) × (two.new ≡ two.old) }
+    ensures begun { EndsWith IsBeforeTurns result → ⊥ }
     ensures asked { IsAskedFor T.Transport options.turns transport.old transport.new }
     ensures outside { IfOk result (λ r. IsTrue (D.tells one.old) → IsTrue (D.tells two.old)
         → RunsOutside (exchange T.Transport P.Pacer transport.old transport.new pacer.old pacer.new) options store.old.world.world (D.seen one.new, D.seen two.new) r.status) }

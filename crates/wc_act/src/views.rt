@@ -23,7 +23,8 @@ fn tree_shown(alloc: Global, world: &World, pid: u32) -> Result<Reply, AllocErro
     match tree_of(alloc, world, pid) {
         Ok(tree) => Ok(print(tree_lines(alloc, &tree)?)),
         Err(WorldError::NoProcess(_)) => refuse(alloc, Cause::UnknownProcess(pid)),
-        Err(_) => Err(AllocError),
+        Err(WorldError::OutOfMemory) => Err(AllocError),
+        Err(_) => unreachable!(),
     }
 }
 

@@ -4,7 +4,9 @@
 mod serving;
 
 pub use serving::serve;
-pub use wc_act::{ActError, ReplyError, act, empty_disks_hold_nothing};
+pub use wc_act::{
+    ActError, ReplyError, act, empty_disks_hold_nothing, pairs_of_any_moments_are_kept,
+};
 pub use wc_plan::{
     Asked, Begin, Cause, Deed, Fault, Invocation, Plan, PlanError, Prepared, Read, Reply,
     RunOptions, Status, Submission, Trial, Work, files_are_read_as_one_thing, find_bad_given,

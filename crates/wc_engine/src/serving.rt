@@ -12,7 +12,7 @@ ghost use Rattle.wc_act.specs.Owed.{visit, AskNoDisk, IsCertain, IsNoDeeds, IsOw
 ghost use Rattle.wc_plan.specs.Plans.{NamesNoFile};
 ghost use Rattle.wc_plan.specs.Replies.{IsReplied, OwesStatus, Writes};
 ghost use Rattle.wc_act.specs.Statuses.{IsDoneOrFull};
-ghost use Rattle.wc_act.specs.Undone.{LeavesUnwritten};
+ghost use Rattle.wc_act.specs.Undone.{IsBeforeTurns, LeavesUnwritten};
 ghost use Rattle.wc_plan.specs.declared.reply.Reply.{Reply as AReply};
 ghost use Rattle.wc_plan.specs.declared.status.Cause.{Cause as ACause};
 
@@ -41,6 +41,7 @@ fn answer<R: Shelf, D: Disk, T: Transport, P: Pacer>(
     ensures tells { (D.tells one.new ≡ D.tells one.old) × (D.tells two.new ≡ D.tells two.old) }
     ensures unnamed { NamesNoFile (command_of words.now) → shelf.new ≡ shelf.old }
     ensures idle { TakesNoTurns (command_of words.now) → (transport.new ≡ transport.old) × (pacer.new ≡ pacer.old) }
+    ensures unbegun { IsBeforeTurns (status_of result) → (transport.new ≡ transport.old) × (pacer.new ≡ pacer.old) }
     ensures asked { IsAskedFor T.Transport (turns_of (command_of words.now)) transport.old transport.new }
     ensures outside { IfOk result (λ r. NeedDisks (R.contents shelf.old) words.now → IsDoneOrFull r.status → IsTrue (D.tells one.old) → IsTrue (D.tells two.old)
         → ServesOutside (R.contents shelf.old) words.now (exchange T.Transport P.Pacer transport.old transport.new pacer.old pacer.new) (visit D.Disk one.old two.old one.new two.new) r.status) }
@@ -107,15 +108,17 @@ pub fn serve<R: Shelf, W: Sink, D: Disk, T: Transport, P: Pacer>(
     // with Refused, Damaged or ReadFault; by events and `pack` that end with Full; nor by `init` and events that end with OutOfMemory. Then
     // each image at any moment of the call is one that a crash at entry might have left, and the disks read as before.
     ensures undone { LeaveUndone (R.contents shelf.old) words.now result → IsTrue (D.tells one.old) → IsTrue (D.tells two.old) → LeavesUnwritten D.Disk one.old two.old one.new two.new }
-    // No disk is asked for words that plan no deed: `check`, `dry`, words that are no command, and a `submit` or `run` that is refused for its
-    // words or its files, where the shelf tells its contents.
+    // The disks are as they were, and none of them failed, for words that plan no deed: `check`, `dry`, words that are no command, and a `submit` or
+    // `run` that is refused for its words or its files, where the shelf tells its contents.
     ensures files { AskNoDisk (R.contents shelf.old) words.now → (one.new ≡ one.old) × (two.new ≡ two.old) × (result ≡ Status.DiskFault → ⊥) }
-    // Nor is one asked where the cause of a refusal is none of a deed's, whether the shelf tells its contents or not.
+    // They also are where the cause of a refusal is none of a deed's, whether the shelf tells its contents or not.
     ensures early { (c : ACause) → result ≡ Status.Refused c → IsNoDeeds (R.contents shelf.old) words.now c → (one.new ≡ one.old) × (two.new ≡ two.old) }
-    // The shelf isn't asked for words that name no file.
+    // The shelf is as it was for words that name no file.
     ensures unnamed { NamesNoFile (command_of words.now) → shelf.new ≡ shelf.old }
-    // Nor is the transport, nor the clock, by words that are no `run`.
+    // The transport and the clock are as they were for words that are no `run`.
     ensures idle { TakesNoTurns (command_of words.now) → (transport.new ≡ transport.old) × (pacer.new ≡ pacer.old) }
+    // They also are where the status is Refused, Damaged or ReadFault, whatever the words.
+    ensures unbegun { IsBeforeTurns result → (transport.new ≡ transport.old) × (pacer.new ≡ pacer.old) }
     // A `run` asks the transport at most as often as it may take turns, whatever comes of them, and it goes on telling the table that it told.
     ensures asked { IsAskedFor T.Transport (turns_of (command_of words.now)) transport.old transport.new }
     // Where a `run` was done, or found the store too full, the world that the disks hold then is what turns and rests make of the one that they
@@ -130,17 +133,18 @@ pub fn serve<R: Shelf, W: Sink, D: Disk, T: Transport, P: Pacer>(
         × (NeedDisks (R.contents shelf.old) words.now → IsDoneOrFull r.status → IsTrue (D.tells one.old) → IsTrue (D.tells two.old)
         → ServesOutside (R.contents shelf.old) words.now (exchange T.Transport P.Pacer transport.old transport.new pacer.old pacer.new) (visit D.Disk one.old two.old one.new two.new) r.status) }
     ensures memory { result ≡ Status.OutOfMemory → W.taken sink.new ≡ W.taken sink.old }
-    // One call of the shelf failed, and no disk was asked.
+    // One call of the shelf failed, and the disks are as they were.
     ensures read_fault { result ≡ Status.ReadFault → RisesByOne (R.faults shelf.old) (R.faults shelf.new) × (W.taken sink.new ≡ W.taken sink.old) × (one.new ≡ one.old) × (two.new ≡ two.old) }
     // One call of one of the disks failed, and none of the other.
     ensures disk_fault { result ≡ Status.DiskFault → EitherRisesByOne (D.faults one.old) (D.faults one.new) (D.faults two.old) (D.faults two.new)
         × (W.taken sink.new ≡ W.taken sink.old) }
-    // One call of the sink failed, and it took a part of what is owed. What was done stays, also where the store was found too full; and
-    // where what is owed is a reply that writes no disk, none was written.
+    // One call of the sink failed, and it took a part of what is owed. What was done stays, also where the store was found too full; where
+    // what is owed is a reply that writes no disk, none was written; and where it refuses or tells damage, the transport and the clock are as they were.
     ensures write_fault { result ≡ Status.WriteFault → RisesByOne (W.faults sink.old) (W.faults sink.new)
         × (r : AReply) × IsOwed (R.contents shelf.old) (visit D.Disk one.old two.old one.new two.new) words.now r × TakesPart r.text (W.taken sink.old) (W.taken sink.new)
         × (NeedDisks (R.contents shelf.old) words.now → IsDoneOrFull r.status → IsTrue (D.tells one.old) → IsTrue (D.tells two.old) → AreDurable D.Disk one.new two.new)
-        × (LeaveUndone (R.contents shelf.old) words.now r.status → IsTrue (D.tells one.old) → IsTrue (D.tells two.old) → LeavesUnwritten D.Disk one.old two.old one.new two.new) }
+        × (LeaveUndone (R.contents shelf.old) words.now r.status → IsTrue (D.tells one.old) → IsTrue (D.tells two.old) → LeavesUnwritten D.Disk one.old two.old one.new two.new)
+        × (IsBeforeTurns r.status → (transport.new ≡ transport.old) × (pacer.new ≡ pacer.old)) }
     // No count rose but for these.
     ensures reads { (result ≡ Status.ReadFault → ⊥) → R.faults shelf.new ≡ R.faults shelf.old }
     ensures writes { (result ≡ Status.WriteFault → ⊥) → W.faults sink.new ≡ W.faults sink.old }

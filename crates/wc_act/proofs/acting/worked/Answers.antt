@@ -7,6 +7,7 @@ use Rattle.wc_act.specs.Crashes.{HoldsKeeping, LeavesPairs}
 use Rattle.wc_act.specs.Outside.{exchange, AsksByTurns, WorksOutside, IsNoRun}
 use Rattle.wc_act.specs.Rows.{Stays, work_row}
 use Rattle.wc_act.specs.Stored.{Images}
+use Rattle.wc_act.specs.Undone.{EndsWith}
 use Rattle.wc_act.specs.Views.{Shows}
 use Rattle.wc_act.proofs.Exchanged.{no_run_outside, of_each, work_unasked}
 use Rattle.wc_act.proofs.Leaving.{standing}
@@ -80,6 +81,15 @@ returns-in-Event-clause-asked g c = work_unasked g.T.Transport c.args.work c.arg
 
 pub returns-in-Pack-clause-asked : goal.returns-in-Pack-clause-asked
 returns-in-Pack-clause-asked g c = work_unasked g.T.Transport c.args.work c.args.transport.now
+
+pub returns-in-Run-clause-untouched : goal.returns-in-Run-clause-untouched
+returns-in-Run-clause-untouched g c =
+    λ ends.
+    let P : Work → Type 0 = λ k. EndsWith (work_row k).undone c.run_reply.result in
+    absurd (c.run_reply.ensures.begun (subst P c.in-Run.is ends))
+
+pub returns-in-Run-clause-unbegun : goal.returns-in-Run-clause-unbegun
+returns-in-Run-clause-unbegun g c = λ ends. absurd (c.run_reply.ensures.begun ends)
 
 pub returns-in-Run-clause-asked : goal.returns-in-Run-clause-asked
 returns-in-Run-clause-asked g c =

@@ -127,15 +127,15 @@ returns-in_ok-full-in-Err-Full-clause-does g c =
     (fills_at o p w c.run.new.store (g.P.Pacer.rests c.args.pacer.now) (g.P.Pacer.rests c.run.new.pacer) f.what f.count f.limit c.in_ok-full-in-Err-Full.field-0
     refl full f.ensures.early c.in_ok-full-in-Err-Full.ensures)
 
-pub returns-in_ok-has_run-in-Ok-clause-untouched : goal.returns-in_ok-has_run-in-Ok-clause-untouched
-returns-in_ok-has_run-in-Ok-clause-untouched g c =
+pub returns-in_ok-has_run-in-Ok-clause-begun : goal.returns-in_ok-has_run-in-Ok-clause-begun
+returns-in_ok-has_run-in-Ok-clause-begun g c =
     λ ends.
     let w = c.args.store.now.world.world in
     let begun : w.batches ≡ c.batches-begun.result = sym (c.batches-begun.ensures ∙ (λ i. (c.world.ensures i).world.batches)) in
-    absurd (run_written c.in-Ok.end (subst (λ (r : Reply). IsBeforeTurns r.status) (c.in_ok-has_run-in-Ok.ensures w begun) ends))
+    run_written c.in-Ok.end (subst (λ (r : Reply). IsBeforeTurns r.status) (c.in_ok-has_run-in-Ok.ensures w begun) ends)
 
-pub returns-in_ok-full-in-Err-Full-clause-untouched : goal.returns-in_ok-full-in-Err-Full-clause-untouched
-returns-in_ok-full-in-Err-Full-clause-untouched g c = λ ends. absurd (subst (λ (r : Reply). IsBeforeTurns r.status) c.in_ok-full-in-Err-Full.ensures ends)
+pub returns-in_ok-full-in-Err-Full-clause-begun : goal.returns-in_ok-full-in-Err-Full-clause-begun
+returns-in_ok-full-in-Err-Full-clause-begun g c = λ ends. subst (λ (r : Reply). IsBeforeTurns r.status) c.in_ok-full-in-Err-Full.ensures ends
 
 pub returns-in_ok-full-in-Err-Full-clause-durable : goal.returns-in_ok-full-in-Err-Full-clause-durable
 returns-in_ok-full-in-Err-Full-clause-durable g c =

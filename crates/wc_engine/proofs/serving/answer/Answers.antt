@@ -1,11 +1,12 @@
 use Rattle.std.proofs.Common.{refl, subst}
 use Rattle.wc_cli.specs.Words.{command_of}
 use Rattle.wc_act.specs.Outside.{turns_of}
+use Rattle.wc_act.specs.Undone.{IsBeforeTurns}
 use Rattle.wc_plan.specs.Plans.{Plans}
 use Rattle.wc_plan.specs.declared.deed.Plan.{Plan}
 use Rattle.wc_plan.specs.declared.deed.Plan.TheVariants as plan
 use Rattle.wc_plan.specs.declared.reply.Reply.{Reply}
-use Rattle.wc_act.proofs.Answered.{plan_counts, plan_no_fault, told_no_fault, act_counts, act_no_refusal, act_undone}
+use Rattle.wc_act.proofs.Answered.{plan_counts, plan_no_fault, told_no_fault, act_counts, act_no_refusal, act_ends, act_undone}
 use Rattle.wc_act.proofs.Exchanged.{asked_by, asked_none}
 use Rattle.wc_act.proofs.Moments.{made, made_unasked}
 use Rattle.wc_act.proofs.Unwriting.{none_asked}
@@ -105,6 +106,10 @@ returns-in_err-act-in-On-clause-idle g c =
     λ none.
     let plans = subst (λ (p : Plan). Plans (g.R.Shelf.contents c.args.shelf.now) (command_of c.args.words.now) p) c.in-On.is c.in_ok-reply.ensures.plans in
     c.in_err-act-in-On.ensures.idle (plan_idle (g.R.Shelf.contents c.args.shelf.now) (command_of c.args.words.now) (plan.On c.in-On.deed) plans none)
+
+pub returns-in_err-act-in-On-clause-unbegun : goal.returns-in_err-act-in-On-clause-unbegun
+returns-in_err-act-in-On-clause-unbegun g c =
+    λ ends. c.in_err-act-in-On.ensures.unbegun (act_ends IsBeforeTurns c.from_residual-in_err-act-in-On.result c.in_err-act-in-On.field-0.0 c.from_residual-in_err-act-in-On.ensures ends)
 
 pub returns-in_err-act-in-On-clause-asked : goal.returns-in_err-act-in-On-clause-asked
 returns-in_err-act-in-On-clause-asked g c =

@@ -4,6 +4,7 @@ use Rattle.wc_act.specs.Outside.{exchange, ServesOutside}
 use Rattle.wc_act.specs.Owed.{visit}
 use Rattle.wc_plan.specs.Replies.{OwesStatus}
 use Rattle.wc_act.specs.Statuses.{IsDoneOrFull}
+use Rattle.wc_act.specs.Undone.{IsBeforeTurns}
 use Rattle.wc_plan.specs.declared.reply.Reply.{Reply}
 use Rattle.wc_plan.specs.declared.status.Status.{Status}
 use Rattle.wc_plan.specs.declared.status.Status.TheVariants as status
@@ -13,7 +14,7 @@ use Rattle.wc_act.proofs.Exits.{durable_same, stay_sound}
 use Rattle.wc_act.proofs.Undamaged.{owed_tells, ends_whole, ends_faultless}
 use Rattle.wc_act.proofs.Once.{owed_once}
 use Rattle.wc_act.proofs.Replied.{owed_replied, done_owed}
-use Rattle.wc_act.proofs.Unwriting.{row_undone}
+use Rattle.wc_act.proofs.Unwriting.{row_undone, said_of_reply}
 use Rattle.wc_engine.proofs.serving.serve.Goals as goal
 
 pub finish-requires : goal.finish-requires
@@ -57,6 +58,12 @@ returns-in-Ok-clause-undone g c =
     let f = c.finish.ensures in
     c.in-Ok.ensures.undone (λ d plans. row_undone d c.in-Ok.reply.status c.finish.result f.status f.memory f.reading f.disks (ends d plans))
 
+pub returns-in-Ok-clause-unbegun : goal.returns-in-Ok-clause-unbegun
+returns-in-Ok-clause-unbegun g c =
+    λ ends.
+    let f = c.finish.ensures in
+    c.in-Ok.ensures.unbegun (said_of_reply IsBeforeTurns (λ never. never) c.in-Ok.reply.status c.finish.result f.status f.memory f.reading f.disks ends)
+
 pub returns-in-Ok-clause-files : goal.returns-in-Ok-clause-files
 returns-in-Ok-clause-files g c =
     λ of.
@@ -79,6 +86,7 @@ returns-in-Ok-clause-write_fault g c =
       f.1,
       λ needs done told told_too. c.in-Ok.ensures.durable needs done told told_too,
       λ ends. c.in-Ok.ensures.undone ends,
+      λ ends. c.in-Ok.ensures.unbegun ends,
     )
 
 pub returns-in-Ok-clause-outside : goal.returns-in-Ok-clause-outside

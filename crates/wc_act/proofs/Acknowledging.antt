@@ -9,8 +9,8 @@ use Rattle.wc_machine.specs.Machine.{after_changes}
 use Rattle.wc_core.proofs.Happening.{after_some}
 use Rattle.wc_store.specs.Held.{Standing, nothing, damage, a_world}
 use Rattle.wc_store.specs.Laws.{HeldIsReached}
-use Rattle.wc_runner.specs.declared.running.RunEnd.{RunEnd}
-use Rattle.wc_runner.specs.declared.running.RunEnd.TheVariants.{AllEnded, Spent, Resting}
+use Rattle.wc_runner.specs.declared.runs.RunEnd.{RunEnd}
+use Rattle.wc_runner.specs.declared.runs.RunEnd.TheVariants.{AllEnded, Spent, Resting}
 use Rattle.wc_cli.specs.Words.{command_of}
 use Rattle.wc_plan.specs.declared.deed.Begin.TheVariants as begin
 use Rattle.wc_plan.specs.declared.deed.Deed.{Deed}
@@ -30,9 +30,9 @@ use Rattle.wc_plan.specs.Plans.{Plans, IsReadyDeed, IsReadyWork}
 use Rattle.wc_plan.specs.Replies.{refuses, OwesStatus, Writes}
 use Rattle.wc_act.specs.Statuses.{IsDoneOrFull}
 use Rattle.wc_act.specs.Events.{TellsAlone}
-use Rattle.wc_act.specs.Drilling.{EndsAt, HasEnded, IsToldDrilled, has_drilled}
+use Rattle.wc_act.specs.Drills.{EndsAt, HasEnded, IsToldDrilled, has_drilled}
 use Rattle.wc_act.specs.Rows.{HasHappened, row, work_row}
-use Rattle.wc_act.specs.Stored.{Images, Hold, is_damaged, is_full}
+use Rattle.wc_act.specs.StoreDeeds.{Images, Hold, is_damaged, is_full}
 use Rattle.wc_plan.proofs.Planned.{plan_ready}
 use Rattle.wc_act.proofs.Happened.{has_happened}
 use Rattle.wc_act.proofs.Exits.{durable_same}

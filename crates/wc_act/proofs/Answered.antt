@@ -13,8 +13,8 @@ use Rattle.wc_plan.specs.declared.reply.Reply.{Reply}
 use Rattle.wc_plan.specs.declared.status.Cause.{Cause}
 use Rattle.wc_plan.specs.declared.status.Status.{Status}
 use Rattle.wc_plan.specs.declared.status.Status.TheVariants as status
-use Rattle.wc_plan.specs.Calls.{CountsShelf}
-use Rattle.wc_act.specs.Calls.{CountsDisks, CountsReply, of_plan, of_act, status_of}
+use Rattle.wc_plan.specs.Counts.{CountsShelf}
+use Rattle.wc_act.specs.Counts.{CountsDisks, CountsReply, of_plan, of_act, status_of}
 use Rattle.wc_act.specs.Owed.{LeaveUndone}
 use Rattle.wc_plan.specs.Plans.{Plans}
 use Rattle.wc_act.specs.Rows.{row}
@@ -31,16 +31,17 @@ fails_is (Err x) e (some, is) = ap (λ (y : ReplyError). Err y) (sym is)
 
 -- ---- there is no plan
 
-error_counts : (T : Type 0) {D : Type 0} (e : PlanError) (shelf shelf_new one two : ℕ) (d x : D) → CountsShelf {T = T} (Err e) shelf shelf_new
-    → CountsReply (Err (of_plan e)) shelf shelf_new one one two two d d x x
-error_counts T plan_error.OutOfMemory shelf shelf_new one two d x counts = (counts, refl, refl)
-error_counts T plan_error.ReadFault shelf shelf_new one two d x counts = (counts, refl, refl)
+error_counts : (T : Type 0) {D : Type 0} (e : PlanError) (shelf shelf_new one two : ℕ) (d x : D) (failed_shelf failed_one failed_two : Type 0)
+    → CountsShelf {T = T} (Err e) shelf shelf_new failed_shelf → CountsReply (Err (of_plan e)) shelf shelf_new one one two two d d x x failed_shelf failed_one failed_two
+error_counts T plan_error.OutOfMemory shelf shelf_new one two d x failed_shelf failed_one failed_two counts = (counts, refl, refl)
+error_counts T plan_error.ReadFault shelf shelf_new one two d x failed_shelf failed_one failed_two counts = (counts.0, counts.1, refl, refl)
 
-pub plan_counts : (T : Type 0) {D : Type 0} (result : Result Reply ReplyError) (e : PlanError) (shelf shelf_new one two : ℕ) (d x : D) → FailsWith result (of_plan e)
-    → CountsShelf {T = T} (Err e) shelf shelf_new → CountsReply result shelf shelf_new one one two two d d x x
-plan_counts T result e shelf shelf_new one two d x fails counts =
-    subst (λ (r : Result Reply ReplyError). CountsReply r shelf shelf_new one one two two d d x x) (fails_is result (of_plan e) fails)
-    (error_counts T e shelf shelf_new one two d x counts)
+pub plan_counts : (T : Type 0) {D : Type 0} (result : Result Reply ReplyError) (e : PlanError) (shelf shelf_new one two : ℕ) (d x : D) (failed_shelf failed_one failed_two : Type 0)
+    → FailsWith result (of_plan e) → CountsShelf {T = T} (Err e) shelf shelf_new failed_shelf
+    → CountsReply result shelf shelf_new one one two two d d x x failed_shelf failed_one failed_two
+plan_counts T result e shelf shelf_new one two d x failed_shelf failed_one failed_two fails counts =
+    subst (λ (r : Result Reply ReplyError). CountsReply r shelf shelf_new one one two two d d x x failed_shelf failed_one failed_two) (fails_is result (of_plan e) fails)
+    (error_counts T e shelf shelf_new one two d x failed_shelf failed_one failed_two counts)
 
 error_no_fault : (e : PlanError) → status_of (Err (of_plan e)) ≡ status.DiskFault → ⊥
 error_no_fault plan_error.OutOfMemory is = cc
@@ -57,16 +58,19 @@ told_no_fault told words r plans is = subst IsDoneOrRefused is (told_replied tol
 
 -- ---- a deed is planned
 
-fault_counts : (T : Type 0) {D : Type 0} (e : ActError) (shelf shelf_new one one_new two two_new : ℕ) (d d_new x x_new : D) → shelf_new ≡ shelf
-    → CountsDisks {T = T} (Err e) one one_new two two_new → CountsReply (Err (of_act e)) shelf shelf_new one one_new two two_new d d_new x x_new
-fault_counts T act_error.OutOfMemory shelf shelf_new one one_new two two_new d d_new x x_new same counts = (same, counts.0, counts.1)
-fault_counts T act_error.DiskFault shelf shelf_new one one_new two two_new d d_new x x_new same counts = (same, counts)
+fault_counts : (T : Type 0) {D : Type 0} (e : ActError) (shelf shelf_new one one_new two two_new : ℕ) (d d_new x x_new : D) (failed_shelf failed_one failed_two : Type 0)
+    → shelf_new ≡ shelf → CountsDisks {T = T} (Err e) one one_new two two_new failed_one failed_two
+    → CountsReply (Err (of_act e)) shelf shelf_new one one_new two two_new d d_new x x_new failed_shelf failed_one failed_two
+fault_counts T act_error.OutOfMemory shelf shelf_new one one_new two two_new d d_new x x_new failed_shelf failed_one failed_two same counts = (same, counts.0, counts.1)
+fault_counts T act_error.DiskFault shelf shelf_new one one_new two two_new d d_new x x_new failed_shelf failed_one failed_two same counts = (same, counts)
 
-pub act_counts : (T : Type 0) {D : Type 0} (result : Result Reply ReplyError) (e : ActError) (shelf shelf_new one one_new two two_new : ℕ) (d d_new x x_new : D) → FailsWith result (of_act e)
-    → shelf_new ≡ shelf → CountsDisks {T = T} (Err e) one one_new two two_new → CountsReply result shelf shelf_new one one_new two two_new d d_new x x_new
-act_counts T result e shelf shelf_new one one_new two two_new d d_new x x_new fails same counts =
-    subst (λ (r : Result Reply ReplyError). CountsReply r shelf shelf_new one one_new two two_new d d_new x x_new) (fails_is result (of_act e) fails)
-    (fault_counts T e shelf shelf_new one one_new two two_new d d_new x x_new same counts)
+pub act_counts : (T : Type 0) {D : Type 0} (result : Result Reply ReplyError) (e : ActError) (shelf shelf_new one one_new two two_new : ℕ) (d d_new x x_new : D)
+    (failed_shelf failed_one failed_two : Type 0) → FailsWith result (of_act e) → shelf_new ≡ shelf → CountsDisks {T = T} (Err e) one one_new two two_new failed_one failed_two
+    → CountsReply result shelf shelf_new one one_new two two_new d d_new x x_new failed_shelf failed_one failed_two
+act_counts T result e shelf shelf_new one one_new two two_new d d_new x x_new failed_shelf failed_one failed_two fails same counts =
+    subst (λ (r : Result Reply ReplyError). CountsReply r shelf shelf_new one one_new two two_new d d_new x x_new failed_shelf failed_one failed_two)
+    (fails_is result (of_act e) fails)
+    (fault_counts T e shelf shelf_new one one_new two two_new d d_new x x_new failed_shelf failed_one failed_two same counts)
 
 -- a deed that has no reply isn't refused
 fault_no_refusal : (e : ActError) (c : Cause) → status_of (Err (of_act e)) ≡ status.Refused c → ⊥

@@ -16,7 +16,7 @@ use Rattle.wc_plan.specs.declared.deed.Asked.{Asked}
 use Rattle.wc_plan.specs.declared.deed.Asked.TheVariants as asked
 use Rattle.wc_plan.specs.declared.submission.Submission.{Submission}
 use Rattle.wc_act.specs.Events.{Changes, event_of, limits_of}
-use Rattle.wc_act.specs.Stored.{greatest_limits}
+use Rattle.wc_act.specs.StoreDeeds.{greatest_limits}
 
 -- ---- by the event
 

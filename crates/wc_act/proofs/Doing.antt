@@ -1,9 +1,7 @@
 -- What was done to a store, as the reply to a command.
-use Rattle.std.proofs.Common.{◌≡◌, ◌⊎◌, inl, inr, ◌+◌, ℕ, List, [], ◌∷◌, Some, Result, Ok, Err, IfOk, Bool, IsTrue, refl, sym, ap, subst, ◌∙◌}
+use Rattle.std.proofs.Common.{◌≡◌, ◌⊎◌, inl, inr, ◌+◌, ℕ, List, Some, Result, Ok, Err, IfOk, Bool, IsTrue, refl, sym, ap, subst, ◌∙◌}
 use Rattle.wc_disk.specs.declared.disk.Disk as disk
-use Rattle.wc_journal.specs.Reading.{holds, journal_of, batches_of}
-use Rattle.wc_record.specs.Spelled.{spelled}
-use Rattle.wc_world.specs.Snapshot.{snapshot}
+use Rattle.wc_journal.specs.Reading.{journal_of, batches_of}
 use Rattle.wc_state.specs.declared.record.What.{What}
 use Rattle.wc_world.specs.World.{World, empty}
 use Rattle.wc_store.specs.declared.error.StoreError.{StoreError}
@@ -13,9 +11,9 @@ use Rattle.wc_store.specs.Held.{Standing, IsHeld, nothing, damage, a_world}
 use Rattle.wc_store.specs.declared.place.Place.{Place}
 use Rattle.wc_store.specs.declared.place.Place.TheVariants.{One, Two}
 use Rattle.wc_store.specs.Places.{its}
-use Rattle.wc_store.specs.Preparing.{HasGeneration}
-use Rattle.wc_store.specs.Refusals.{RefusesPack, RefusesInit, IsUnchanged}
-use Rattle.wc_store.specs.Stores.{StandsFor, other}
+use Rattle.wc_store.specs.Prepared.{HasGeneration}
+use Rattle.wc_store.specs.Refusals.{RefusesPack, RefusesInit, IsDamageOf, IsUnchanged}
+use Rattle.wc_store.specs.Stores.{StandsFor, other, packed_image}
 use Rattle.wc_report.specs.Lines.{initialised_text, packed_text}
 use Rattle.wc_plan.specs.declared.deed.Begin.TheVariants as begin
 use Rattle.wc_plan.specs.declared.deed.Deed.TheVariants as deed
@@ -23,8 +21,8 @@ use Rattle.wc_plan.specs.declared.reply.Reply.{Reply}
 use Rattle.wc_plan.specs.declared.status.Cause.TheVariants as cause
 use Rattle.wc_act.specs.Owed.{visit, Does, OwedDeed}
 use Rattle.wc_plan.specs.Replies.{refuses, prints}
-use Rattle.wc_act.specs.Stored.{Images, Hold, HasJournal, GoesOn, is_damaged, is_full, Inits, AtStore, OnStore, Packs}
-use Rattle.wc_act.specs.Opening.{store_reply, NoWorld, TellsAt, HasNoWorld, HasOpened}
+use Rattle.wc_act.specs.StoreDeeds.{Images, Hold, HasJournal, GoesOn, is_damaged, is_full, Inits, AtStore, OnStore, Packs}
+use Rattle.wc_act.specs.Opened.{store_reply, NoWorld, TellsAt, HasNoWorld, HasOpened}
 
 pub some_is : (r s : Reply) → Some r ≡ Some s → r ≡ s
 some_is r s h = cc
@@ -87,12 +85,12 @@ module _ {D : Type 0} (g : disk.Ghosts D) where
   other_image Two one two = refl
 
   -- a new generation
-  pub has_packed : (store new : Store) (generation at : ℕ) (one two one_new two_new : D) (r : Reply) → StandsFor g store one two → StandsFor g new one_new two_new
+  pub has_packed : (store new : Store) (generation : ℕ) (one two one_new two_new : D) (r : Reply) → StandsFor g store one two → StandsFor g new one_new two_new
       → HasGeneration store.journal.generation store.world.world → its store.place one_new two_new ≡ its store.place one two
-      → journal_of (g.seen (other store.place one_new two_new)) ≡ holds 2 (store.journal.generation + 1) ((at, spelled (snapshot store.world.world)) ∷ [])
+      → g.seen (other store.place one_new two_new) ≡ packed_image (store.journal.generation + 1) store.world.world
       → new.world.world ≡ store.world.world → generation ≡ store.journal.generation + 1 → new.journal.generation ≡ generation → r ≡ prints (packed_text generation)
       → Packs (g.seen one, g.seen two) store.world.world (g.seen one_new, g.seen two_new) r
-  has_packed store new generation at one two one_new two_new r stands stands_new fits untouched written same more is reply = (
+  has_packed store new generation one two one_new two_new r stands stands_new fits untouched written same more is reply = (
     subst (λ (w : World). Hold (g.seen one_new, g.seen two_new) (a_world w)) same stands_new.held,
     (
       store.journal,
@@ -100,8 +98,7 @@ module _ {D : Type 0} (g : disk.Ghosts D) where
       inl (record {
         fits = fits;
         still = its_image store.place one_new two_new ∙ ap g.seen untouched ∙ sym (its_image store.place one two);
-        at = at;
-        written = ap journal_of (other_image store.place one_new two_new) ∙ written;
+        written = other_image store.place one_new two_new ∙ written;
         next = new.journal;
         kept = journal_held new one_new two_new stands_new;
         generation = is ∙ more;
@@ -171,21 +168,21 @@ module _ {D : Type 0} (g : disk.Ghosts D) where
   )
 
   pub refused_init : {E : Type 0} (e : StoreError) (one two one_new two_new : D) (result : Result Reply E)
-      → RefusesInit (IsTrue (g.tells one) × IsTrue (g.tells two)) (IsHeld (g.seen one) (g.seen two)) e
+      → RefusesInit (IsTrue (g.tells one) × IsTrue (g.tells two)) (IsHeld (g.seen one) (g.seen two)) e → IsDamageOf g one two e
       → IsUnchanged {T = Store} (Err e) (g.seen one) (g.seen one_new) → g.seen two_new ≡ g.seen two
       → IfOk result (λ r. store_reply e ≡ Some r) → IfOk result (λ r. OwedDeed (visit g one two one_new two_new) (deed.Begin begin.Init) r)
-  refused_init e one two one_new two_new (Err x) refused same same_too reply = reply
-  refused_init error.DiskFault one two one_new two_new (Ok r) refused same same_too reply = absurd (cc)
-  refused_init (error.Damaged disk at found) one two one_new two_new (Ok r) refused same same_too reply = (
-    inr (inr (disk, at, found, some_is r (is_damaged disk at found) (sym reply))),
+  refused_init e one two one_new two_new (Err x) refused is same same_too reply = reply
+  refused_init error.DiskFault one two one_new two_new (Ok r) refused is same same_too reply = absurd (cc)
+  refused_init (error.Damaged disk at found) one two one_new two_new (Ok r) refused is same same_too reply = (
+    inr (inr ((is.first, is.second), disk, at, found, is.are, some_is r (is_damaged disk at found) (sym reply))),
     λ told told_too.
         (damage disk at found, refused (told, told_too), ((λ i. (same i, same_too i)), some_is r (is_damaged disk at found) (sym reply))),
   )
-  refused_init (error.Full what count limit) one two one_new two_new (Ok r) refused same same_too reply = absurd refused
-  refused_init error.AlreadyThere one two one_new two_new (Ok r) refused same same_too reply = (
+  refused_init (error.Full what count limit) one two one_new two_new (Ok r) refused is same same_too reply = absurd refused
+  refused_init error.AlreadyThere one two one_new two_new (Ok r) refused is same same_too reply = (
     inr (inl (some_is r (refuses cause.StoreExists) (sym reply))),
     λ told told_too.
         let h = refused (told, told_too) in
         (a_world h.0, h.1, ((λ i. (same i, same_too i)), some_is r (refuses cause.StoreExists) (sym reply))),
   )
-  refused_init error.OutOfMemory one two one_new two_new (Ok r) refused same same_too reply = absurd (cc)
+  refused_init error.OutOfMemory one two one_new two_new (Ok r) refused is same same_too reply = absurd (cc)

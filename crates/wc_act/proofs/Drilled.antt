@@ -7,9 +7,10 @@ use Rattle.wc_journal.specs.declared.journal.Journal.{Journal}
 use Rattle.wc_world.specs.World.{World, empty}
 use Rattle.wc_store.specs.Held.{IsHeld, nothing, damage, a_world}
 use Rattle.wc_store.specs.declared.place.Place.TheVariants.{One}
+use Rattle.wc_store.proofs.Opened.{of_seen}
 use Rattle.wc_runner.specs.Leaves.{SomeTurns}
 use Rattle.wc_runner.specs.Trips as trips
-use Rattle.wc_runner.specs.declared.running.RunEnd.TheVariants.{AllEnded, Spent, Resting}
+use Rattle.wc_runner.specs.declared.runs.RunEnd.TheVariants.{AllEnded, Spent, Resting}
 use Rattle.wc_drill.specs.Draws.{sum_of_squares}
 use Rattle.wc_drill.specs.Texts.{drilled_text}
 use Rattle.wc_drill.specs.Drilled as drilled
@@ -27,12 +28,12 @@ use Rattle.wc_plan.specs.declared.reply.Reply.{Reply}
 use Rattle.wc_plan.specs.declared.status.Cause.TheVariants as cause
 use Rattle.wc_plan.specs.declared.status.Status.TheVariants as status
 use Rattle.wc_act.specs.Crashes.{AreDurable, ComesOfNothing, Kept, LeavesKept}
-use Rattle.wc_act.specs.Drilling.{HasEnded, FillsUp, IsDrilled, broken_reply, stopped}
+use Rattle.wc_act.specs.Drills.{HasEnded, FillsUp, IsDrilled, broken_reply, stopped}
 use Rattle.wc_act.specs.Owed.{visit, OwedDeed}
 use Rattle.wc_plan.specs.Replies.{refuses, prints}
 use Rattle.wc_act.specs.Statuses.{IsDoneOrFull}
 use Rattle.wc_act.specs.Rows.{Stays}
-use Rattle.wc_act.specs.Stored.{is_damaged, is_full}
+use Rattle.wc_act.specs.StoreDeeds.{is_damaged, is_full}
 use Rattle.wc_act.specs.Undone.{EndsWith, IsBeforeTurns, LeavesUnwritten}
 use Rattle.wc_act.proofs.Doing.{some_is}
 use Rattle.wc_act.proofs.Unwriting.{images_again}
@@ -112,8 +113,10 @@ module _ {D : Type 0} (g : disk.Ghosts D) (seed count : ℕ) (one two one_new tw
     refused_drill error.DiskFault (Ok r) refused none leaves reply = absurd (cc)
     refused_drill (error.Damaged disk at found) (Ok r) refused none leaves reply =
         let is : r ≡ is_damaged disk at found = some_is r (is_damaged disk at found) (sym reply) in (
-          inr (inr (disk, at, found, is)),
-          λ told told_too. (damage disk at found, refused (told, told_too), ((λ i. ((leaves told told_too).1 i, seen_two told told_too i)), is)),
+          inr (inr ((refused.first, refused.second), disk, at, found, refused.are, is)),
+          λ told told_too.
+              let held : IsHeld (g.seen one) (g.seen two) (damage disk at found) = of_seen g one two (λ a b. IsHeld a b (damage disk at found)) refused told told_too in
+              (damage disk at found, held, ((λ i. ((leaves told told_too).1 i, seen_two told told_too i)), is)),
         )
     refused_drill (error.Full what many limit) (Ok r) refused none leaves reply =
         let fills : FillsUp seed count refused.world refused.journal r = record {

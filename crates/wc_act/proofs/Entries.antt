@@ -46,8 +46,8 @@ use Rattle.wc_act.specs.Crashes.{AreDurable, Keeps}
 use Rattle.wc_act.specs.Entries.{IsStorable}
 use Rattle.wc_act.specs.Events.{Changes, RefusesAsked, IsRefusedFor, IsMadeBy, TellsAlone, Enters, IsLine, line_of, limits_of, process_of}
 use Rattle.wc_plan.specs.Replies.{prints, refuses}
-use Rattle.wc_act.specs.Stored.{Hold, greatest_limits, is_full}
-use Rattle.wc_act.specs.Opening.{IsTold, process_reply, store_reply, turn_reply}
+use Rattle.wc_act.specs.StoreDeeds.{Hold, greatest_limits, is_full}
+use Rattle.wc_act.specs.Opened.{IsTold, process_reply, store_reply, turn_reply}
 use Rattle.wc_plan.specs.Plans.{IsReadyAsked}
 use Rattle.wc_plan.specs.Submits.{IsReady, IsWithinLimits}
 use Rattle.wc_act.proofs.Doing.{journal_held, goes_on_journal, some_is}

@@ -9,14 +9,14 @@ use Rattle.wc_machine.specs.Sound.{IsSound}
 use Rattle.wc_store.specs.declared.store.Store.{Store}
 use Rattle.wc_store.specs.Stores.{StandsFor}
 use Rattle.wc_runner.specs.declared.error.RunError.TheVariants as run_error
-use Rattle.wc_runner.specs.declared.running.RunEnd.{RunEnd}
-use Rattle.wc_runner.specs.declared.running.RunEnd.TheVariants.{AllEnded, Spent, Resting}
+use Rattle.wc_runner.specs.declared.runs.RunEnd.{RunEnd}
+use Rattle.wc_runner.specs.declared.runs.RunEnd.TheVariants.{AllEnded, Spent, Resting}
 use Rattle.wc_runner.specs.Asked.{AreOfProcesses, IsAskedFor}
 use Rattle.wc_runner.specs.Codes.{AreBrought}
 use Rattle.wc_runner.specs.Marks.{AreNoWorse}
 use Rattle.wc_runner.specs.Outside.{Outside}
 use Rattle.wc_runner.specs.Refusals.{IsFullAt}
-use Rattle.wc_runner.specs.Running.{EndsAs, TakesAll, TakesFewer, TakesUpTo}
+use Rattle.wc_runner.specs.Runs.{EndsAs, TakesAll, TakesFewer, TakesUpTo}
 use Rattle.wc_cli.specs.declared.command.Command.{Command}
 use Rattle.wc_cli.specs.declared.command.Command.TheVariants.{Dry, Check, Init, Submit, Run, View, Pause, Play, Kill, Pack, Drill}
 use Rattle.wc_plan.specs.declared.deed.Deed.{Deed}
@@ -33,8 +33,8 @@ use Rattle.wc_act.specs.Outside.{Exchange, AsksByTurns, FillsOutside, RunsOutsid
 use Rattle.wc_plan.specs.Plans.{Plans, plan_of_run, seed_of}
 use Rattle.wc_plan.specs.Replies.{OwesStatus}
 use Rattle.wc_act.specs.Statuses.{IsDoneOrFull}
-use Rattle.wc_act.specs.Running.{status_of, has_run}
-use Rattle.wc_act.specs.Stored.{Images, is_full}
+use Rattle.wc_act.specs.Runs.{status_of, has_run}
+use Rattle.wc_act.specs.StoreDeeds.{Images, is_full}
 use Rattle.wc_act.proofs.Doing.{journal_held}
 use Rattle.wc_act.proofs.Idle.{plan_idle}
 
@@ -101,6 +101,9 @@ ok_not_spent is = cc
 resting_not_spent : status.Resting ≡ status.Spent → ⊥
 resting_not_spent is = cc
 
+ok_not_resting : status.Ok ≡ status.Resting → ⊥
+ok_not_resting is = cc
+
 full_not_spent : (what : What) (count limit : ℕ) → status.Full what count limit ≡ status.Spent → ⊥
 full_not_spent what count limit is = cc
 
@@ -114,6 +117,17 @@ end_not_full : (end : RunEnd) (what : What) (count limit : ℕ) → status_of en
 end_not_full AllEnded what count limit is = absurd (ok_not_full what count limit is)
 end_not_full Spent what count limit is = absurd (full_not_spent what count limit (sym is))
 end_not_full Resting what count limit is = absurd (resting_not_full what count limit is)
+
+same_end : (end other : RunEnd) → status_of end ≡ status_of other → end ≡ other
+same_end AllEnded AllEnded is = refl
+same_end AllEnded Spent is = absurd (ok_not_spent is)
+same_end AllEnded Resting is = absurd (ok_not_resting is)
+same_end Spent AllEnded is = absurd (ok_not_spent (sym is))
+same_end Spent Spent is = refl
+same_end Spent Resting is = absurd (resting_not_spent (sym is))
+same_end Resting AllEnded is = absurd (ok_not_resting (sym is))
+same_end Resting Spent is = absurd (resting_not_spent is)
+same_end Resting Resting is = refl
 
 all_spent : (o : Outside) (most : ℕ) (w v : World) (begun now : ℕ) (end : RunEnd) → EndsAs o most w v begun now end → status_of end ≡ status.Spent → TakesAll o most w v begun now
 all_spent o most w v begun now AllEnded ends is = absurd (ok_not_spent is)
@@ -137,14 +151,15 @@ module _ {D : Type 0} (g : disk.Ghosts D) (e : Exchange) (o : RunOptions) (w : W
     (takes : TakesUpTo (e.sees o.limits) o.turns w new.world.world e.rests e.rests_new) (codes : IsSound w → AreBrought (e.sees o.limits) w new.world.world)
     (marks : ¬ (e.sees o.limits).failed → AreNoWorse w new.world.world) (directories : AreOfProcesses e.placed w → AreOfProcesses e.placed_new new.world.world) where
   -- a run came to its end
-  pub ended_outside : (end : RunEnd) → EndsAs (e.sees o.limits) o.turns w new.world.world e.rests e.rests_new end → r ≡ has_run end w new.world.world
-      → RunsOutside e o w (g.seen one, g.seen two) r.status
-  ended_outside end ends reply =
+  pub ended_outside : (end : RunEnd) → EndsAs (e.sees o.limits) o.turns w new.world.world e.rests e.rests_new end → e.completes o.limits o.turns w end new.world.world
+      → r ≡ has_run end w new.world.world → RunsOutside e o w (g.seen one, g.seen two) r.status
+  ended_outside end ends trail reply =
       let same : status_of end ≡ r.status = sym (ap (λ (x : Reply). x.status) reply) in
       record {
         later = new.world.world;
         held = stands.held;
         takes = takes;
+        trail = λ other is. subst (λ (x : RunEnd). e.completes o.limits o.turns w x new.world.world) (same_end end other (same ∙ is)) trail;
         spent = λ is. all_spent (e.sees o.limits) o.turns w new.world.world e.rests e.rests_new end ends (same ∙ is);
         full = λ what count limit is. absurd (end_not_full end what count limit (same ∙ is));
         codes = codes;
@@ -154,13 +169,15 @@ module _ {D : Type 0} (g : disk.Ghosts D) (e : Exchange) (o : RunOptions) (w : W
 
   -- or found the store full
   pub filled_outside : (what : What) (count limit : ℕ) → TakesFewer (e.sees o.limits) o.turns w new.world.world e.rests e.rests_new
-      → IsFullAt (e.sees o.limits) new (run_error.Full what count limit) → r ≡ is_full what count limit → RunsOutside e o w (g.seen one, g.seen two) r.status
-  filled_outside what count limit fewer refused reply =
+      → IsFullAt (e.sees o.limits) new (run_error.Full what count limit) → e.breaks o.limits o.turns w new.journal (run_error.Full what count limit) new.world.world
+      → r ≡ is_full what count limit → RunsOutside e o w (g.seen one, g.seen two) r.status
+  filled_outside what count limit fewer refused broken reply =
       let same : status.Full what count limit ≡ r.status = sym (ap (λ (x : Reply). x.status) reply) in
       let fills : FillsOutside e o w new.world.world (g.seen one, g.seen two) what count limit = record {
         fewer = fewer;
         journal = new.journal;
         kept = journal_held g new one two stands;
+        broken = broken;
         pid = refused.pid;
         refused = refused.refused;
       } in
@@ -168,6 +185,7 @@ module _ {D : Type 0} (g : disk.Ghosts D) (e : Exchange) (o : RunOptions) (w : W
         later = new.world.world;
         held = stands.held;
         takes = takes;
+        trail = λ end is. absurd (end_not_full end what count limit (sym (same ∙ is)));
         spent = λ is. absurd (full_not_spent what count limit (same ∙ is));
         full = λ what' count' limit' is. as_told e o w new.world.world (g.seen one, g.seen two) what what' count count' limit limit' (same ∙ is) fills;
         codes = codes;

@@ -9,7 +9,7 @@ use Rattle.wc_plan.specs.declared.status.Fault.{Fault}
 use Rattle.wc_plan.specs.declared.status.Status.{Status}
 use Rattle.wc_plan.specs.declared.status.Status.TheVariants as status
 use Rattle.wc_act.specs.Crashes.{EachPair, HoldsSound, HoldsTheSame, AreDurable, HoldsKeeping, Kept, BegunBy, MadeBy, LeavesMade, StaySound}
-use Rattle.wc_act.specs.Stored.{Images}
+use Rattle.wc_act.specs.StoreDeeds.{Images}
 use Rattle.wc_act.proofs.Moments.{weaker_moments, exit_moments}
 
 no_world : (w : World) → nothing ≡ a_world w → ⊥

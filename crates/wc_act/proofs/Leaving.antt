@@ -23,16 +23,16 @@ use Rattle.wc_runner.specs.Laws.{StaysSound, TurnsKeepSound, WorldsContinueThems
 use Rattle.wc_runner.proofs.Continuing.{continues_itself}
 use Rattle.wc_runner.specs.Leaves.{LeavesHeld}
 use Rattle.wc_runner.specs.Outside.{Outside}
-use Rattle.wc_runner.specs.Running.{FitsIn, TakesTurns, TakesWithin}
+use Rattle.wc_runner.specs.Runs.{FitsIn, TakesTurns, TakesWithin}
 use Rattle.wc_act.specs.Crashes.{Keeps, HoldsKeeping, ComesOfNothing, Kept, WritesOne, LeavesPairs, LeavesKept}
 use Rattle.wc_plan.specs.declared.deed.RunOptions.{RunOptions}
-use Rattle.wc_act.specs.Running.{widest}
+use Rattle.wc_act.specs.Runs.{widest}
 use Rattle.wc_act.proofs.Moments.{at_moments}
 use Rattle.wc_act.proofs.Widening.{some_turns}
 use Rattle.wc_act.specs.Rows.{IsEmpty, Stays, TakesSome}
-use Rattle.wc_act.specs.Stored.{HasJournal, Images}
+use Rattle.wc_act.specs.StoreDeeds.{HasJournal, Images}
 
-keeps_itself : WorldsContinueThemselves → (w : World) → IsReached w → Keeps w w
+pub keeps_itself : WorldsContinueThemselves → (w : World) → IsReached w → Keeps w w
 keeps_itself law w reached sound = record { sound = sound; continues = law w reached; reached = reached }
 
 pub images_hold : (one two a b : List ℕ) (s : Standing) → IsHeld one two s → AreImages one two a b → IsHeld a b s
@@ -42,7 +42,7 @@ images_hold one two a b s held are =
 -- ---- a store that is begun
 
 -- the empty world is sound
-empty_stays : StaysSound empty empty
+pub empty_stays : StaysSound empty empty
 empty_stays = record { sound = empty_is_sound; continues = continues_itself empty nothing; reached = nothing }
 
 -- a store is begun with the empty world

@@ -24,3 +24,4 @@ pub mod Answered
 pub mod Exits
 pub mod Undamaged
 pub mod Acknowledging
+mod SoundDeeds

@@ -16,7 +16,7 @@ use Rattle.wc_plan.specs.Plans.{Plans}
 use Rattle.wc_plan.proofs.Once.{one_plan}
 use Rattle.wc_act.specs.Owed.{Visit, Done, OwedPlan, IsCertain, IsOwed}
 use Rattle.wc_act.specs.Rows.{row, work_row}
-use Rattle.wc_act.specs.Stored.{Images}
+use Rattle.wc_act.specs.StoreDeeds.{Images}
 use Rattle.wc_act.proofs.OnceStored.{one_init, one_on, one_pack, one_entry}
 use Rattle.wc_act.proofs.Viewing.{one_view}
 

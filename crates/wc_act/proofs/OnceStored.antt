@@ -19,7 +19,7 @@ use Rattle.wc_machine.specs.Refusals.{AreTooMany, FullOfBatches, HasRoom, IsOneB
 use Rattle.wc_machine.specs.declared.error.TurnError.TheVariants as turn_error
 use Rattle.wc_core.specs.Refusals.{AreChangesOf}
 use Rattle.wc_store.specs.declared.error.StoreError.TheVariants.{Full}
-use Rattle.wc_store.specs.Choosing.{on}
+use Rattle.wc_store.specs.Choices.{on}
 use Rattle.wc_store.specs.Held.{Standing, nothing, damage, a_world}
 use Rattle.wc_store.specs.Laws.{HeldIsOne}
 use Rattle.wc_store.specs.declared.place.Place.{Place}
@@ -35,7 +35,7 @@ use Rattle.wc_plan.specs.declared.status.Cause.TheVariants as cause
 use Rattle.wc_act.specs.Events.{Changes, Enters, IsCrowded, IsEntered, IsNotLive, IsRefusedFor, IsUnstored, OverlongIn, TellsAlone, TellsFull, event_of, limits_of}
 use Rattle.wc_plan.specs.Replies.{prints, refuses}
 use Rattle.wc_act.proofs.Asking.{IsOfLive, kills_of, one_batch, one_change, pauses_of, plays_of, some_process, submission_some}
-use Rattle.wc_act.specs.Stored.{Images, Hold, HasJournal, is_full, InitAt, Inits, AtStore, OnStore, IsPacked, IsTooFull, Packs}
+use Rattle.wc_act.specs.StoreDeeds.{Images, Hold, HasJournal, is_full, InitAt, Inits, AtStore, OnStore, IsPacked, IsTooFull, Packs}
 
 the_world : (v w : World) → a_world v ≡ a_world w → v ≡ w
 the_world v w h = cc

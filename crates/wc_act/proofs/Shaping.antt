@@ -1,14 +1,15 @@
 -- What the deeds may reply.
 use Rattle.std.proofs.Common.{◌≡◌, inl, inr, ℕ, List, Some, Result, Ok, Err, IfOk, sym, subst}
+use Rattle.wc_disk.specs.declared.disk.Disk as disk
 use Rattle.wc_journal.specs.declared.journal.Journal.{Journal}
 use Rattle.wc_world.specs.declared.change.Change.{Change}
 use Rattle.wc_world.specs.World.{World}
-use Rattle.wc_runner.specs.declared.running.RunEnd.{RunEnd}
-use Rattle.wc_runner.specs.declared.running.RunEnd.TheVariants.{AllEnded, Spent, Resting}
+use Rattle.wc_runner.specs.declared.runs.RunEnd.{RunEnd}
+use Rattle.wc_runner.specs.declared.runs.RunEnd.TheVariants.{AllEnded, Spent, Resting}
 use Rattle.wc_store.specs.declared.error.StoreError.{StoreError}
 use Rattle.wc_store.specs.declared.error.StoreError.TheVariants as error
 use Rattle.wc_store.specs.Held.{Standing}
-use Rattle.wc_store.specs.Refusals.{RefusesLoad, RefusesPack, RefusesCommit}
+use Rattle.wc_store.specs.Refusals.{RefusesLoad, RefusesPack, RefusesCommit, IsDamageOf}
 use Rattle.wc_plan.specs.declared.deed.Asked.{Asked}
 use Rattle.wc_plan.specs.declared.deed.Begin.TheVariants as begin
 use Rattle.wc_plan.specs.declared.deed.Deed.{Deed}
@@ -16,13 +17,13 @@ use Rattle.wc_plan.specs.declared.deed.Deed.TheVariants as deed
 use Rattle.wc_plan.specs.declared.deed.Work.{Work}
 use Rattle.wc_plan.specs.declared.deed.Work.TheVariants as work
 use Rattle.wc_plan.specs.declared.reply.Reply.{Reply}
-use Rattle.wc_act.specs.Opening.{NoWorld, TellsDamage, store_reply}
+use Rattle.wc_act.specs.Opened.{NoWorld, TellsDamage, store_reply}
 use Rattle.wc_plan.specs.Replies.{IsReplied}
 use Rattle.wc_act.specs.Entries.{IsStorable}
-use Rattle.wc_act.specs.Drilling.{has_drilled}
+use Rattle.wc_act.specs.Drills.{has_drilled}
 use Rattle.wc_act.specs.Events.{TellsAlone, limits_of}
 use Rattle.wc_act.specs.Rows.{row, work_row, event_row, pack_row}
-use Rattle.wc_act.specs.Stored.{is_damaged, is_full}
+use Rattle.wc_act.specs.StoreDeeds.{is_damaged, is_full}
 use Rattle.wc_act.proofs.Doing.{some_is}
 use Rattle.wc_act.proofs.Turns.{run_replied}
 use Rattle.wc_act.proofs.Viewing.{shown_replied, view_shown}
@@ -33,7 +34,7 @@ same_replied : (r s : Reply) → r ≡ s → IsReplied s.status → IsReplied r.
 same_replied r s is replied = subst (λ (x : Reply). IsReplied x.status) (sym is) replied
 
 damage_replied : (r : Reply) → TellsDamage r → IsReplied r.status
-damage_replied r d = same_replied r (is_damaged d.0 d.1 d.2) d.3 tt
+damage_replied r d = same_replied r (is_damaged d.1 d.2 d.3) d.5 tt
 
 none_replied : (r : Reply) → NoWorld r → IsReplied r.status
 none_replied r (inl is) = same_replied r _ is tt
@@ -72,12 +73,14 @@ row_replied (deed.Work w) r (inr p) = work_replied w r p
 
 -- ---- what is told of a refusal
 
-pub refused_load : (told : Type 0) (held : Standing → Type 0) (e : StoreError) (r : Reply) → RefusesLoad told held e → store_reply e ≡ Some r → NoWorld r
-refused_load told held error.DiskFault r refused reply = absurd (cc)
-refused_load told held (error.Damaged disk at found) r refused reply = inr (disk, at, found, sym (some_is (is_damaged disk at found) r reply))
-refused_load told held (error.Full what count limit) r refused reply = absurd refused
-refused_load told held error.AlreadyThere r refused reply = absurd refused
-refused_load told held error.OutOfMemory r refused reply = absurd (cc)
+pub refused_load : {D : Type 0} (g : disk.Ghosts D) (one two : D) (told : Type 0) (held : Standing → Type 0) (e : StoreError) (r : Reply) → RefusesLoad told held e
+    → IsDamageOf g one two e → store_reply e ≡ Some r → NoWorld r
+refused_load g one two told held error.DiskFault r refused is reply = absurd (cc)
+refused_load g one two told held (error.Damaged number at found) r refused is reply =
+    inr ((is.first, is.second), number, at, found, is.are, sym (some_is (is_damaged number at found) r reply))
+refused_load g one two told held (error.Full what count limit) r refused is reply = absurd refused
+refused_load g one two told held error.AlreadyThere r refused is reply = absurd refused
+refused_load g one two told held error.OutOfMemory r refused is reply = absurd (cc)
 
 pub refused_packing : {E : Type 0} (generation : ℕ) (w : World) (e : StoreError) (result : Result Reply E) → RefusesPack generation w e → IfOk result (λ r. store_reply e ≡ Some r)
     → IfOk result (λ r. pack_row.may r)

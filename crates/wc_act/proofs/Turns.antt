@@ -7,19 +7,19 @@ use Rattle.wc_world.specs.World.{World}
 use Rattle.wc_store.specs.declared.store.Store.{Store}
 use Rattle.wc_store.specs.Stores.{StandsFor}
 use Rattle.wc_runner.specs.declared.error.RunError.TheVariants.{Full}
-use Rattle.wc_runner.specs.declared.running.RunEnd.{RunEnd}
-use Rattle.wc_runner.specs.declared.running.RunEnd.TheVariants.{AllEnded, Spent, Resting}
+use Rattle.wc_runner.specs.declared.runs.RunEnd.{RunEnd}
+use Rattle.wc_runner.specs.declared.runs.RunEnd.TheVariants.{AllEnded, Spent, Resting}
 use Rattle.wc_runner.specs.Outside.{Outside}
 use Rattle.wc_runner.specs.Refusals.{IsFullAt, RefusesStep}
-use Rattle.wc_runner.specs.Running.{TakesTurns, TakesFewer, FitsAfter}
+use Rattle.wc_runner.specs.Runs.{TakesTurns, TakesFewer, FitsAfter}
 use Rattle.wc_plan.specs.declared.deed.RunOptions.{RunOptions}
 use Rattle.wc_plan.specs.declared.reply.Reply.{Reply}
 use Rattle.wc_plan.specs.Replies.{IsReplied}
-use Rattle.wc_act.specs.Running.{status_of, widest, has_run, EndsSo, FillsAt, Runs, TakesFewer as FewerTaken}
+use Rattle.wc_act.specs.Runs.{status_of, widest, has_run, EndsSo, FillsAt, Runs, TakesFewer as FewerTaken}
 use Rattle.wc_act.specs.Undone.{IsBeforeTurns}
 use Rattle.wc_act.proofs.Doing.{journal_held}
 use Rattle.wc_act.proofs.Widening.{refuses_step, takes_fewer}
-use Rattle.wc_act.specs.Stored.{GoesOn, Fits, is_full}
+use Rattle.wc_act.specs.StoreDeeds.{GoesOn, Fits, is_full}
 
 pub run_replied : (e : RunEnd) → IsReplied (status_of e)
 run_replied AllEnded = tt

@@ -1,8 +1,8 @@
 -- Neither damage nor an unsound world is told of disks that hold nothing or a sound world.
 use Rattle.std.proofs.Common.{◌≡◌, inl, inr, ⊎_elim, ℕ, List, Option, IsTrue, sym, subst}
 use Rattle.wc_journal.specs.declared.error.Found.{Found}
-use Rattle.wc_runner.specs.declared.running.RunEnd.{RunEnd}
-use Rattle.wc_runner.specs.declared.running.RunEnd.TheVariants.{AllEnded, Spent, Resting}
+use Rattle.wc_runner.specs.declared.runs.RunEnd.{RunEnd}
+use Rattle.wc_runner.specs.declared.runs.RunEnd.TheVariants.{AllEnded, Spent, Resting}
 use Rattle.wc_machine.specs.Sound.{IsSound}
 use Rattle.wc_world.specs.World.{World}
 use Rattle.wc_store.specs.Held.{Standing, nothing, damage, a_world}
@@ -21,14 +21,14 @@ use Rattle.wc_plan.specs.declared.status.Fault.{Fault}
 use Rattle.wc_plan.specs.declared.status.Status.{Status}
 use Rattle.wc_plan.specs.declared.status.Status.TheVariants as status
 use Rattle.wc_act.specs.Crashes.{HoldsSound}
-use Rattle.wc_act.specs.Drilling.{has_drilled}
+use Rattle.wc_act.specs.Drills.{has_drilled}
 use Rattle.wc_act.specs.Events.{TellsAlone}
 use Rattle.wc_act.specs.Owed.{Visit, OwedPlan}
 use Rattle.wc_plan.specs.Plans.{Plans}
 use Rattle.wc_plan.specs.Replies.{OwesStatus}
 use Rattle.wc_act.specs.Rows.{row, work_row}
-use Rattle.wc_act.specs.Running.{has_run}
-use Rattle.wc_act.specs.Stored.{Images, Hold}
+use Rattle.wc_act.specs.Runs.{has_run}
+use Rattle.wc_act.specs.StoreDeeds.{Images, Hold}
 use Rattle.wc_plan.proofs.Replied.{told_replied, IsDoneOrRefused}
 use Rattle.wc_act.proofs.Viewing.{IsFaultless, view_faultless}
 

@@ -8,8 +8,8 @@ use Rattle.wc_plan.specs.declared.reply.Reply.{Reply}
 use Rattle.wc_plan.specs.declared.status.Cause.TheVariants as cause
 use Rattle.wc_plan.specs.Replies.{refuses}
 use Rattle.wc_act.specs.Statuses.{IsDoneOrFull}
-use Rattle.wc_act.specs.Stored.{is_damaged}
-use Rattle.wc_act.specs.Opening.{store_reply}
+use Rattle.wc_act.specs.StoreDeeds.{is_damaged}
+use Rattle.wc_act.specs.Opened.{store_reply}
 use Rattle.wc_act.proofs.Doing.{some_is}
 
 -- a refusal of a load may be one of `init` too

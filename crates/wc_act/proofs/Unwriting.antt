@@ -18,7 +18,7 @@ use Rattle.wc_plan.specs.declared.status.Status.{Status}
 use Rattle.wc_plan.specs.declared.status.Status.TheVariants as status
 use Rattle.wc_act.specs.declared.error.ActError.{ActError}
 use Rattle.wc_plan.specs.Replies.{OwesStatus}
-use Rattle.wc_act.specs.Opening.{TellsFault}
+use Rattle.wc_act.specs.Opened.{TellsFault}
 use Rattle.wc_act.specs.Rows.{row, work_row}
 use Rattle.wc_act.specs.Undone.{LeavesUnwritten, IsBeforeTurns, IsBeforePacking, IsBeforeStoring, EndsWith}
 

@@ -3,13 +3,13 @@ use Rattle.std.proofs.Common.{◌≤◌, ◌+◌, ℕ, refl, arith}
 use Rattle.wc_world.specs.World.{World}
 use Rattle.wc_journal.specs.declared.journal.Journal.{Journal}
 use Rattle.wc_runner.specs.declared.error.RunError.{RunError}
-use Rattle.wc_runner.specs.declared.running.RunEnd.{RunEnd}
-use Rattle.wc_runner.specs.declared.running.RunEnd.TheVariants.{AllEnded, Spent, Resting}
+use Rattle.wc_runner.specs.declared.runs.RunEnd.{RunEnd}
+use Rattle.wc_runner.specs.declared.runs.RunEnd.TheVariants.{AllEnded, Spent, Resting}
 use Rattle.wc_runner.specs.Outside.{Outside}
 use Rattle.wc_runner.specs.Refusals.{RefusesStep}
-use Rattle.wc_runner.specs.Running.{TakesTurns, TakesAll, TakesUpTo, TakesFewer, EndsAs}
+use Rattle.wc_runner.specs.Runs.{TakesTurns, TakesAll, TakesUpTo, TakesFewer, EndsAs}
 use Rattle.wc_runner.proofs.Widened.{Widens, step_widened, turns_widened}
-use Rattle.wc_act.specs.Running.{widest, TakesJust, EndsSo, TakesFewer as FewerTaken}
+use Rattle.wc_act.specs.Runs.{widest, TakesJust, EndsSo, TakesFewer as FewerTaken}
 
 module _ (o : Outside) where
   wide : Widens o (widest o.limits)

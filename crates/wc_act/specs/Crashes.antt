@@ -18,7 +18,7 @@ use Rattle.wc_act.specs.Owed.{OfSome}
 use Rattle.wc_plan.specs.Plans.{Plans}
 use Rattle.wc_plan.specs.Replies.{Writes}
 use Rattle.wc_act.specs.Rows.{row}
-use Rattle.wc_act.specs.Stored.{Images}
+use Rattle.wc_act.specs.StoreDeeds.{Images}
 
 -- ---- what images hold
 
@@ -134,8 +134,8 @@ pub record StaySound {D : Type 0} (g : disk.Ghosts D) (one two one_new two_new :
   pub whole : (disk at : ℕ) (found : Option ℕ) → result ≡ status.Damaged disk at found → ⊥
   pub faultless : (f : Fault) → result ≡ status.Unsound f → ⊥
 
--- What stands after some deed that the words plan was done, of which this was written: nothing is pending, and each pair of images holds a
--- world, the one that the disks read as, of which this is acknowledged.
+-- What stands after some deed that the words plan was done, of which this was written: there is a world that each pair of images holds, and of
+-- which this is acknowledged.
 pub record Stands {D : Type 0} (g : disk.Ghosts D) (told : Option (List ℕ → Option (List ℕ))) (words : List (List ℕ)) (one two : D)
     (taken taken_new : Option (List ℕ)) : Type 0 where
   pub deed : Deed

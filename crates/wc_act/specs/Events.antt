@@ -25,7 +25,7 @@ use Rattle.wc_plan.specs.declared.reply.Reply.{Reply}
 use Rattle.wc_plan.specs.declared.status.Cause.{Cause}
 use Rattle.wc_plan.specs.declared.status.Cause.TheVariants as cause
 use Rattle.wc_plan.specs.Replies.{prints, refuses}
-use Rattle.wc_act.specs.Stored.{Images, Hold, HasJournal, GoesOn, greatest_limits, Fits, is_full}
+use Rattle.wc_act.specs.StoreDeeds.{Images, Hold, HasJournal, GoesOn, greatest_limits, Fits, is_full}
 
 -- the event of the machine: a process is submitted, or one that is there is paused, plays, or is killed
 abbrev pub event_of : Asked → Event
@@ -131,7 +131,7 @@ MayHappen a w v images = (v ≡ w) ⊎ IsMadeBy a w v
 
 -- ---- what it does to a store
 
--- The event has changes, which are stored as one batch within the limits, behind what the journal had, and its line is written.
+-- The event has changes, which are stored as one batch within the limits; the journal goes on by just their bytes, and its line is written.
 pub record IsEntered (a : Asked) (before : Images) (w : World) (after : Images) (r : Reply) : Type 0 where
   pub changes : List Change
   pub submits : Changes w a changes

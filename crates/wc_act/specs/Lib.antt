@@ -1,11 +1,11 @@
 pub mod Statuses
-pub mod Calls
-pub mod Stored
-pub mod Opening
+pub mod Counts
+pub mod StoreDeeds
+pub mod Opened
 pub mod Views
 pub mod Events
-pub mod Running
-pub mod Drilling
+pub mod Runs
+pub mod Drills
 pub mod Undone
 pub mod Acknowledged
 pub mod Rows
@@ -13,3 +13,4 @@ pub mod Owed
 pub mod Crashes
 pub mod Entries
 pub mod Outside
+pub mod Laws

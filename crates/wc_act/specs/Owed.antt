@@ -13,7 +13,7 @@ use Rattle.wc_plan.specs.declared.status.Status.TheVariants as status
 use Rattle.wc_plan.specs.Plans.{Plans}
 use Rattle.wc_act.specs.Statuses.{IsDoneOrFull}
 use Rattle.wc_act.specs.Rows.{Row, row}
-use Rattle.wc_act.specs.Stored.{Images, Hold}
+use Rattle.wc_act.specs.StoreDeeds.{Images, Hold}
 
 -- What a call sees of the disks: whether they tell their bytes, and what they read as at entry and at exit.
 pub record Visit : Type 0 where

@@ -2,9 +2,9 @@
 use Rattle.std.specs.Prelude.{◌≡◌, ◌⊎◌, ◌+◌, ℕ, false, true, List}
 use Rattle.wc_state.specs.declared.record.What.{What}
 use Rattle.wc_world.specs.World.{World, empty}
-use Rattle.wc_runner.specs.Running.{TakesTurns}
+use Rattle.wc_runner.specs.Runs.{TakesTurns}
 use Rattle.wc_store.specs.Held.{Standing}
-use Rattle.wc_store.specs.Preparing.{HasGeneration}
+use Rattle.wc_store.specs.Prepared.{HasGeneration}
 use Rattle.wc_store.specs.Refusals.{RefusesPack}
 use Rattle.wc_store.specs.declared.error.StoreError.TheVariants.{Full}
 use Rattle.wc_report.specs.Lines.{initialised_text, submitted_text, paused_text, playing_text, killed_text, packed_text}
@@ -23,12 +23,12 @@ use Rattle.wc_plan.specs.declared.status.Cause.TheVariants as cause
 use Rattle.wc_plan.specs.declared.status.Status.{Status}
 use Rattle.wc_drill.specs.Drilled.{Drills}
 use Rattle.wc_act.specs.Acknowledged.{HasProcess, HasMark, IsKilled}
-use Rattle.wc_act.specs.Drilling.{DrillAt, IsToldDrilled, MayDrill}
+use Rattle.wc_act.specs.Drills.{DrillAt, IsToldDrilled, MayDrill}
 use Rattle.wc_act.specs.Events.{MayHappen, MayEnter, Enters}
-use Rattle.wc_act.specs.Opening.{NoWorld, TellsDamage}
+use Rattle.wc_act.specs.Opened.{NoWorld, TellsDamage}
 use Rattle.wc_plan.specs.Replies.{refuses, prints}
-use Rattle.wc_act.specs.Running.{widest, MayRun, Runs}
-use Rattle.wc_act.specs.Stored.{Fits, Images, is_full, InitAt, AtStore, Packs}
+use Rattle.wc_act.specs.Runs.{widest, MayRun, Runs}
+use Rattle.wc_act.specs.StoreDeeds.{Fits, Images, is_full, InitAt, AtStore, Packs}
 use Rattle.wc_act.specs.Undone.{IsBeforeStoring, IsBeforeTurns, IsBeforePacking}
 use Rattle.wc_act.specs.Views.{Shows, ShowsStill}
 

@@ -19,7 +19,7 @@ use Rattle.wc_plan.specs.declared.status.Fault.{Fault}
 use Rattle.wc_plan.specs.declared.status.Fault.TheVariants as fault
 use Rattle.wc_plan.specs.declared.status.Status.TheVariants as status
 use Rattle.wc_plan.specs.Replies.{refuses, prints}
-use Rattle.wc_act.specs.Stored.{Images}
+use Rattle.wc_act.specs.StoreDeeds.{Images}
 
 -- a process is shown by its recorded tree, if there is such a process
 abbrev pub ShowsTree : ℕ → World → Reply → Type 0

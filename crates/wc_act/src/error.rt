@@ -42,7 +42,7 @@ pub enum ReplyError {
 
 impl From<PlanError> for ReplyError {
     ghost use Rattle.std.specs.Prelude.{◌≡◌};
-    ghost use Rattle.wc_act.specs.Calls.{of_plan};
+    ghost use Rattle.wc_act.specs.Counts.{of_plan};
 
     ghost from_gives = { λ error e. e ≡ of_plan error };
 
@@ -56,7 +56,7 @@ impl From<PlanError> for ReplyError {
 
 impl From<ActError> for ReplyError {
     ghost use Rattle.std.specs.Prelude.{◌≡◌};
-    ghost use Rattle.wc_act.specs.Calls.{of_act};
+    ghost use Rattle.wc_act.specs.Counts.{of_act};
 
     ghost from_gives = { λ error e. e ≡ of_act error };
 

@@ -4,21 +4,21 @@ ghost use Rattle.std.specs.Prelude.{◌≡◌, ◌≢◌, ◌≤◌, [], true, N
 ghost use Rattle.wc_machine.specs.Submitting.{submitted_number};
 ghost use Rattle.wc_state.specs.Ranges.{AreLimits};
 ghost use Rattle.wc_store.specs.Stores.{StandsFor};
-ghost use Rattle.wc_act.specs.Calls.{CountsDisks};
+ghost use Rattle.wc_act.specs.Counts.{CountsDisks};
 ghost use Rattle.wc_act.specs.Crashes.{AreDurable, LeavesPairs, HoldsKeeping};
 ghost use Rattle.wc_act.specs.Entries.{IsEntryOf, IsStorable};
 ghost use Rattle.wc_act.specs.Events.{Changes, IsLine, RefusesAsked, limits_of, line_of, process_of};
-ghost use Rattle.wc_act.specs.Opening.{IsTold, turn_reply};
+ghost use Rattle.wc_act.specs.Opened.{IsTold, turn_reply};
 ghost use Rattle.wc_plan.specs.Plans.{IsReadyAsked};
 ghost use Rattle.wc_act.specs.Rows.{event_row};
-ghost use Rattle.wc_act.specs.Stored.{greatest_limits};
+ghost use Rattle.wc_act.specs.StoreDeeds.{greatest_limits};
 ghost use Rattle.wc_plan.specs.Submits.{IsReady};
 ghost use Rattle.wc_act.specs.Undone.{EndsWith};
 ghost use Rattle.wc_plan.specs.declared.deed.Asked.TheVariants.{Submit, Pause, Play, Kill};
 
 use crate::error::ActError;
 use crate::laws::worlds_are_kept;
-use crate::opening::{full, refused};
+use crate::opened::{full, refused};
 use std::alloc::{AllocError, Global};
 use wc_core::{TurnError, kill_changes, pause_changes, play_changes, submit_changes};
 use wc_disk::Disk;
@@ -35,7 +35,7 @@ pub enum Entry {
     /// Nothing is stored, and this is told.
     Told(Reply),
     /// These changes are stored, and then this line is written.
-    Stored(Changes, Text),
+    Commits(Changes, Text),
 }
 
 /// The greatest limits that may be set.
@@ -225,7 +225,7 @@ fn entry_of(
     let pid = process_of(&asked);
     match changes_of(alloc, world, limits, asked) {
         Ok(changes) if changes.is_empty() => Ok(Entry::Told(print(there(line)))),
-        Ok(changes) => Ok(Entry::Stored(changes, there(line))),
+        Ok(changes) => Ok(Entry::Commits(changes, there(line))),
         Err(error) => Ok(Entry::Told(refusal(alloc, pid, error)?)),
     }
 }
@@ -248,13 +248,13 @@ pub(crate) fn event_reply<D: Disk>(
     ensures durable { IfOk result (λ r. IsTrue (D.tells one.old) → IsTrue (D.tells two.old) → AreDurable D.Disk one.new two.new) }
     ensures tells { (D.tells one.new ≡ D.tells one.old) × (D.tells two.new ≡ D.tells two.old) }
     ensures untouched { EndsWith (event_row asked).undone result → (one.new ≡ one.old) × (two.new ≡ two.old) }
-    ensures cause { CountsDisks result (D.faults one.old) (D.faults one.new) (D.faults two.old) (D.faults two.new) }
+    ensures cause { CountsDisks result (D.faults one.old) (D.faults one.new) (D.faults two.old) (D.faults two.new) (D.failed one.new) (D.failed two.new) }
 {
     worlds_are_kept();
     let limits = limits_of(&asked);
     match entry_of(alloc, store.world(), &limits, asked)? {
         Entry::Told(reply) => Ok(reply),
-        Entry::Stored(changes, line) => match store.commit(alloc, one, two, changes, &limits) {
+        Entry::Commits(changes, line) => match store.commit(alloc, one, two, changes, &limits) {
             Ok(()) => Ok(print(line)),
             Err(error) => refused(alloc, error),
         },

@@ -6,9 +6,12 @@ ghost use Rattle.wc_store.specs.Laws.{HeldIsOne, HeldIsReached};
 ghost use Rattle.wc_runner.specs.Laws.{WorldsContinueThemselves};
 ghost use Rattle.wc_plan.specs.declared.deed.Deed.{Deed};
 ghost use Rattle.wc_act.specs.Crashes.{BegunBy, HoldsSound, IsOfEachMoment, Kept, MadeBy};
+ghost use Rattle.wc_act.specs.Laws.{DeedsBeginSound, DeedsKeepSound, ToldTreesAreMeant};
 ghost use Rattle.wc_act.specs.Rows.{row};
 
 use wc_disk::Disk;
+use wc_drill::drills_are_sound;
+use wc_laws::events_keep_sound;
 use wc_runner::worlds_continue_themselves;
 use wc_store::{held_worlds_are_reached, images_hold_one_thing};
 
@@ -37,3 +40,18 @@ pub fn worlds_are_kept()
     held_worlds_are_reached();
     worlds_continue_themselves();
 }
+
+/// What a deed may make of a sound world is sound and continues it, and what it may begin a store with is sound.
+pub fn deeds_keep_worlds_sound()
+    ensures keep { DeedsKeepSound }
+    ensures begin { DeedsBeginSound }
+{
+    events_keep_sound();
+    drills_are_sound();
+    worlds_continue_themselves();
+}
+
+/// What `tree` tells of a process of a sound world that has ended is the tree that its definition means.
+pub fn told_trees_are_meant()
+    ensures { ToldTreesAreMeant }
+{}

@@ -1,17 +1,20 @@
 //! What a deed does with the disks that hold a store, with a transport and a clock, and what is told of it.
 #![tactic(auto)]
 
-mod acting;
-mod beginning;
-mod drilling;
+mod deeds;
+mod drills;
 mod error;
 mod events;
+mod init;
 mod laws;
-mod opening;
-mod packing;
-mod running;
+mod opened;
+mod packs;
+mod runs;
 mod views;
 
-pub use acting::act;
+pub use deeds::act;
 pub use error::{ActError, ReplyError};
-pub use laws::{empty_disks_hold_nothing, pairs_of_any_moments_are_kept, worlds_are_kept};
+pub use laws::{
+    deeds_keep_worlds_sound, empty_disks_hold_nothing, pairs_of_any_moments_are_kept,
+    told_trees_are_meant, worlds_are_kept,
+};

@@ -9,9 +9,8 @@ ghost use Rattle.wc_world.specs.Trees.{values_alone};
 ghost use Rattle.wc_machine.specs.Recorded.{its_definition, recorded_inputs};
 
 use std::alloc::{AllocError, Global};
-use wc_meaning::find_definition;
 use wc_state::{Named, ProcessRecord};
-use wc_syntax::{Checked, Definition};
+use wc_syntax::{Checked, Definition, find_definition};
 use wc_trees::env_of;
 use wc_value::{Duplicate, Fields, Text};
 use wc_world::{World, WorldError};

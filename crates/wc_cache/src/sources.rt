@@ -2,27 +2,16 @@
 
 ghost use Rattle.std.specs.Prelude.{◌≡◌, ◌+◌, ◌↔◌, IsTrue};
 ghost use Rattle.std.specs.Option.{option_copied};
-ghost use Rattle.wc_world.specs.Records.{is_calculation};
 ghost use Rattle.wc_machine.specs.Recorded.{its_definition};
 ghost use Rattle.wc_machine.specs.Sources.{IsValidSource, marks};
 ghost use Rattle.wc_cache.specs.Finding.{is_unmarked, is_unmarked_by};
 
 use crate::recorded::definition_of;
-use wc_meaning::head;
-use wc_state::{ProcessKind, ProcessRecord};
-use wc_syntax::Definition;
+use wc_fits::is_calculation;
+use wc_state::ProcessRecord;
+use wc_syntax::{Definition, head};
 use wc_value::ProcessState;
 use wc_world::World;
-
-/// Whether processes of this kind calculate.
-fn is_calculation(kind: ProcessKind) -> bool
-    ensures { result ≡ is_calculation kind }
-{
-    match kind {
-        ProcessKind::Function | ProcessKind::Job => true,
-        ProcessKind::Chain => false,
-    }
-}
 
 /// Whether a definition marks a status as one that no other process takes over.
 fn marks(definition: &Definition, status: u32) -> bool

@@ -10,9 +10,8 @@ use crate::children::Caller;
 use crate::setting::is_now;
 use std::alloc::{AllocError, Global};
 use wc_graph::{Link, LinkType};
-use wc_meaning::{find_definition, head};
 use wc_state::{Outs, Part};
-use wc_syntax::{Checked, Definition, PortList};
+use wc_syntax::{Checked, Definition, PortList, find_definition, head};
 use wc_value::{Duplicate, ProcessState, Text};
 use wc_world::{Change, Changes};
 

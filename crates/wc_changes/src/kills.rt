@@ -3,12 +3,12 @@
 ghost use Rattle.std.specs.Prelude.{◌≡◌, ◌++◌, Some, IfOk, OnOk, slice_get};
 ghost use Rattle.std.specs.Option.{option_map};
 ghost use Rattle.wc_world.specs.Linked.{call_in};
-ghost use Rattle.wc_world.specs.Records.{calls, find_record, is_call_from};
+ghost use Rattle.wc_world.specs.Records.{find_record};
 ghost use Rattle.wc_machine.specs.Killing.{ends_killed, kill_below, kill_changes, killed};
 
 use crate::fuel::fuel_after;
 use std::alloc::{AllocError, Global};
-use wc_graph::{Link, LinkType};
+use wc_fits::is_call_from;
 use wc_state::{Part, ProcessRecord};
 use wc_trees::places_from;
 use wc_value::ProcessState;
@@ -16,23 +16,6 @@ use wc_world::{Change, Changes, SetProcess, World, has_ended};
 
 /// Depths go from 1 to 16, and a call goes one deeper.
 const LEVELS: u32 = 16;
-
-/// Whether links of this type are calls.
-fn calls(link: LinkType) -> bool
-    ensures { result ≡ calls link }
-{
-    match link {
-        LinkType::CallCalc | LinkType::CallWork => true,
-        LinkType::InputCalc | LinkType::InputWork | LinkType::Create | LinkType::Return => false,
-    }
-}
-
-/// Whether a link leads from a process to one that it called.
-fn is_call_from(pid: u32, link: &Link) -> bool
-    ensures { result ≡ is_call_from pid link.now }
-{
-    calls(link.link) && link.source == pid
-}
 
 /// The number of the process that the link at a place calls, where it is a call from this one.
 fn called_at(world: &World, pid: u32, place: usize) -> Option<u32>

@@ -8,9 +8,8 @@ ghost use Rattle.wc_machine.specs.Submitting.{input_link};
 ghost use Rattle.wc_changes.specs.Known.{known_at};
 
 use wc_graph::LinkType;
-use wc_meaning::find_definition;
 use wc_state::ProcessKind;
-use wc_syntax::{Checked, Definition};
+use wc_syntax::{Checked, Definition, find_definition};
 use wc_value::{Text, Words};
 use wc_world::{Known, World};
 

@@ -7,7 +7,7 @@ pub mod Results
 pub mod Happening
 pub mod Asking
 pub mod Asked
-pub mod Turns
+pub mod TurnsByKind
 pub mod Marking
 mod Held
 mod Free

@@ -26,7 +26,7 @@ use Rattle.wc_machine.proofs.Counted.{nodes_more}
 use Rattle.wc_machine.proofs.Rooms.{none_full_batch}
 use Rattle.wc_core.specs.Refusals.{AreChangesOf, RefusesMark}
 use Rattle.wc_core.proofs.Happening.{its_changes, leaves_sound}
-use Rattle.wc_core.proofs.Turns.{found_itself}
+use Rattle.wc_core.proofs.TurnsByKind.{found_itself}
 
 -- there is a batch for changes, where there are some
 abbrev pub HasBatchFor : World → List Change → Type 0

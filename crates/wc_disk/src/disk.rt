@@ -27,6 +27,9 @@ pub trait Disk {
     /// How often a call has failed.
     ghost faults: { Self → ℕ };
 
+    /// The last call failed. Nothing says so after a call that succeeded.
+    ghost failed: { Self → Type 0 };
+
     /// The number of bytes.
     fn len(&mut self) -> Result<u64, Failed>
         ensures len { IfOk result (λ n. IsTrue (tells self.old) → n ≡ length (seen self.old)) }
@@ -34,7 +37,7 @@ pub trait Disk {
         ensures crash { IsWithin (may_leave self.old) (may_leave self.new) }
         ensures time { Elapses (moment self.old) (moment self.new) (left_since self.old) (left_since self.new) (may_leave self.new) }
         ensures tells { tells self.new ≡ tells self.old }
-        ensures cause { CountsFault result (faults self.old) (faults self.new) };
+        ensures cause { CountsFault result (faults self.old) (faults self.new) (failed self.new) };
 
     /// Fills `into` with the bytes from this offset on.
     fn read(&mut self, at: u64, into: &mut [u8]) -> Result<(), Failed>
@@ -44,7 +47,7 @@ pub trait Disk {
         ensures crash { IsWithin (may_leave self.old) (may_leave self.new) }
         ensures time { Elapses (moment self.old) (moment self.new) (left_since self.old) (left_since self.new) (may_leave self.new) }
         ensures tells { tells self.new ≡ tells self.old }
-        ensures cause { CountsFault result (faults self.old) (faults self.new) };
+        ensures cause { CountsFault result (faults self.old) (faults self.new) (failed self.new) };
 
     /// Writes over what is there, and past the end. Until a sync, a crash may leave any bytes in the range.
     fn write_at(&mut self, at: u64, bytes: &[u8]) -> Result<(), Failed>
@@ -53,7 +56,7 @@ pub trait Disk {
         ensures crash { Follows (Torn at (length bytes.now) (length (seen self.old))) (may_leave self.old) (may_leave self.new) }
         ensures time { Elapses (moment self.old) (moment self.new) (left_since self.old) (left_since self.new) (may_leave self.new) }
         ensures tells { tells self.new ≡ tells self.old }
-        ensures cause { CountsFault result (faults self.old) (faults self.new) };
+        ensures cause { CountsFault result (faults self.old) (faults self.new) (failed self.new) };
 
     /// Cuts the file to a length that it has.
     fn cut(&mut self, len: u64) -> Result<(), Failed>
@@ -62,7 +65,7 @@ pub trait Disk {
         ensures crash { Follows (Cut len) (may_leave self.old) (may_leave self.new) }
         ensures time { Elapses (moment self.old) (moment self.new) (left_since self.old) (left_since self.new) (may_leave self.new) }
         ensures tells { tells self.new ≡ tells self.old }
-        ensures cause { CountsFault result (faults self.old) (faults self.new) };
+        ensures cause { CountsFault result (faults self.old) (faults self.new) (failed self.new) };
 
     /// After a sync that succeeds a crash leaves what a read gives.
     fn sync(&mut self) -> Result<(), Failed>
@@ -71,7 +74,7 @@ pub trait Disk {
         ensures crash { IsWithin (may_leave self.old) (may_leave self.new) }
         ensures time { Elapses (moment self.old) (moment self.new) (left_since self.old) (left_since self.new) (may_leave self.new) }
         ensures tells { tells self.new ≡ tells self.old }
-        ensures cause { CountsFault result (faults self.old) (faults self.new) };
+        ensures cause { CountsFault result (faults self.old) (faults self.new) (failed self.new) };
 
     /// Either each disk of this kind tells its bytes, or none does.
     ghost alike: { (one two : Self) → tells one ≡ tells two };

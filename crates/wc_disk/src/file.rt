@@ -1,5 +1,5 @@
 //! A file of the system as a disk. What a real file does is trusted: this disk tells nothing of its bytes.
-ghost use Rattle.std.specs.Prelude.{◌≡◌, false};
+ghost use Rattle.std.specs.Prelude.{◌≡◌, false, IsTrue};
 ghost use Rattle.wc_io.specs.Counts.{CountsFault};
 
 use crate::disk::Disk;
@@ -21,6 +21,7 @@ pub struct FileDisk<R: Drop> {
     path: Text,
     file: Option<File>,
     faults: u64,
+    failed: bool,
 }
 
 impl<R: Files<File = File> + Drop> FileDisk<R> {
@@ -34,14 +35,20 @@ impl<R: Files<File = File> + Drop> FileDisk<R> {
             path,
             file: None,
             faults: 0,
+            failed: false,
         }
     }
 }
 
-/// Counts a call of the system that failed.
-fn count_fault<T: Drop>(outcome: io::Result<T>, faults: &mut u64) -> Result<T, Failed>
-    ensures { CountsFault result faults.old faults.new }
+/// Counts a call of the system that failed, and keeps whether it did.
+fn count_fault<T: Drop>(
+    outcome: io::Result<T>,
+    faults: &mut u64,
+    failed: &mut bool,
+) -> Result<T, Failed>
+    ensures { CountsFault result faults.old faults.new (IsTrue failed.new) }
 {
+    *failed = outcome.is_err();
     match outcome {
         Ok(answer) => Ok(answer),
         Err(_) => {
@@ -176,7 +183,7 @@ fn sync_all(file: &Option<File>) -> io::Result<()> {
 }
 
 impl<R: Files<File = File> + Drop> Disk for FileDisk<R> {
-    ghost use Rattle.std.specs.Prelude.{false, []};
+    ghost use Rattle.std.specs.Prelude.{false, IsTrue, []};
     ghost use Rattle.std.proofs.lemmas.Bool.{false≢true};
 
     ghost tells = { λ _. false };
@@ -191,6 +198,8 @@ impl<R: Files<File = File> + Drop> Disk for FileDisk<R> {
 
     ghost faults = { λ d. d.faults };
 
+    ghost failed = { λ d. IsTrue d.failed };
+
     ghost alike = { λ one two i. false };
 
     ghost reads_as = { λ d told. absurd (false≢true told) };
@@ -201,38 +210,46 @@ impl<R: Files<File = File> + Drop> Disk for FileDisk<R> {
 
     fn len(&mut self) -> Result<u64, Failed> {
         let outcome = open_once(&self.rt, &self.path, &mut self.file);
-        count_fault(outcome, &mut self.faults)?;
-        count_fault(length(&self.file), &mut self.faults)
+        count_fault(outcome, &mut self.faults, &mut self.failed)?;
+        count_fault(length(&self.file), &mut self.faults, &mut self.failed)
     }
 
     fn read(&mut self, at: u64, into: &mut [u8]) -> Result<(), Failed> {
         let outcome = open_once(&self.rt, &self.path, &mut self.file);
-        count_fault(outcome, &mut self.faults)?;
-        count_fault(read_at(&self.file, at, into), &mut self.faults)
+        count_fault(outcome, &mut self.faults, &mut self.failed)?;
+        count_fault(
+            read_at(&self.file, at, into),
+            &mut self.faults,
+            &mut self.failed,
+        )
     }
 
     fn write_at(&mut self, at: u64, bytes: &[u8]) -> Result<(), Failed> {
         let outcome = open_once(&self.rt, &self.path, &mut self.file);
-        count_fault(outcome, &mut self.faults)?;
+        count_fault(outcome, &mut self.faults, &mut self.failed)?;
         if self.file.is_none() {
             let made = make(&self.rt, self.path.as_str(), at);
-            self.file = Some(count_fault(made, &mut self.faults)?);
+            self.file = Some(count_fault(made, &mut self.faults, &mut self.failed)?);
         }
         match &self.file {
             None => Ok(()),
-            Some(file) => count_fault(write_inside(file, at, bytes), &mut self.faults),
+            Some(file) => count_fault(
+                write_inside(file, at, bytes),
+                &mut self.faults,
+                &mut self.failed,
+            ),
         }
     }
 
     fn cut(&mut self, len: u64) -> Result<(), Failed> {
         let outcome = open_once(&self.rt, &self.path, &mut self.file);
-        count_fault(outcome, &mut self.faults)?;
-        count_fault(cut_to(&self.file, len), &mut self.faults)
+        count_fault(outcome, &mut self.faults, &mut self.failed)?;
+        count_fault(cut_to(&self.file, len), &mut self.faults, &mut self.failed)
     }
 
     fn sync(&mut self) -> Result<(), Failed> {
         let outcome = open_once(&self.rt, &self.path, &mut self.file);
-        count_fault(outcome, &mut self.faults)?;
-        count_fault(sync_all(&self.file), &mut self.faults)
+        count_fault(outcome, &mut self.faults, &mut self.failed)?;
+        count_fault(sync_all(&self.file), &mut self.faults, &mut self.failed)
     }
 }

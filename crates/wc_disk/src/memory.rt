@@ -79,14 +79,16 @@ impl MemoryDisk {
     }
 }
 
-/// Counts a change for which no memory was left as a fault.
+/// Counts a change for which no memory was left as a fault, in a call that is not to fail by its number.
 fn count_starved(
     outcome: Result<(), AllocError>,
     schedule: &mut Schedule,
     starved: &mut u64,
 ) -> Result<(), Failed>
+    requires unlisted { schedule.old.failed ≡ false }
     ensures same { is_err result ≡ is_err outcome }
-    ensures cause { CountsFault result schedule.old.faults schedule.new.faults }
+    ensures cause { CountsFault result schedule.old.faults schedule.new.faults (IsTrue schedule.new.failed) }
+    ensures failed { schedule.new.failed ≡ is_err result }
     ensures starved { starved.new ≡ (if is_err outcome then counted starved.old else starved.old) }
     ensures failing { schedule.new.failing ≡ schedule.old.failing }
     ensures fuse { schedule.new.fuse ≡ schedule.old.fuse }
@@ -101,7 +103,7 @@ fn count_starved(
 }
 
 impl Disk for MemoryDisk {
-    ghost use Rattle.std.specs.Prelude.{true, length};
+    ghost use Rattle.std.specs.Prelude.{true, length, IsTrue};
     ghost use Rattle.wc_disk.specs.Volume.{IsImage};
     ghost use Rattle.wc_disk.specs.Replay.{LeftSince, reads_as_image, counts_here, only_here};
     ghost use Rattle.wc_disk.specs.Tape.{volume_of};
@@ -118,6 +120,8 @@ impl Disk for MemoryDisk {
 
     ghost faults = { λ d. d.schedule.faults };
 
+    ghost failed = { λ d. IsTrue d.schedule.failed };
+
     ghost alike = { λ one two i. true };
 
     ghost reads_as = { λ d told. reads_as_image d.tape.calls d.tape.begun };
@@ -132,7 +136,8 @@ impl Disk for MemoryDisk {
         ensures crash { IsWithin (IsImage (volume_of self.old.tape)) (IsImage (volume_of self.new.tape)) }
         ensures time { Elapses (length self.old.tape.calls) (length self.new.tape.calls)
             (LeftSince self.old.tape.calls self.old.tape.begun) (LeftSince self.new.tape.calls self.new.tape.begun) (IsImage (volume_of self.new.tape)) }
-        ensures cause { CountsFault result self.old.schedule.faults self.new.schedule.faults }
+        ensures cause { CountsFault result self.old.schedule.faults self.new.schedule.faults (IsTrue self.new.schedule.failed) }
+        ensures failed { self.new.schedule.failed ≡ is_err result }
         ensures fails { is_err result ≡ fails_next self.old.schedule }
         ensures starved { self.new.starved ≡ self.old.starved }
         ensures schedule { Advances self.old.schedule self.new.schedule }
@@ -150,7 +155,8 @@ impl Disk for MemoryDisk {
         ensures crash { IsWithin (IsImage (volume_of self.old.tape)) (IsImage (volume_of self.new.tape)) }
         ensures time { Elapses (length self.old.tape.calls) (length self.new.tape.calls)
             (LeftSince self.old.tape.calls self.old.tape.begun) (LeftSince self.new.tape.calls self.new.tape.begun) (IsImage (volume_of self.new.tape)) }
-        ensures cause { CountsFault result self.old.schedule.faults self.new.schedule.faults }
+        ensures cause { CountsFault result self.old.schedule.faults self.new.schedule.faults (IsTrue self.new.schedule.failed) }
+        ensures failed { self.new.schedule.failed ≡ is_err result }
         ensures fails { is_err result ≡ fails_next self.old.schedule }
         ensures starved { self.new.starved ≡ self.old.starved }
         ensures schedule { Advances self.old.schedule self.new.schedule }
@@ -169,7 +175,8 @@ impl Disk for MemoryDisk {
         ensures crash { Follows (Torn at (length bytes.now) (length (volume_of self.old.tape).seen)) (IsImage (volume_of self.old.tape)) (IsImage (volume_of self.new.tape)) }
         ensures time { Elapses (length self.old.tape.calls) (length self.new.tape.calls)
             (LeftSince self.old.tape.calls self.old.tape.begun) (LeftSince self.new.tape.calls self.new.tape.begun) (IsImage (volume_of self.new.tape)) }
-        ensures cause { CountsFault result self.old.schedule.faults self.new.schedule.faults }
+        ensures cause { CountsFault result self.old.schedule.faults self.new.schedule.faults (IsTrue self.new.schedule.failed) }
+        ensures failed { self.new.schedule.failed ≡ is_err result }
         ensures fails { FailsAsListed self.old.schedule self.old.starved self.new.starved result }
         ensures schedule { Advances self.old.schedule self.new.schedule }
         ensures begun { self.new.tape.begun ≡ self.old.tape.begun }
@@ -187,7 +194,8 @@ impl Disk for MemoryDisk {
         ensures crash { Follows (CutShort len) (IsImage (volume_of self.old.tape)) (IsImage (volume_of self.new.tape)) }
         ensures time { Elapses (length self.old.tape.calls) (length self.new.tape.calls)
             (LeftSince self.old.tape.calls self.old.tape.begun) (LeftSince self.new.tape.calls self.new.tape.begun) (IsImage (volume_of self.new.tape)) }
-        ensures cause { CountsFault result self.old.schedule.faults self.new.schedule.faults }
+        ensures cause { CountsFault result self.old.schedule.faults self.new.schedule.faults (IsTrue self.new.schedule.failed) }
+        ensures failed { self.new.schedule.failed ≡ is_err result }
         ensures fails { FailsAsListed self.old.schedule self.old.starved self.new.starved result }
         ensures schedule { Advances self.old.schedule self.new.schedule }
         ensures begun { self.new.tape.begun ≡ self.old.tape.begun }
@@ -205,7 +213,8 @@ impl Disk for MemoryDisk {
         ensures crash { IsWithin (IsImage (volume_of self.old.tape)) (IsImage (volume_of self.new.tape)) }
         ensures time { Elapses (length self.old.tape.calls) (length self.new.tape.calls)
             (LeftSince self.old.tape.calls self.old.tape.begun) (LeftSince self.new.tape.calls self.new.tape.begun) (IsImage (volume_of self.new.tape)) }
-        ensures cause { CountsFault result self.old.schedule.faults self.new.schedule.faults }
+        ensures cause { CountsFault result self.old.schedule.faults self.new.schedule.faults (IsTrue self.new.schedule.failed) }
+        ensures failed { self.new.schedule.failed ≡ is_err result }
         ensures fails { FailsAsListed self.old.schedule self.old.starved self.new.starved result }
         ensures schedule { Advances self.old.schedule self.new.schedule }
         ensures begun { self.new.tape.begun ≡ self.old.tape.begun }

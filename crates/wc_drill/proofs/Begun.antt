@@ -8,7 +8,7 @@ use Rattle.wc_disk.proofs.Runs.{no_call, both_runs, weaker_run}
 use Rattle.wc_world.specs.World.{empty}
 use Rattle.wc_runner.specs.Leaves.{HoldsSome, LeavesWorlds, of_world}
 use Rattle.wc_store.specs.Held.{IsHeld, Standing, nothing, a_world}
-use Rattle.wc_store.specs.Refusals.{RefusesInit}
+use Rattle.wc_store.specs.Refusals.{RefusesInit, IsDamageOf}
 use Rattle.wc_store.specs.Refusals.{Counts as CountsStore, IsUnchanged as IsUnchangedStore}
 use Rattle.wc_store.specs.declared.store.Store.{Store}
 use Rattle.wc_store.specs.Stores.{AreImages, BeginsFrom, InitLeaves, InOnePart, InTwoParts}
@@ -137,27 +137,28 @@ not_begun A (store_error.Full what most limit) h = h
 not_begun A store_error.AlreadyThere h = h
 not_begun A store_error.OutOfMemory h = h
 
-pub counts_unmade : (A B : Type 0) (e : StoreError) (one one_new two two_new : ℕ) → CountsStore {T = A} (Err e) one one_new two two_new
-    → Counts {T = B} (Err (of_init e)) one one_new two two_new
-counts_unmade A B store_error.DiskFault one one_new two two_new h = h
-counts_unmade A B (store_error.Damaged disk at found) one one_new two two_new h = h
-counts_unmade A B (store_error.Full what most limit) one one_new two two_new h = h
-counts_unmade A B store_error.AlreadyThere one one_new two two_new h = h
-counts_unmade A B store_error.OutOfMemory one one_new two two_new h = h
+pub counts_unmade : (A B : Type 0) (e : StoreError) (one one_new two two_new : ℕ) (failed_one failed_two : Type 0)
+    → CountsStore {T = A} (Err e) one one_new two two_new failed_one failed_two → Counts {T = B} (Err (of_init e)) one one_new two two_new failed_one failed_two
+counts_unmade A B store_error.DiskFault one one_new two two_new failed_one failed_two h = h
+counts_unmade A B (store_error.Damaged disk at found) one one_new two two_new failed_one failed_two h = h
+counts_unmade A B (store_error.Full what most limit) one one_new two two_new failed_one failed_two h = h
+counts_unmade A B store_error.AlreadyThere one one_new two two_new failed_one failed_two h = h
+counts_unmade A B store_error.OutOfMemory one one_new two two_new failed_one failed_two h = h
 
 -- counts since the beginning, where no disk failed up to a call
-pub counts_since : {A : Type 0} (result : Result A DrillError) (one one_mid one_new two two_mid two_new : ℕ) → (one_mid ≡ one) × (two_mid ≡ two)
-    → Counts result one_mid one_new two_mid two_new → Counts result one one_new two two_new
-counts_since result one one_mid one_new two two_mid two_new same h =
-    subst (λ (m : ℕ). Counts result one one_new m two_new) same.1 (subst (λ (m : ℕ). Counts result m one_new two_mid two_new) same.0 h)
+pub counts_since : {A : Type 0} (result : Result A DrillError) (one one_mid one_new two two_mid two_new : ℕ) (failed_one failed_two : Type 0)
+    → (one_mid ≡ one) × (two_mid ≡ two) → Counts result one_mid one_new two_mid two_new failed_one failed_two → Counts result one one_new two two_new failed_one failed_two
+counts_since result one one_mid one_new two two_mid two_new failed_one failed_two same h =
+    subst (λ (m : ℕ). Counts result one one_new m two_new failed_one failed_two) same.1
+    (subst (λ (m : ℕ). Counts result m one_new two_mid two_new failed_one failed_two) same.0 h)
 
 module _ {D : Type 0} (g : disk.Ghosts D) (told : Type 0) (seed count : ℕ) (one two one_new two_new : D) where
-  pub init_refused : (e : StoreError) → RefusesInit told (IsHeld (g.seen one) (g.seen two)) e → RefusesDrill g told seed count one two one_new two_new (of_init e)
-  init_refused store_error.DiskFault h = tt
-  init_refused (store_error.Damaged disk at found) h = h
-  init_refused (store_error.Full what most limit) h = tt
-  init_refused store_error.AlreadyThere h = h
-  init_refused store_error.OutOfMemory h = tt
+  pub init_refused : (e : StoreError) → RefusesInit told (IsHeld (g.seen one) (g.seen two)) e → IsDamageOf g one two e → RefusesDrill g told seed count one two one_new two_new (of_init e)
+  init_refused store_error.DiskFault h is = tt
+  init_refused (store_error.Damaged disk at found) h is = is
+  init_refused (store_error.Full what most limit) h is = tt
+  init_refused store_error.AlreadyThere h is = h
+  init_refused store_error.OutOfMemory h is = tt
 
   pub init_unbegun : (A : Type 0) (e : StoreError) → InitLeaves g (Err e) one two one_new two_new
       → IsUnchangedStore {T = Store} (Err e) (g.seen one) (g.seen one_new) → RefusedLeaves {T = A} g (Err (of_init e)) one two one_new two_new

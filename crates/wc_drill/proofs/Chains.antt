@@ -25,14 +25,14 @@ use Rattle.wc_machine.specs.declared.error.TurnError.TheVariants as turn_error
 use Rattle.wc_store.specs.Held.{is_plain}
 use Rattle.wc_store.specs.declared.error.StoreError.TheVariants as store_error
 use Rattle.wc_runner.specs.Refusals.{Counts, RefusesStored, is_live_after}
-use Rattle.wc_runner.specs.Turning.{IsRoomOrMemory, of_turn}
+use Rattle.wc_runner.specs.Turns.{IsRoomOrMemory, of_turn}
 use Rattle.wc_runner.specs.declared.error.RunError.{RunError}
 use Rattle.wc_runner.specs.declared.error.RunError.TheVariants.{DiskFault, Full, OutOfMemory}
 use Rattle.wc_runner.proofs.Journals.{commit_by}
 use Rattle.wc_drill.specs.Library.{chain_inputs, chain_name, library, pair}
 use Rattle.wc_drill.proofs.Given.{named}
 use Rattle.wc_drill.specs.Drilled.{IsSubmitted, submits_chain, usual_limits}
-use Rattle.wc_drill.specs.Storing.{IsCrowded, IsStorable, RefusesChain}
+use Rattle.wc_drill.specs.Submissions.{IsCrowded, IsStorable, RefusesChain}
 
 -- the ports of the definition of chains take the inputs
 inputs_fit : (first second : ℕ) → bad_input pair.head.inputs (chain_inputs first second) ≡ None
@@ -149,7 +149,8 @@ crowd_live first second w DiskFault h = absurd h
 crowd_live first second w (Full what count limit) h = refl
 crowd_live first second w OutOfMemory h = refl
 
-pub crowd_counts : (first second : ℕ) (w : World) (e : RunError) (one two : ℕ) → IsCrowded first second w e → Counts {T = Unit {0}} (Err e) one one two two
-crowd_counts first second w DiskFault one two h = absurd h
-crowd_counts first second w (Full what count limit) one two h = (refl, refl)
-crowd_counts first second w OutOfMemory one two h = (refl, refl)
+pub crowd_counts : (first second : ℕ) (w : World) (e : RunError) (one two : ℕ) (failed_one failed_two : Type 0) → IsCrowded first second w e
+    → Counts {T = Unit {0}} (Err e) one one two two failed_one failed_two
+crowd_counts first second w DiskFault one two failed_one failed_two h = absurd h
+crowd_counts first second w (Full what count limit) one two failed_one failed_two h = (refl, refl)
+crowd_counts first second w OutOfMemory one two failed_one failed_two h = (refl, refl)

@@ -11,9 +11,9 @@ use Rattle.wc_runner.specs.Refusals.{Counts as CountsRun}
 use Rattle.wc_runner.specs.Trips as trips
 use Rattle.wc_runner.specs.declared.error.RunError.{RunError}
 use Rattle.wc_runner.specs.declared.error.RunError.TheVariants as run
-use Rattle.wc_runner.specs.declared.running.RunEnd.{RunEnd}
-use Rattle.wc_runner.specs.declared.running.RunEnd.TheVariants as end
-use Rattle.wc_store.specs.Choosing.{chosen, on}
+use Rattle.wc_runner.specs.declared.runs.RunEnd.{RunEnd}
+use Rattle.wc_runner.specs.declared.runs.RunEnd.TheVariants as end
+use Rattle.wc_store.specs.Choices.{chosen, on}
 use Rattle.wc_store.specs.Places.{its, number_of}
 use Rattle.wc_store.specs.Stores.{StandsFor}
 use Rattle.wc_store.specs.declared.place.Place.{Place}
@@ -23,8 +23,8 @@ use Rattle.wc_drill.specs.declared.error.DrillError.{DrillError}
 use Rattle.wc_drill.specs.Drilled.{Drills, HasDrilled, Submitted, outside, turns_of}
 use Rattle.wc_drill.specs.Leaves.{AreDurable, HoldsOnOne, HoldsNow, IsBegun, IsFirst}
 use Rattle.wc_drill.specs.Refusals.{Counts, EndsDrill, RefusesChains, RefusesDrilled, of_run}
-use Rattle.wc_drill.specs.Running.{EndsSo, TakesFewer}
-use Rattle.wc_drill.specs.Storing.{SubmittedSome}
+use Rattle.wc_drill.specs.Runs.{EndsSo, TakesFewer}
+use Rattle.wc_drill.specs.Submissions.{SubmittedSome}
 
 none_taken : (most : ℕ) (w : World) → SomeTurns outside most w w
 none_taken most w = (record { count = 0; rests = 0; few = omega arith; turns = trips.none w; batches = omega arith }, inl refl)
@@ -127,17 +127,17 @@ live_begun A run.OutOfMemory begun = absurd begun
 
 -- ---- counts
 
-pub counts_broken : (A B : Type 0) (e : RunError) (one one_new two two_new : ℕ) → CountsRun {T = A} (Err e) one one_new two two_new
-    → Counts {T = B} (Err (of_run e)) one one_new two two_new
-counts_broken A B run.DiskFault one one_new two two_new h = h
-counts_broken A B (run.Full what most limit) one one_new two two_new h = h
-counts_broken A B run.OutOfMemory one one_new two two_new h = h
+pub counts_broken : (A B : Type 0) (e : RunError) (one one_new two two_new : ℕ) (failed_one failed_two : Type 0)
+    → CountsRun {T = A} (Err e) one one_new two two_new failed_one failed_two → Counts {T = B} (Err (of_run e)) one one_new two two_new failed_one failed_two
+counts_broken A B run.DiskFault one one_new two two_new failed_one failed_two h = h
+counts_broken A B (run.Full what most limit) one one_new two two_new failed_one failed_two h = h
+counts_broken A B run.OutOfMemory one one_new two two_new failed_one failed_two h = h
 
-pub counts_ended : (e : RunEnd) (w : World) (result : Result ℕ DrillError) (one one_new two two_new : ℕ) → EndsDrill e w result → (one_new ≡ one) × (two_new ≡ two)
-    → Counts result one one_new two two_new
-counts_ended end.AllEnded w result one one_new two two_new is h = subst (λ (r : Result ℕ DrillError). Counts r one one_new two two_new) (sym is) h
-counts_ended end.Spent w result one one_new two two_new is h = subst (λ (r : Result ℕ DrillError). Counts r one one_new two two_new) (sym is) h
-counts_ended end.Resting w result one one_new two two_new is h = subst (λ (r : Result ℕ DrillError). Counts r one one_new two two_new) (sym is) h
+pub counts_ended : (e : RunEnd) (w : World) (result : Result ℕ DrillError) (one one_new two two_new : ℕ) (failed_one failed_two : Type 0) → EndsDrill e w result
+    → (one_new ≡ one) × (two_new ≡ two) → Counts result one one_new two two_new failed_one failed_two
+counts_ended end.AllEnded w result one one_new two two_new failed_one failed_two is h = subst (λ (r : Result ℕ DrillError). Counts r one one_new two two_new failed_one failed_two) (sym is) h
+counts_ended end.Spent w result one one_new two two_new failed_one failed_two is h = subst (λ (r : Result ℕ DrillError). Counts r one one_new two two_new failed_one failed_two) (sym is) h
+counts_ended end.Resting w result one one_new two two_new failed_one failed_two is h = subst (λ (r : Result ℕ DrillError). Counts r one one_new two two_new failed_one failed_two) (sym is) h
 
 -- ---- what is left on the disks
 

@@ -7,7 +7,7 @@ use Rattle.wc_runner.specs.Leaves.{LeavesWorlds, SomeTurns}
 use Rattle.wc_runner.specs.Refusals.{RefusesRun, is_live_after}
 use Rattle.wc_runner.specs.Refusals.{Counts as CountsRun}
 use Rattle.wc_runner.specs.declared.error.RunError.{RunError}
-use Rattle.wc_runner.specs.declared.running.RunEnd.{RunEnd}
+use Rattle.wc_runner.specs.declared.runs.RunEnd.{RunEnd}
 use Rattle.wc_store.specs.Stores.{StandsFor}
 use Rattle.wc_store.specs.declared.place.Place.{Place}
 use Rattle.wc_store.specs.declared.place.Place.TheVariants.{One}
@@ -16,8 +16,8 @@ use Rattle.wc_drill.specs.declared.error.DrillError.{DrillError}
 use Rattle.wc_drill.specs.Drilled.{Drills, HasDrilled, Submitted, outside, turns_of}
 use Rattle.wc_drill.specs.Leaves.{AreDurable, HoldsNow, IsBegun, IsFirst}
 use Rattle.wc_drill.specs.Refusals.{Counts, EndsDrill, RefusesChains, RefusesDrilled, of_run}
-use Rattle.wc_drill.specs.Running.{EndsSo, TakesFewer}
-use Rattle.wc_drill.specs.Storing.{SubmittedSome}
+use Rattle.wc_drill.specs.Runs.{EndsSo, TakesFewer}
+use Rattle.wc_drill.specs.Submissions.{SubmittedSome}
 use Rattle.wc_drill.proofs.Joined.{chains_leave, chains_refused, counts_broken, counts_ended, durable, live_begun, run_done, run_ended, run_leaves, run_refused}
 
 -- a store is on the disk of another, in its generation and version
@@ -52,11 +52,11 @@ module _ {D : Type 0} (g : disk.Ghosts D) (seed count : ℕ) (old : Store) (one 
     broken_durable begun told told_too =
         durable g s one_s two_s (still (live ∙ live_begun ℕ e (subst (λ (x : DrillError). IsBegun {T = ℕ} (Err x)) told_as begun)) told told_too)
 
-    pub broken_counts : CountsRun {T = Unit {0}} (Err e) (g.faults one) (g.faults one_s) (g.faults two) (g.faults two_s)
-        → Counts {T = ℕ} (Err d) (g.faults one) (g.faults one_s) (g.faults two) (g.faults two_s)
+    pub broken_counts : CountsRun {T = Unit {0}} (Err e) (g.faults one) (g.faults one_s) (g.faults two) (g.faults two_s) (g.failed one_s) (g.failed two_s)
+        → Counts {T = ℕ} (Err d) (g.faults one) (g.faults one_s) (g.faults two) (g.faults two_s) (g.failed one_s) (g.failed two_s)
     broken_counts h =
-        subst (λ (x : DrillError). Counts {T = ℕ} (Err x) (g.faults one) (g.faults one_s) (g.faults two) (g.faults two_s)) (sym told_as)
-        (counts_broken (Unit {0}) ℕ e (g.faults one) (g.faults one_s) (g.faults two) (g.faults two_s) h)
+        subst (λ (x : DrillError). Counts {T = ℕ} (Err x) (g.faults one) (g.faults one_s) (g.faults two) (g.faults two_s) (g.failed one_s) (g.failed two_s)) (sym told_as)
+        (counts_broken (Unit {0}) ℕ e (g.faults one) (g.faults one_s) (g.faults two) (g.faults two_s) (g.failed one_s) (g.failed two_s) h)
 
   pub broken_moments : (one_s two_s : D)
       → (IsTrue (g.tells one) → IsTrue (g.tells two) → LeavesWorlds g old.place (SubmittedSome seed count old.world.world) one two one_s two_s)
@@ -84,11 +84,11 @@ module _ {D : Type 0} (g : disk.Ghosts D) (seed count : ℕ) (old : Store) (one 
     stands : s.live ≡ true → Told → StandsFor g s one_s two_s
     stands live told = still live (told_one told.0) (told_two told.1)
 
-    counted : (T : Type 0) (r : Result T RunError) → CountsRun r (g.faults one_mid) (g.faults one_s) (g.faults two_mid) (g.faults two_s)
-        → CountsRun r (g.faults one) (g.faults one_s) (g.faults two) (g.faults two_s)
+    counted : (T : Type 0) (r : Result T RunError) → CountsRun r (g.faults one_mid) (g.faults one_s) (g.faults two_mid) (g.faults two_s) (g.failed one_s) (g.failed two_s)
+        → CountsRun r (g.faults one) (g.faults one_s) (g.faults two) (g.faults two_s) (g.failed one_s) (g.failed two_s)
     counted T r h =
-        subst (λ (m : ℕ). CountsRun r (g.faults one) (g.faults one_s) m (g.faults two_s)) faults.1
-        (subst (λ (m : ℕ). CountsRun r m (g.faults one_s) (g.faults two_mid) (g.faults two_s)) faults.0 h)
+        subst (λ (m : ℕ). CountsRun r (g.faults one) (g.faults one_s) m (g.faults two_s) (g.failed one_s) (g.failed two_s)) faults.1
+        (subst (λ (m : ℕ). CountsRun r m (g.faults one_s) (g.faults two_mid) (g.faults two_s) (g.failed one_s) (g.failed two_s)) faults.0 h)
 
     pub ran_moments : (IsTrue (g.tells one) → IsTrue (g.tells two) → LeavesWorlds g old.place (SubmittedSome seed count old.world.world) one two one_mid two_mid)
         → (IsTrue (g.tells one_mid) → IsTrue (g.tells two_mid)
@@ -113,11 +113,11 @@ module _ {D : Type 0} (g : disk.Ghosts D) (seed count : ℕ) (old : Store) (one 
       stopped_durable begun told told_too =
           durable g s one_s two_s (stands (live ∙ live_begun ℕ e (subst (λ (x : DrillError). IsBegun {T = ℕ} (Err x)) told_as begun)) (told, told_too))
 
-      pub stopped_counts : CountsRun {T = RunEnd} (Err e) (g.faults one_mid) (g.faults one_s) (g.faults two_mid) (g.faults two_s)
-          → Counts {T = ℕ} (Err d) (g.faults one) (g.faults one_s) (g.faults two) (g.faults two_s)
+      pub stopped_counts : CountsRun {T = RunEnd} (Err e) (g.faults one_mid) (g.faults one_s) (g.faults two_mid) (g.faults two_s) (g.failed one_s) (g.failed two_s)
+          → Counts {T = ℕ} (Err d) (g.faults one) (g.faults one_s) (g.faults two) (g.faults two_s) (g.failed one_s) (g.failed two_s)
       stopped_counts h =
-          subst (λ (x : DrillError). Counts {T = ℕ} (Err x) (g.faults one) (g.faults one_s) (g.faults two) (g.faults two_s)) (sym told_as)
-          (counts_broken RunEnd ℕ e (g.faults one) (g.faults one_s) (g.faults two) (g.faults two_s) (counted RunEnd (Err e) h))
+          subst (λ (x : DrillError). Counts {T = ℕ} (Err x) (g.faults one) (g.faults one_s) (g.faults two) (g.faults two_s) (g.failed one_s) (g.failed two_s)) (sym told_as)
+          (counts_broken RunEnd ℕ e (g.faults one) (g.faults one_s) (g.faults two) (g.faults two_s) (g.failed one_s) (g.failed two_s) (counted RunEnd (Err e) h))
 
     -- it came to its end
     module _ (live : s.live ≡ true) (end : RunEnd) (result : Result ℕ DrillError) (ends : EndsSo (turns_of count) mid.world.world s.world.world end)
@@ -138,6 +138,6 @@ module _ {D : Type 0} (g : disk.Ghosts D) (seed count : ℕ) (old : Store) (one 
       ended_durable told told_too = durable g s one_s two_s (stands live (told, told_too))
 
       pub ended_counts : (g.faults one_s ≡ g.faults one_mid) × (g.faults two_s ≡ g.faults two_mid)
-          → Counts result (g.faults one) (g.faults one_s) (g.faults two) (g.faults two_s)
+          → Counts result (g.faults one) (g.faults one_s) (g.faults two) (g.faults two_s) (g.failed one_s) (g.failed two_s)
       ended_counts then =
-          counts_ended end s.world.world result (g.faults one) (g.faults one_s) (g.faults two) (g.faults two_s) is (then.0 ∙ faults.0, then.1 ∙ faults.1)
+          counts_ended end s.world.world result (g.faults one) (g.faults one_s) (g.faults two) (g.faults two_s) (g.failed one_s) (g.failed two_s) is (then.0 ∙ faults.0, then.1 ∙ faults.1)

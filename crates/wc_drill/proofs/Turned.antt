@@ -11,18 +11,18 @@ use Rattle.wc_world.specs.World.{World}
 use Rattle.wc_store.specs.declared.store.Store.{Store}
 use Rattle.wc_runner.specs.declared.error.RunError.{RunError}
 use Rattle.wc_runner.specs.declared.error.RunError.TheVariants.{DiskFault, Full, OutOfMemory}
-use Rattle.wc_runner.specs.declared.running.RunEnd.{RunEnd}
-use Rattle.wc_runner.specs.declared.running.RunEnd.TheVariants.{AllEnded, Spent, Resting}
+use Rattle.wc_runner.specs.declared.runs.RunEnd.{RunEnd}
+use Rattle.wc_runner.specs.declared.runs.RunEnd.TheVariants.{AllEnded, Spent, Resting}
 use Rattle.wc_runner.specs.Leaves.{SomeTurns}
 use Rattle.wc_runner.specs.Outside.{Outside, in_run}
 use Rattle.wc_runner.specs.Refusals.{RefusesRun}
-use Rattle.wc_runner.specs.Running.{TakesTurns, TakesAll, TakesUpTo, TakesWithin, EndsAs, FitsAfter}
-use Rattle.wc_runner.specs.Running.{TakesFewer as FewerTaken}
+use Rattle.wc_runner.specs.Runs.{TakesTurns, TakesAll, TakesUpTo, TakesWithin, EndsAs, FitsAfter}
+use Rattle.wc_runner.specs.Runs.{TakesFewer as FewerTaken}
 use Rattle.wc_runner.proofs.Widened.{Widens, step_widened, turns_widened}
 use Rattle.wc_drill.specs.Squares.{square_rows}
 use Rattle.wc_drill.proofs.Rows.{row_is_squared}
 use Rattle.wc_drill.specs.Drilled.{outside, usual_limits}
-use Rattle.wc_drill.specs.Running.{EndsSo, TakesFewer, TakesJust}
+use Rattle.wc_drill.specs.Runs.{EndsSo, TakesFewer, TakesJust}
 
 module _ {T P : Type 0} (h : transport.Ghosts T) (k : pacer.Ghosts P) (limits : Limits) (usual : limits ≡ usual_limits) (tr tr_new : T) (pa_new : P)
     (table : h.table tr ≡ Some (square_rows 100)) where

@@ -15,7 +15,7 @@ use Rattle.wc_runner.specs.Refusals.{Counts}
 use Rattle.wc_drill.specs.Draws.{first_number, second_number}
 use Rattle.wc_drill.specs.Drilled.{IsSubmitted, Submitted, none, one_more}
 use Rattle.wc_drill.specs.Refusals.{RefusesChains}
-use Rattle.wc_drill.specs.Storing.{IsOrSubmitted, RefusesChain, SubmittedSome}
+use Rattle.wc_drill.specs.Submissions.{IsOrSubmitted, RefusesChain, SubmittedSome}
 use Rattle.wc_drill.proofs.Chains.{chain_by}
 
 -- So many chains are submitted of so many, from one store and its disks to others; the generator stands behind their draws, no disk has
@@ -123,8 +123,8 @@ module _ {D : Type 0} (g : disk.Ghosts D) (seed count : ℕ) (old : Store) (one 
     breaks OutOfMemory less same end version refused = tt
 
     -- no disk had failed up to the call
-    pub counts_since : {A : Type 0} (result : Result A RunError) → Counts result (g.faults one_s) (g.faults one_v) (g.faults two_s) (g.faults two_v)
-        → Counts result (g.faults one) (g.faults one_v) (g.faults two) (g.faults two_v)
+    pub counts_since : {A : Type 0} (result : Result A RunError) → Counts result (g.faults one_s) (g.faults one_v) (g.faults two_s) (g.faults two_v) (g.failed one_v) (g.failed two_v)
+        → Counts result (g.faults one) (g.faults one_v) (g.faults two) (g.faults two_v) (g.failed one_v) (g.failed two_v)
     counts_since result h =
-        subst (λ (m : ℕ). Counts result (g.faults one) (g.faults one_v) m (g.faults two_v)) u.faults.1
-        (subst (λ (m : ℕ). Counts result m (g.faults one_v) (g.faults two_s) (g.faults two_v)) u.faults.0 h)
+        subst (λ (m : ℕ). Counts result (g.faults one) (g.faults one_v) m (g.faults two_v) (g.failed one_v) (g.failed two_v)) u.faults.1
+        (subst (λ (m : ℕ). Counts result m (g.faults one_v) (g.faults two_s) (g.faults two_v) (g.failed one_v) (g.failed two_v)) u.faults.0 h)

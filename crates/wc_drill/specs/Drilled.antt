@@ -9,7 +9,7 @@ use Rattle.wc_machine.specs.Machine.{Event, Leads, submit}
 use Rattle.wc_core.specs.Standing.{is_any_live}
 use Rattle.wc_runner.specs.Leaves.{SomeTurns}
 use Rattle.wc_runner.specs.Outside.{Outside}
-use Rattle.wc_runner.specs.Running.{TakesTurns}
+use Rattle.wc_runner.specs.Runs.{TakesTurns}
 use Rattle.wc_drill.specs.Draws.{first_number, second_number}
 use Rattle.wc_drill.specs.Library.{library, chain_name, chain_inputs}
 use Rattle.wc_drill.specs.Squares.{IsSquared}

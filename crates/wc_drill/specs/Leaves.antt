@@ -5,7 +5,7 @@ use Rattle.wc_disk.specs.Steps.{Only}
 use Rattle.wc_journal.specs.Reading.{Placed, end_of}
 use Rattle.wc_journal.specs.declared.journal.Journal.{Journal}
 use Rattle.wc_world.specs.World.{World}
-use Rattle.wc_store.specs.Choosing.{chosen, on}
+use Rattle.wc_store.specs.Choices.{chosen, on}
 use Rattle.wc_store.specs.Held.{IsHeld, nothing, a_world}
 use Rattle.wc_store.specs.Places.{number_of}
 use Rattle.wc_store.specs.Stores.{InOnePart, InTwoParts, AreImages}

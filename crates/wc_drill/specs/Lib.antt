@@ -1,6 +1,6 @@
 pub mod Drilled
-pub mod Storing
-pub mod Running
+pub mod Submissions
+pub mod Runs
 pub mod Refusals
 pub mod Leaves
 pub mod Sound

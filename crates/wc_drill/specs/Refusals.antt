@@ -1,18 +1,19 @@
 -- Why a drill has no end, and what is counted.
 use Rattle.std.specs.Prelude.{◌≡◌, ◌⊎◌, ◌<◌, ℕ, true, false, Result, Ok, Err}
-use Rattle.wc_io.specs.Counts.{EitherRisesByOne}
+use Rattle.wc_io.specs.Counts.{EitherFailedLast}
 use Rattle.wc_disk.specs.declared.disk.Disk as disk
 use Rattle.wc_journal.specs.declared.journal.Journal.{Journal}
 use Rattle.wc_world.specs.World.{World, empty}
 use Rattle.wc_core.specs.Standing.{is_any_live, is_resting}
 use Rattle.wc_store.specs.Held.{IsHeld, damage, a_world}
+use Rattle.wc_store.specs.Sights.{OfImages}
 use Rattle.wc_store.specs.declared.store.Store.{Store}
 use Rattle.wc_store.specs.declared.error.StoreError.{StoreError}
 use Rattle.wc_store.specs.declared.error.StoreError.TheVariants as store_error
-use Rattle.wc_runner.specs.declared.running.RunEnd.{RunEnd}
-use Rattle.wc_runner.specs.declared.running.RunEnd.TheVariants as end
+use Rattle.wc_runner.specs.declared.runs.RunEnd.{RunEnd}
+use Rattle.wc_runner.specs.declared.runs.RunEnd.TheVariants as end
 use Rattle.wc_runner.specs.Refusals.{RefusesStep}
-use Rattle.wc_runner.specs.Running.{TakesTurns}
+use Rattle.wc_runner.specs.Runs.{TakesTurns}
 use Rattle.wc_runner.specs.declared.error.RunError.{RunError}
 use Rattle.wc_runner.specs.declared.error.RunError.TheVariants as run
 use Rattle.wc_drill.specs.Draws.{first_number, second_number}
@@ -20,8 +21,8 @@ use Rattle.wc_drill.specs.declared.error.DrillError.{DrillError}
 use Rattle.wc_drill.specs.declared.error.DrillError.TheVariants.{DiskFault, Damaged, Full, AlreadyThere, Spent, Resting, OutOfMemory}
 use Rattle.wc_drill.specs.Drilled.{Submitted, Drills, outside, turns_of}
 use Rattle.wc_drill.specs.Leaves.{HoldsOnOne, HoldsNow}
-use Rattle.wc_drill.specs.Running.{TakesFewer, TakesJust}
-use Rattle.wc_drill.specs.Storing.{RefusesChain}
+use Rattle.wc_drill.specs.Runs.{TakesFewer, TakesJust}
+use Rattle.wc_drill.specs.Submissions.{RefusesChain}
 
 -- what a drill tells of what breaks off a run
 abbrev pub of_run : RunError → DrillError
@@ -114,18 +115,19 @@ RefusesDrilled g told seed count one_new two_new Spent = (v : World) × IsSpent 
 RefusesDrilled g told seed count one_new two_new Resting = (v : World) × IsHeldUp seed count v × (told → HoldsNow g one_new two_new v)
 RefusesDrilled g told seed count one_new two_new OutOfMemory = Unit {0}
 
--- Where the disks tell their bytes, a store that is there holds a world, and damage is what they hold. Faults and want of memory may come at
--- any time.
+-- Where the disks tell their bytes, a store that is there holds a world. Damage is what some two images hold: those that the disks read as, where
+-- they tell their bytes. Faults and want of memory may come at any time.
 abbrev pub RefusesDrill : {D : Type 0} → disk.Ghosts D → Type 0 → (seed count : ℕ) → (one two one_new two_new : D) → DrillError → Type 0
 RefusesDrill g told seed count one two one_new two_new DiskFault = Unit {0}
-RefusesDrill g told seed count one two one_new two_new (Damaged number at found) = told → IsHeld (g.seen one) (g.seen two) (damage number at found)
+RefusesDrill g told seed count one two one_new two_new (Damaged number at found) = OfImages g one two (λ a b. IsHeld a b (damage number at found))
 RefusesDrill g told seed count one two one_new two_new (Full what many limit) = IsDrillFull g told seed count one_new two_new (run.Full what many limit)
 RefusesDrill g told seed count one two one_new two_new AlreadyThere = told → (w : World) × IsHeld (g.seen one) (g.seen two) (a_world w)
 RefusesDrill g told seed count one two one_new two_new Spent = (v : World) × IsSpent seed count v × (told → HoldsNow g one_new two_new v)
 RefusesDrill g told seed count one two one_new two_new Resting = (v : World) × IsHeldUp seed count v × (told → HoldsNow g one_new two_new v)
 RefusesDrill g told seed count one two one_new two_new OutOfMemory = Unit {0}
 
--- `DiskFault` comes only where the count of one of the disks rose by one and the other stayed, and each other answer leaves both counts
-abbrev pub Counts : {T : Type 0} → Result T DrillError → (one one' two two' : ℕ) → Type 0
-Counts (Err DiskFault) one one' two two' = EitherRisesByOne one one' two two'
-Counts _ one one' two two' = (one' ≡ one) × (two' ≡ two)
+-- `DiskFault` comes only where the count of one of the disks rose by one, its last call failed and the other count stayed,
+-- and each other answer leaves both counts
+abbrev pub Counts : {T : Type 0} → Result T DrillError → (one one' two two' : ℕ) → (failed_one failed_two : Type 0) → Type 0
+Counts (Err DiskFault) one one' two two' failed_one failed_two = EitherFailedLast one one' two two' failed_one failed_two
+Counts _ one one' two two' failed_one failed_two = (one' ≡ one) × (two' ≡ two)

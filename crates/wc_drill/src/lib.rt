@@ -2,18 +2,18 @@
 //! numbers that are drawn for them, the table of their jobs, and the text of a drill.
 #![tactic(auto)]
 
-mod drilling;
+mod drills;
 mod error;
 mod inputs;
 mod laws;
 mod library;
 mod numbers;
-mod running;
+mod runs;
 mod squares;
-mod submitting;
+mod submissions;
 mod text;
 
-pub use drilling::drill;
+pub use drills::drill;
 pub use error::DrillError;
 pub use inputs::{chain_inputs, chain_name};
 pub use laws::drills_are_sound;

@@ -3,11 +3,10 @@
 ghost use Rattle.std.specs.Prelude.{◌≡◌, option_map};
 ghost use Rattle.std.specs.Option.{option_copied};
 ghost use Rattle.wc_syntax.specs.Bare.{bare_definition};
-ghost use Rattle.wc_syntax.specs.Findings.{head_of, definition_named};
 ghost use Rattle.wc_fits.specs.Records.{definition_in, kind_of_definition, library_at, same_kind};
 
 use wc_state::ProcessKind;
-use wc_syntax::{Checked, Definition, Head, Library};
+use wc_syntax::{Checked, Definition, find_definition};
 use wc_value::{Roomy, Text, Words};
 
 /// A library, with the names of its definitions that have caching on, ascending.
@@ -15,29 +14,6 @@ pub type Known = (Checked, Words);
 
 /// The libraries, of which the first has the number 1.
 pub type Libraries = Roomy<Known>;
-
-/// What a definition begins with.
-fn head(definition: &Definition) -> &Head
-    ensures { result.now ≡ head_of definition.now }
-{
-    match definition {
-        Definition::Function(function) => &function.head,
-        Definition::Job(job) => &job.head,
-        Definition::Chain(chain) => &chain.head,
-    }
-}
-
-/// The definition of a library with this name.
-fn find_definition<'a>(library: &'a Library, name: &Text) -> Option<&'a Definition>
-    ensures { option_copied result ≡ definition_named name.now library.now }
-{
-    for definition in library.as_slice() {
-        if head(definition).name.text.bytes() == name.bytes() {
-            return Some(definition);
-        }
-    }
-    None
-}
 
 /// The library with this number.
 pub fn library_at(libraries: &[Known], number: u32) -> Option<&Checked>
@@ -65,7 +41,7 @@ pub(crate) fn definition_in<'a>(
 }
 
 /// What kind of definition it is.
-pub(crate) fn kind_of_definition(definition: &Definition) -> ProcessKind
+pub fn kind_of_definition(definition: &Definition) -> ProcessKind
     ensures { result ≡ kind_of_definition (bare_definition definition.now) }
 {
     match definition {

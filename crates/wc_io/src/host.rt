@@ -1,5 +1,5 @@
 //! The adapters to the real outside. They tell nothing of content: what the system does is trusted.
-ghost use Rattle.std.specs.Prelude.{◌≡◌, ◌<◌, ◌≤◌, length, IfSome};
+ghost use Rattle.std.specs.Prelude.{◌≡◌, ◌<◌, ◌≤◌, length, false, IfSome};
 ghost use Rattle.wc_io.specs.Counts.{CountsFault, CountsReadFault};
 
 use crate::pacer::Pacer;
@@ -23,15 +23,20 @@ const PIECE: usize = 64 * 1024;
 pub struct FileShelf<R: Drop> {
     rt: R,
     faults: u64,
+    failed: bool,
 }
 
 impl<R: Files + Drop> FileShelf<R> {
     /// The files that this runtime reaches.
     pub fn new(rt: R) -> FileShelf<R>
-        ensures fresh { result ≡ record { rt = rt; faults = 0 } }
+        ensures fresh { result ≡ record { rt = rt; faults = 0; failed = false } }
         ensures untold { ⟦<FileShelf<R> as Shelf>⟧.contents result ≡ None }
     {
-        FileShelf { rt, faults: 0 }
+        FileShelf {
+            rt,
+            faults: 0,
+            failed: false,
+        }
     }
 }
 
@@ -75,15 +80,19 @@ fn content_of<R: Files>(rt: &R, alloc: Global, name: &Text) -> Result<Option<Byt
 }
 
 impl<R: Files + Drop> Shelf for FileShelf<R> {
-    ghost use Rattle.std.specs.Prelude.{None};
+    ghost use Rattle.std.specs.Prelude.{None, IsTrue};
 
     ghost contents = { λ _. None };
 
     ghost faults = { λ shelf. shelf.faults };
 
+    ghost failed = { λ shelf. IsTrue shelf.failed };
+
     fn read(&mut self, alloc: Global, name: &Text) -> Result<Option<Bytes>, ShelfError> {
+        self.failed = false;
         let outcome = content_of(&self.rt, alloc, name);
         if let Err(ShelfError::Failed) = &outcome {
+            self.failed = true;
             self.faults = self.faults.saturating_add(1);
         }
         outcome
@@ -95,32 +104,41 @@ impl<R: Files + Drop> Shelf for FileShelf<R> {
 pub struct StdoutSink<R: Drop> {
     rt: R,
     faults: u64,
+    failed: bool,
 }
 
 impl<R: Print + Drop> StdoutSink<R> {
     /// The standard output of this runtime.
     pub fn new(rt: R) -> StdoutSink<R>
-        ensures fresh { result ≡ record { rt = rt; faults = 0 } }
+        ensures fresh { result ≡ record { rt = rt; faults = 0; failed = false } }
         ensures untold { ⟦<StdoutSink<R> as Sink>⟧.taken result ≡ None }
     {
-        StdoutSink { rt, faults: 0 }
+        StdoutSink {
+            rt,
+            faults: 0,
+            failed: false,
+        }
     }
 }
 
 impl<R: Print + Drop> Sink for StdoutSink<R> {
-    ghost use Rattle.std.specs.Prelude.{None};
+    ghost use Rattle.std.specs.Prelude.{None, IsTrue};
 
     ghost taken = { λ _. None };
 
     ghost faults = { λ sink. sink.faults };
 
+    ghost failed = { λ sink. IsTrue sink.failed };
+
     fn write(&mut self, bytes: &[u8]) -> Result<usize, Failed> {
+        self.failed = false;
         if bytes.is_empty() {
             return Ok(0);
         }
         match write_some(&self.rt, bytes) {
             Some(count) => Ok(count),
             None => {
+                self.failed = true;
                 self.faults = self.faults.saturating_add(1);
                 Err(Failed)
             }

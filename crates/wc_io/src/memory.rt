@@ -34,18 +34,20 @@ impl MemoryShelf {
 }
 
 impl Shelf for MemoryShelf {
-    ghost use Rattle.std.specs.Prelude.{Some};
+    ghost use Rattle.std.specs.Prelude.{Some, IsTrue};
     ghost use Rattle.wc_value.specs.Ascending.{lookup};
 
     ghost contents = { λ shelf. Some (λ name. lookup name shelf.files) };
 
     ghost faults = { λ shelf. shelf.schedule.faults };
 
+    ghost failed = { λ shelf. IsTrue shelf.schedule.failed };
+
     /// Fails exactly where the schedule says so.
     fn read(&mut self, _alloc: Global, name: &Text) -> Result<Option<Bytes>, ShelfError>
         ensures content { IfOk result (λ answer. answer ≡ lookup name.now self.old.files) }
         ensures kept { self.new.files ≡ self.old.files }
-        ensures cause { CountsReadFault result self.old.schedule.faults self.new.schedule.faults }
+        ensures cause { CountsReadFault result self.old.schedule.faults self.new.schedule.faults (IsTrue self.new.schedule.failed) }
         ensures fails { IsErrOf result ShelfError.Failed ↔ IsTrue (fails_next self.old.schedule) }
         ensures schedule { self.new.schedule ≡ after_call self.old.schedule }
     {
@@ -99,18 +101,21 @@ impl MemorySink {
 }
 
 impl Sink for MemorySink {
-    ghost use Rattle.std.specs.Prelude.{Some};
+    ghost use Rattle.std.specs.Prelude.{Some, IsTrue};
 
     ghost taken = { λ sink. Some sink.bytes };
 
     ghost faults = { λ sink. sink.schedule.faults };
+
+    ghost failed = { λ sink. IsTrue sink.schedule.failed };
 
     /// Takes all bytes. Fails where the schedule says so, and where no memory is left for them.
     fn write(&mut self, bytes: &[u8]) -> Result<usize, Failed>
         ensures all { IfOk result (λ n. n ≡ length bytes.now) }
         ensures taken { OnOk result (self.new.bytes ≡ self.old.bytes ++ bytes.now) }
         ensures kept { OnErr result (self.new.bytes ≡ self.old.bytes) }
-        ensures cause { CountsFault result self.old.schedule.faults self.new.schedule.faults }
+        ensures cause { CountsFault result self.old.schedule.faults self.new.schedule.faults (IsTrue self.new.schedule.failed) }
+        ensures failed { self.new.schedule.failed ≡ is_err result }
         ensures schedule { Advances self.old.schedule self.new.schedule }
         ensures listed { IsTrue (fails_next self.old.schedule) → IsErr result × (self.new.starved ≡ self.old.starved) }
         ensures unlisted { fails_next self.old.schedule ≡ false → self.new.starved ≡ (if is_err result then counted self.old.starved else self.old.starved) }

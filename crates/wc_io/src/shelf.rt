@@ -47,9 +47,12 @@ pub trait Shelf {
     /// How often a read has failed.
     ghost faults: { Self → ℕ };
 
+    /// The last read failed. Nothing says so after a read that succeeded.
+    ghost failed: { Self → Type 0 };
+
     /// The content of a file, or none where the name isn't there.
     fn read(&mut self, alloc: Global, name: &Text) -> Result<Option<Bytes>, ShelfError>
         ensures content { IfOk result (λ answer. IfSome (contents self.old) (λ content. answer ≡ content name.now)) }
         ensures kept { contents self.new ≡ contents self.old }
-        ensures cause { CountsReadFault result (faults self.old) (faults self.new) };
+        ensures cause { CountsReadFault result (faults self.old) (faults self.new) (failed self.new) };
 }

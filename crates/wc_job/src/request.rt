@@ -7,8 +7,7 @@ ghost use Rattle.wc_machine.specs.Recorded.{request_by};
 
 use std::alloc::{AllocError, Global};
 use wc_expression::Outcome;
-use wc_meaning::find_definition;
-use wc_syntax::{Checked, Definition};
+use wc_syntax::{Checked, Definition, find_definition};
 use wc_value::{Fields, Request, Text};
 
 /// The request of a definition that is a job.

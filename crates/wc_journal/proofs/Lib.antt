@@ -6,5 +6,6 @@ mod Loading
 pub mod Writing
 mod Making
 mod Adding
+pub mod Growing
 mod Respelled
 mod Rows

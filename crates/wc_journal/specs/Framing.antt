@@ -2,6 +2,11 @@
 use Rattle.std.specs.Prelude.{◌≡◌, ◌+◌, ◌<◌, ◌≤◌, ℕ, List, [], ◌∷◌, length, map, take, drop, Ok}
 use Rattle.wc_journal.specs.Reading.{Placed, and_then_batch, batches_from, end_of}
 
+-- an image, and payloads in it, each with the offset of its first byte
+pub record BatchImage : Type 0 where
+  pub image : List ℕ
+  pub placed : Placed
+
 -- behind the gate a batch is whole: its payload begins here and has so many bytes, and a gate stands behind it
 pub record HasFrame (version generation place gate : ℕ) (image : List ℕ) (frame : ℕ × ℕ) : Type 0 where
   pub later : gate < frame.0

@@ -50,10 +50,10 @@ pub record HasClosedFirst (old new : List ℕ) : Type 0 where
 abbrev pub ClosesFirst : List ℕ → List ℕ → Type 0
 ClosesFirst old image = (image ≡ old) ⊎ (IsClosed image × (length image ≤ max 1 (length old)))
 
--- what was loaded is what the image holds
-abbrev pub Gives : Held → Option Loaded → Type 0
-Gives held None = held ≡ no_journal
-Gives held (Some loaded) = (held ≡ holds loaded.journal.version loaded.journal.generation loaded.batches) × (loaded.journal.end ≡ end_of loaded.batches)
+-- what was loaded is what the image holds, and is kept with the image
+abbrev pub Gives : List ℕ → Option Loaded → Type 0
+Gives image None = journal_of image ≡ no_journal
+Gives image (Some loaded) = (loaded.batches.image ≡ image) × IsJournalOf loaded.journal loaded.batches.placed image
 
 -- a journal that was loaded stands for its disk
 abbrev pub StandsFor : {D : Type 0} → disk.Ghosts D → Option Loaded → D → Type 0

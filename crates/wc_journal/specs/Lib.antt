@@ -1,4 +1,5 @@
 pub mod Reading
+pub mod Loading
 pub mod Frame
 pub mod Refusals
 pub mod Batches

@@ -1,9 +1,11 @@
 -- When a journal refuses, and what is counted.
 use Rattle.std.specs.Prelude.{◌≡◌, ◌+◌, ◌-◌, ◌^◌, ◌<◌, ◌≤◌, ℕ, List, length, min, Result, Ok, Err}
+use Rattle.wc_disk.specs.declared.disk.Disk as disk
 use Rattle.wc_io.specs.Counts.{RisesByOne}
 use Rattle.wc_journal.specs.declared.error.JournalError.{JournalError}
 use Rattle.wc_journal.specs.declared.error.JournalError.TheVariants.{DiskFault, Damaged, Full, OutOfMemory}
-use Rattle.wc_journal.specs.Reading.{Held, Outcome, damaged, size_of}
+use Rattle.wc_journal.specs.Reading.{Held, Outcome, damaged, journal_of, size_of}
+use Rattle.wc_journal.specs.Loading.{OfImage}
 use Rattle.wc_journal.specs.Frame.{most_of}
 
 -- a payload has too many bytes for its version
@@ -38,12 +40,12 @@ RefusesBatches outcome (Damaged at found) = outcome ≡ Err (at, found)
 RefusesBatches outcome (Full count limit) = ⊥
 RefusesBatches outcome OutOfMemory = Unit {0}
 
--- the same of an image that is read from a disk, where the disk tells it
-abbrev pub RefusesLoad : Type 0 → Held → JournalError → Type 0
-RefusesLoad told held DiskFault = Unit {0}
-RefusesLoad told held (Damaged at found) = told → held ≡ damaged at found
-RefusesLoad told held (Full count limit) = ⊥
-RefusesLoad told held OutOfMemory = Unit {0}
+-- the same of an image that is read from a disk
+abbrev pub RefusesLoad : {D : Type 0} → disk.Ghosts D → D → JournalError → Type 0
+RefusesLoad g d DiskFault = Unit {0}
+RefusesLoad g d (Damaged at found) = OfImage g d (λ image. journal_of image ≡ damaged at found)
+RefusesLoad g d (Full count limit) = ⊥
+RefusesLoad g d OutOfMemory = Unit {0}
 
 -- bytes are not read where the disk failed or memory ran out
 abbrev pub RefusesReading : JournalError → Type 0
@@ -56,13 +58,13 @@ RefusesReading OutOfMemory = Unit {0}
 abbrev pub OnlyDiskFault : JournalError → Type 0
 OnlyDiskFault error = error ≡ DiskFault
 
--- `DiskFault` is told only where the disk's count rose by one, and each other answer leaves that count
-abbrev pub CountsDiskFault : {T : Type 0} → Result T JournalError → ℕ → ℕ → Type 0
-CountsDiskFault (Ok answer) old new = new ≡ old
-CountsDiskFault (Err DiskFault) old new = RisesByOne old new
-CountsDiskFault (Err (Damaged at found)) old new = new ≡ old
-CountsDiskFault (Err (Full count limit)) old new = new ≡ old
-CountsDiskFault (Err OutOfMemory) old new = new ≡ old
+-- `DiskFault` is told only where the disk's count rose by one and its last call failed, and each other answer leaves that count
+abbrev pub CountsDiskFault : {T : Type 0} → Result T JournalError → ℕ → ℕ → Type 0 → Type 0
+CountsDiskFault (Ok answer) old new failed = new ≡ old
+CountsDiskFault (Err DiskFault) old new failed = RisesByOne old new × failed
+CountsDiskFault (Err (Damaged at found)) old new failed = new ≡ old
+CountsDiskFault (Err (Full count limit)) old new failed = new ≡ old
+CountsDiskFault (Err OutOfMemory) old new failed = new ≡ old
 
 -- the image was read, so that all of it was synced
 abbrev pub IfRead : {T : Type 0} → Result T JournalError → Type 0 → Type 0

@@ -1,14 +1,16 @@
 //! The payloads of a journal, which stay in the image that they were read from.
-ghost use Rattle.std.specs.Prelude.{◌≡◌, ◌+◌, ◌^◌, ◌==◌, ◌<◌, ◌≤◌, Some, length, take, drop, slice_get};
+ghost use Rattle.std.specs.Prelude.{◌≡◌, ◌+◌, ◌^◌, ◌==◌, ◌<◌, ◌≤◌, Some, length, take, drop, slice_get, slice_index, nat_lt, if◌then◌else◌};
+ghost use Rattle.wc_journal.specs.declared.error.Found.TheVariants.{Byte, End};
 ghost use Rattle.wc_journal.specs.Framing.{placed_in, AreWithin};
 
+use crate::error::Found;
 use std::marker::Model;
 use wc_value::List;
 
 /// Where payloads begin in an image, and how long each is.
 pub type Frames = List<(usize, usize)>;
 
-/// Payloads, each with the offset of its first byte. Contracts see the list of them; the bytes stay in the image.
+/// An image, and payloads in it, each with the offset of its first byte. Contracts see the image beside the list of payloads; the bytes stay in the image.
 #[derive(Drop)]
 pub struct Batches {
     image: Vec<u8>,
@@ -16,13 +18,11 @@ pub struct Batches {
 }
 
 impl Model for Batches {
-    ghost use Rattle.std.specs.Prelude.{ℕ, List};
+    ghost use Rattle.wc_journal.specs.Framing.{BatchImage, placed_in, AreWithin};
 
-    ghost Value = { List (ℕ × List ℕ) };
+    ghost Value = { BatchImage };
 
-    ghost use Rattle.wc_journal.specs.Framing.{placed_in, AreWithin};
-
-    ghost view = { λ a. placed_in a.image.items a.frames };
+    ghost view = { λ a. record { image = a.image.items; placed = placed_in a.image.items a.frames } };
 
     ghost invariant = { λ a. AreWithin a.image.items a.frames };
 }
@@ -31,14 +31,15 @@ impl Batches {
     /// The payloads that an image has there. The image is kept, and not copied.
     pub fn of(image: Vec<u8>, frames: Frames) -> Batches
         requires { AreWithin image.items frames }
-        ensures { result ≡ placed_in image.items frames }
+        ensures image { result.image ≡ image.items }
+        ensures placed { result.placed ≡ placed_in image.items frames }
     {
         Batches { image, frames }
     }
 
     /// The number of payloads.
     pub fn len(&self) -> usize
-        ensures value { result ≡ length self.now }
+        ensures value { result ≡ length self.now.placed }
         ensures bound { result < 2 ^ 32 }
     {
         self.frames.len()
@@ -46,18 +47,29 @@ impl Batches {
 
     /// Whether there is no payload.
     pub fn is_empty(&self) -> bool
-        ensures { result ≡ (length self.now == 0) }
+        ensures { result ≡ (length self.now.placed == 0) }
     {
         self.frames.is_empty()
     }
 
     /// The offset of the payload at a place, counted from 0, and the payload, lent out of the image. It takes no memory.
     pub fn payload(&self, at: usize) -> (u64, &[u8])
-        requires { at < length self.now }
-        ensures { slice_get self.now at ≡ Some (result.0, result.1.now) }
+        requires { at < length self.now.placed }
+        ensures { slice_get self.now.placed at ≡ Some (result.0, result.1.now) }
     {
         let (start, len) = self.frames.as_slice()[at];
         (start as u64, part(&self.image, start, len))
+    }
+
+    /// The byte of the image at an offset, or its end.
+    pub fn found_at(&self, at: u64) -> Found
+        ensures value { result ≡ (if nat_lt at (length self.now.image) then Byte (slice_index self.now.image at) else End) }
+        ensures counted { length self.now.image < 2 ^ 64 }
+    {
+        if at >= self.image.len() as u64 {
+            return Found::End;
+        }
+        Found::Byte(self.image[at as usize])
     }
 }
 

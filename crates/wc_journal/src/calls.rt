@@ -8,6 +8,7 @@ ghost use Rattle.wc_journal.specs.Spelled.{spelled};
 ghost use Rattle.wc_journal.specs.Refusals.{size_after, RefusesAppend, RefusesImage, RefusesLoad, OnlyDiskFault, RefusesReading, CountsDiskFault, IfRead};
 ghost use Rattle.wc_journal.specs.Batches.{payload_of};
 ghost use Rattle.wc_journal.specs.Journals.{IsSettled, with_batch, HoldsEither, IsReplaced, Gives, StandsFor};
+ghost use Rattle.wc_journal.specs.Loading.{OfImage};
 
 use crate::batch::Batch;
 use crate::error::{Found, JournalError};
@@ -64,7 +65,7 @@ fn overrun(end: u64, more: u64, limit: u64) -> Option<u64>
 
 /// What an image holds. The image is kept with its batches.
 fn read_image(alloc: Global, image: Vec<u8>) -> Result<Option<Loaded>, JournalError>
-    ensures ok { IfOk result (Gives (journal_of image.items)) }
+    ensures ok { IfOk result (Gives image.items) }
     ensures refused { IfErr result (RefusesImage (journal_of image.items)) }
 {
     let bytes = image.as_slice();
@@ -100,13 +101,14 @@ impl Journal {
         requires none { IsTrue (D.tells disk.old) → journal_of (D.seen disk.old) ≡ no_journal }
         ensures version { IfOk result (λ journal. journal.version ≡ 2) }
         ensures generation { IfOk result (λ journal. journal.generation ≡ generation) }
+        ensures end { IfOk result (λ journal. journal.end ≡ 16) }
         ensures settled { IfOk result (λ journal. IsTrue (D.tells disk.old) → IsSettled D.Disk journal disk.new) }
         ensures held { OnOk result (IsTrue (D.tells disk.old) → journal_of (D.seen disk.new) ≡ holds 2 generation []) }
         ensures written { OnOk result (IsTrue (D.tells disk.old) → D.seen disk.new ≡ spelled 2 generation [] ++ 0 ∷ []) }
         ensures any_moment { IsTrue (D.tells disk.old) → LeavesOnly D.Disk disk.old disk.new (HoldsEither no_journal (holds 2 generation [])) }
         ensures refused { IfErr result OnlyDiskFault }
         ensures tells { D.tells disk.new ≡ D.tells disk.old }
-        ensures cause { CountsDiskFault result (D.faults disk.old) (D.faults disk.new) }
+        ensures cause { CountsDiskFault result (D.faults disk.old) (D.faults disk.new) (D.failed disk.new) }
     {
         close_first(disk)?;
         put(disk, 1, &heading_and_gate(generation))?;
@@ -120,14 +122,14 @@ impl Journal {
 
     /// Syncs the disk, and reads the journal and its batches, or none where it holds none.
     pub fn load<D: Disk>(alloc: Global, disk: &mut D) -> Result<Option<Loaded>, JournalError>
-        ensures ok { IfOk result (λ found. IsTrue (D.tells disk.old) → Gives (journal_of (D.seen disk.old)) found) }
+        ensures ok { IfOk result (λ found. OfImage D.Disk disk.old (λ image. Gives image found)) }
         ensures stands { IfOk result (λ found. IsTrue (D.tells disk.old) → StandsFor D.Disk found disk.new) }
         ensures durable { IfRead result (Only (D.seen disk.new) (D.may_leave disk.new)) }
         ensures seen { D.seen disk.new ≡ D.seen disk.old }
         ensures any_moment { LeavesOnly D.Disk disk.old disk.new (D.may_leave disk.old) }
-        ensures refused { IfErr result (RefusesLoad (IsTrue (D.tells disk.old)) (journal_of (D.seen disk.old))) }
+        ensures refused { IfErr result (RefusesLoad D.Disk disk.old) }
         ensures tells { D.tells disk.new ≡ D.tells disk.old }
-        ensures cause { CountsDiskFault result (D.faults disk.old) (D.faults disk.new) }
+        ensures cause { CountsDiskFault result (D.faults disk.old) (D.faults disk.new) (D.failed disk.new) }
     {
         match read_synced(alloc, disk) {
             Err(error) => Err(error),
@@ -160,7 +162,7 @@ impl Journal {
         ensures longer { OnOk result (self.new.end + 1 ≡ size_after self.old.end self.old.version (payload_of batch.now)) }
         ensures kept { OnErr result (self.new.end ≡ self.old.end) }
         ensures tells { D.tells disk.new ≡ D.tells disk.old }
-        ensures cause { CountsDiskFault result (D.faults disk.old) (D.faults disk.new) }
+        ensures cause { CountsDiskFault result (D.faults disk.old) (D.faults disk.new) (D.failed disk.new) }
     {
         let bytes = batch.bytes();
         if let Some(count) = overrun(self.end, bytes.len() as u64, limit) {
@@ -186,6 +188,7 @@ impl Journal {
         requires snapshot { batch.now.snapshot ≡ true }
         ensures version { IfOk result (λ journal. journal.version ≡ 2) }
         ensures generation { IfOk result (λ journal. journal.generation ≡ generation) }
+        ensures end { IfOk result (λ journal. journal.end ≡ 26 + length (payload_of batch.now)) }
         ensures settled { IfOk result (λ journal. IsTrue (D.tells disk.old) → IsSettled D.Disk journal disk.new) }
         ensures held { OnOk result (IsTrue (D.tells disk.old) → journal_of (D.seen disk.new) ≡ holds 2 generation ((26, payload_of batch.now) ∷ [])) }
         ensures written { OnOk result (IsTrue (D.tells disk.old) → D.seen disk.new ≡ spelled 2 generation (payload_of batch.now ∷ []) ++ 0 ∷ []) }
@@ -194,7 +197,7 @@ impl Journal {
         ensures refused { IfErr result RefusesReading }
         ensures untouched { IsErrOf result JournalError.OutOfMemory → disk.new ≡ disk.old }
         ensures tells { D.tells disk.new ≡ D.tells disk.old }
-        ensures cause { CountsDiskFault result (D.faults disk.old) (D.faults disk.new) }
+        ensures cause { CountsDiskFault result (D.faults disk.old) (D.faults disk.new) (D.failed disk.new) }
     {
         let bytes = one_batch(alloc, generation, batch)?;
         close_first(disk)?;

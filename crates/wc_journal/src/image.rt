@@ -168,7 +168,8 @@ pub fn batches(
     generation: u64,
 ) -> Result<(Batches, usize), JournalError>
     requires { 16 ≤ length image.items }
-    ensures ok { IfOk result (HasBatches version generation image.items) }
+    ensures ok { IfOk result (λ found. HasBatches version generation image.items (found.0.placed, found.1)) }
+    ensures image { IfOk result (λ found. found.0.image ≡ image.items) }
     ensures refused { IfErr result (RefusesBatches (batches_from version generation 0 16 0 (drop 16 image.items))) }
 {
     match frames(alloc, &image, version, generation) {

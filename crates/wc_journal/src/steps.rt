@@ -20,7 +20,7 @@ pub fn put<D: Disk>(disk: &mut D, at: u64, bytes: &[u8]) -> Result<(), Failed>
     ensures any_moment { IsTrue (D.tells disk.old) → LeavesOnly D.Disk disk.old disk.new
         (Torn at (length bytes.now) (length (D.seen disk.old)) (D.seen disk.old)) }
     ensures tells { D.tells disk.new ≡ D.tells disk.old }
-    ensures cause { CountsFault result (D.faults disk.old) (D.faults disk.new) }
+    ensures cause { CountsFault result (D.faults disk.old) (D.faults disk.new) (D.failed disk.new) }
 {
     disk.write_at(at, bytes)?;
     disk.sync()?;
@@ -36,7 +36,7 @@ pub fn put_behind_first<D: Disk>(disk: &mut D, bytes: &[u8]) -> Result<(), Faile
     ensures any_moment { IsTrue (D.tells disk.old) → LeavesOnly D.Disk disk.old disk.new
         (λ image. take 1 image ≡ take 1 (D.seen disk.old)) }
     ensures tells { D.tells disk.new ≡ D.tells disk.old }
-    ensures cause { CountsFault result (D.faults disk.old) (D.faults disk.new) }
+    ensures cause { CountsFault result (D.faults disk.old) (D.faults disk.new) (D.failed disk.new) }
 {
     disk.cut(1)?;
     disk.write_at(1, bytes)?;
@@ -55,7 +55,7 @@ pub fn begins<D: Disk>(disk: &mut D) -> Result<bool, Failed>
     ensures durable { IsTrue (D.tells disk.old) → Only (D.seen disk.new) (D.may_leave disk.new) }
     ensures any_moment { IsTrue (D.tells disk.old) → LeavesOnly D.Disk disk.old disk.new (λ image. image ≡ D.seen disk.old) }
     ensures tells { D.tells disk.new ≡ D.tells disk.old }
-    ensures cause { CountsFault result (D.faults disk.old) (D.faults disk.new) }
+    ensures cause { CountsFault result (D.faults disk.old) (D.faults disk.new) (D.failed disk.new) }
 {
     if disk.len()? == 0 {
         return Ok(true);
@@ -73,7 +73,7 @@ pub fn close_first<D: Disk>(disk: &mut D) -> Result<(), Failed>
     ensures durable { OnOk result (IsTrue (D.tells disk.old) → Only (D.seen disk.new) (D.may_leave disk.new)) }
     ensures any_moment { IsTrue (D.tells disk.old) → LeavesOnly D.Disk disk.old disk.new (ClosesFirst (D.seen disk.old)) }
     ensures tells { D.tells disk.new ≡ D.tells disk.old }
-    ensures cause { CountsFault result (D.faults disk.old) (D.faults disk.new) }
+    ensures cause { CountsFault result (D.faults disk.old) (D.faults disk.new) (D.failed disk.new) }
 {
     if !begins(disk)? {
         return Ok(());
@@ -90,7 +90,7 @@ pub fn read_synced<D: Disk>(alloc: Global, disk: &mut D) -> Result<Vec<u8>, Jour
     ensures any_moment { LeavesOnly D.Disk disk.old disk.new (D.may_leave disk.old) }
     ensures tells { D.tells disk.new ≡ D.tells disk.old }
     ensures refused { IfErr result RefusesReading }
-    ensures cause { CountsDiskFault result (D.faults disk.old) (D.faults disk.new) }
+    ensures cause { CountsDiskFault result (D.faults disk.old) (D.faults disk.new) (D.failed disk.new) }
 {
     disk.sync()?;
     let len = disk.len()?;

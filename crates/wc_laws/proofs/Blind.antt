@@ -33,14 +33,14 @@ use Rattle.wc_semantics.specs.Tables.{Label}
 use Rattle.wc_semantics.proofs.Acts.{opened, exec_is, block_is, picked_lists}
 use Rattle.wc_semantics.proofs.Frugal.{Picks, picks}
 use Rattle.wc_semantics.proofs.Induction.{AllOf, OptionOf, Inside, every_list}
-use Rattle.wc_laws.specs.Instead.{Calls, flow_instead, GiveOneTree}
+use Rattle.wc_laws.specs.Instead.{MadeCalls, flow_instead, GiveOneTree}
 use Rattle.wc_laws.specs.FramingLaws.{RunsSeeNumbers, EqualTreesEndAlike}
 
 -- with calls that were made before those that are there
-abbrev behind : Calls → Progress → Progress
+abbrev behind : MadeCalls → Progress → Progress
 behind cs e = record { env = e.env; outputs = e.outputs; calls = cs ++ e.calls }
 
-abbrev onto : Calls → Flow → Flow
+abbrev onto : MadeCalls → Flow → Flow
 onto cs (Goes n e) = Goes n (behind cs e)
 onto cs (Ends s n e) = Ends s n (behind cs e)
 onto cs NoFuel = NoFuel
@@ -48,36 +48,36 @@ onto cs (Lacks q) = Lacks q
 onto cs Off = Off
 
 -- What follows k calls is one and the same flow, behind whichever they are.
-abbrev Blind : ℕ → (Calls → Flow) → Type 0
-Blind k f = (g : Flow) × ((cs : Calls) → length cs ≡ k → f cs ≡ onto cs g)
+abbrev Blind : ℕ → (MadeCalls → Flow) → Type 0
+Blind k f = (g : Flow) × ((cs : MadeCalls) → length cs ≡ k → f cs ≡ onto cs g)
 
 abbrev BlindAct : Act → Type 0
 BlindAct x = (a : Around) (n : ℕ) (e : Progress) (k : ℕ) → Blind k (λ cs. x a n (behind cs e))
 
-same_blind : (k : ℕ) (f f' : Calls → Flow) → ((cs : Calls) → length cs ≡ k → f cs ≡ f' cs) → Blind k f' → Blind k f
+same_blind : (k : ℕ) (f f' : MadeCalls → Flow) → ((cs : MadeCalls) → length cs ≡ k → f cs ≡ f' cs) → Blind k f' → Blind k f
 same_blind k f f' p t = (t.0, λ cs h. p cs h ∙ t.1 cs h)
 
-follow_blind : (k : ℕ) (f : Calls → Flow) (y : ℕ → Progress → Flow) → Blind k f → ((m : ℕ) (d : Progress) → Blind k (λ cs. y m (behind cs d))) → Blind k (λ cs. f cs >-> y)
+follow_blind : (k : ℕ) (f : MadeCalls → Flow) (y : ℕ → Progress → Flow) → Blind k f → ((m : ℕ) (d : Progress) → Blind k (λ cs. y m (behind cs d))) → Blind k (λ cs. f cs >-> y)
 follow_blind k f y t q = at t.0 t.1
   where
-    at : (g : Flow) → ((cs : Calls) → length cs ≡ k → f cs ≡ onto cs g) → Blind k (λ cs. f cs >-> y)
+    at : (g : Flow) → ((cs : MadeCalls) → length cs ≡ k → f cs ≡ onto cs g) → Blind k (λ cs. f cs >-> y)
     at (Goes m d) p = ((q m d).0, λ cs h. ap (λ (x : Flow). x >-> y) (p cs h) ∙ (q m d).1 cs h)
     at (Ends s m d) p = (Ends s m d, λ cs h. ap (λ (x : Flow). x >-> y) (p cs h))
     at NoFuel p = (NoFuel, λ cs h. ap (λ (x : Flow). x >-> y) (p cs h))
     at (Lacks r) p = (Lacks r, λ cs h. ap (λ (x : Flow). x >-> y) (p cs h))
     at Off p = (Off, λ cs h. ap (λ (x : Flow). x >-> y) (p cs h))
 
-spend_blind : (k n : ℕ) (f : Calls → ℕ → Flow) → ((m : ℕ) → Blind k (λ cs. f cs m)) → Blind k (λ cs. spend n (f cs))
+spend_blind : (k n : ℕ) (f : MadeCalls → ℕ → Flow) → ((m : ℕ) → Blind k (λ cs. f cs m)) → Blind k (λ cs. spend n (f cs))
 spend_blind k zero f p = (NoFuel, λ cs h. refl)
 spend_blind k (suc n) f p = p n
 
-taken_blind : (k : ℕ) (x : Answer) (f : Calls → Replayed → ℕ → Flow) → ((t : Replayed) (m : ℕ) → Blind k (λ cs. f cs t m)) → Blind k (λ cs. taken x (f cs))
+taken_blind : (k : ℕ) (x : Answer) (f : MadeCalls → Replayed → ℕ → Flow) → ((t : Replayed) (m : ℕ) → Blind k (λ cs. f cs t m)) → Blind k (λ cs. taken x (f cs))
 taken_blind k (Gave t m) f p = p t m
 taken_blind k TooLittle f p = (NoFuel, λ cs h. refl)
 taken_blind k (Without r) f p = (Lacks r, λ cs h. refl)
 taken_blind k Astray f p = (Off, λ cs h. refl)
 
-test_blind : (k : ℕ) (o : Outcome Bool) (n : ℕ) (e : Progress) (f g : Calls → Flow) → Blind k f → Blind k g → Blind k (λ cs. test o n (behind cs e) (f cs) (g cs))
+test_blind : (k : ℕ) (o : Outcome Bool) (n : ℕ) (e : Progress) (f g : MadeCalls → Flow) → Blind k f → Blind k g → Blind k (λ cs. test o n (behind cs e) (f cs) (g cs))
 test_blind k (Faults r) n e f g p q = (Ends (Excepted r) n e, λ cs h. refl)
 test_blind k (Gives true) n e f g p q = p
 test_blind k (Gives false) n e f g p q = q
@@ -87,7 +87,7 @@ nothing_blind k n e = (Goes n e, λ cs h. refl)
 
 -- ---- the calls of a step: a label and the stop have the number of calls
 
-many : (k : ℕ) (e : Progress) (cs : Calls) → length cs ≡ k → length (cs ++ e.calls) ≡ k + length e.calls
+many : (k : ℕ) (e : Progress) (cs : MadeCalls) → length cs ≡ k → length (cs ++ e.calls) ≡ k + length e.calls
 many k e cs h = length-append cs e.calls ∙ ap (λ (j : ℕ). j + length e.calls) h
 
 take_blind : (ps : List Planned) → BlindAct (take_calls ps)
@@ -167,7 +167,7 @@ run_blind is = all_blind is (every_list (λ i. BlindAct (exec i)) (λ b. BlindAc
 -- ---- two runs, behind lists of calls of one length
 
 -- one flow, behind one list of calls and behind another
-abbrev OneFlow : Calls → Calls → Flow → Flow → Type 0
+abbrev OneFlow : MadeCalls → MadeCalls → Flow → Flow → Type 0
 OneFlow cs cs' f f' = (g : Flow) × (f ≡ onto cs g) × (f' ≡ onto cs' g)
 
 one_flow : (x : Act) → BlindAct x → (a : Around) (n : ℕ) (e e' : Progress) → e.env ≡ e'.env → e.outputs ≡ e'.outputs → length e.calls ≡ length e'.calls
@@ -181,11 +181,11 @@ one_flow x t a n e e' p q h =
 
 -- ---- with other calls in their place
 
-dropped : (cs more : Calls) → drop (length cs) (cs ++ more) ≡ more
+dropped : (cs more : MadeCalls) → drop (length cs) (cs ++ more) ≡ more
 dropped [] more = refl
 dropped (c ∷ cs) more = dropped cs more
 
-put_instead : (cs other : Calls) (g : Flow) → onto other g ≡ flow_instead (length cs) other (onto cs g)
+put_instead : (cs other : MadeCalls) (g : Flow) → onto other g ≡ flow_instead (length cs) other (onto cs g)
 put_instead cs other (Goes n e) = λ i. Goes n (record { env = e.env; outputs = e.outputs; calls = other ++ sym (dropped cs e.calls) i })
 put_instead cs other (Ends s n e) = λ i. Ends s n (record { env = e.env; outputs = e.outputs; calls = other ++ sym (dropped cs e.calls) i })
 put_instead cs other NoFuel = refl
@@ -199,10 +199,10 @@ runs_see_numbers is a n d e p q h =
 
 -- ---- the end of a run
 
-same_calls : (cs other more : Calls) → map its_tree cs ≡ map its_tree other → map its_tree (cs ++ more) ≡ map its_tree (other ++ more)
+same_calls : (cs other more : MadeCalls) → map its_tree cs ≡ map its_tree other → map its_tree (cs ++ more) ≡ map its_tree (other ++ more)
 same_calls cs other more h = map-append its_tree cs more ∙ ap (λ ts. ts ++ map its_tree more) h ∙ sym (map-append its_tree other more)
 
-ends_alike : (cs other : Calls) (stop : Option ℕ) (name : List ℕ) (s : ProcessState) (n : ℕ) (e : Progress) → map its_tree cs ≡ map its_tree other
+ends_alike : (cs other : MadeCalls) (stop : Option ℕ) (name : List ℕ) (s : ProcessState) (n : ℕ) (e : Progress) → map its_tree cs ≡ map its_tree other
     → GiveOneTree (end stop name s n (behind cs e)) (end stop name s n (behind other e))
 ends_alike cs other stop name s n e h = at (strays stop s)
   where
@@ -210,7 +210,7 @@ ends_alike cs other stop name s n e h = at (strays stop s)
     at true = tt
     at false = (refl, (λ i. roll-Tree (record { definition = name; state = s; outputs = kept s e.outputs; calls = same_calls cs other e.calls h i })))
 
-ended_alike : (cs other : Calls) (stop : Option ℕ) (name : List ℕ) (ports : List Port) (g : Flow) → map its_tree cs ≡ map its_tree other
+ended_alike : (cs other : MadeCalls) (stop : Option ℕ) (name : List ℕ) (ports : List Port) (g : Flow) → map its_tree cs ≡ map its_tree other
     → GiveOneTree (ended stop name ports (onto cs g)) (ended stop name ports (onto other g))
 ended_alike cs other stop name ports (Goes n e) h = ends_alike cs other stop name (judged ports (Finished 0) e.outputs) n e h
 ended_alike cs other stop name ports (Ends s n e) h = ends_alike cs other stop name (judged ports s e.outputs) n e h
@@ -218,7 +218,7 @@ ended_alike cs other stop name ports NoFuel h = tt
 ended_alike cs other stop name ports (Lacks q) h = refl
 ended_alike cs other stop name ports Off h = tt
 
-same_length : (cs other : Calls) → map its_tree cs ≡ map its_tree other → length cs ≡ length other
+same_length : (cs other : MadeCalls) → map its_tree cs ≡ map its_tree other → length cs ≡ length other
 same_length cs other h = sym (length-map cs its_tree) ∙ ap length h ∙ length-map other its_tree
 
 -- what a chain does that awaits calls

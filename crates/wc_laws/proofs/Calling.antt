@@ -39,7 +39,7 @@ use Rattle.wc_machine.specs.Sound.{HoldsEnded, IsEndedCall, IsKnownNode, IsSound
 use Rattle.wc_machine.specs.Stepping.{Call}
 use Rattle.wc_machine.proofs.EndedTrees.{call_is_called}
 use Rattle.wc_machine.proofs.Frames.{branches_by, value_stays}
-use Rattle.wc_laws.specs.Instead.{Calls}
+use Rattle.wc_laws.specs.Instead.{MadeCalls}
 use Rattle.wc_laws.specs.Touching.{MayBeTouched, Touches}
 use Rattle.wc_laws.proofs.Standing.{Over, called_there, inputs_of_kept, items_kept, over_tree}
 use Rattle.wc_laws.proofs.Touched.{library_kept, within as number_within}
@@ -74,7 +74,7 @@ pub record IsCalling (w v : World) (r : ProcessRecord) (k : Chain) (library : Li
   pub keys : All (λ e. HoldsEnded w r e.1) d.ctx
   pub values : All (λ o. IsData w w o.1) d.outputs
   pub names : All (λ o. IsKnownNode w r o.1) d.outputs
-  pub exact : (earlier : Calls) (table : Table) (cuts : Kills) (stop : Option ℕ) (n : ℕ) → finishes w r k library earlier table cuts stop c n
+  pub exact : (earlier : MadeCalls) (table : Table) (cuts : Kills) (stop : Option ℕ) (n : ℕ) → finishes w r k library earlier table cuts stop c n
       ≡ ended stop r.definition k.head.outputs
       (remains k (view_of w) (inputs_of w r.node) earlier (within k.head.outputs stop (around (levels_of r) library table cuts)) c (submits d calls) n)
   pub submitted : HasSubmitted w v r d calls
@@ -197,7 +197,7 @@ module _ (w v : World) (r : ProcessRecord) (k : Chain) (library : List Definitio
 
   -- ---- what remains: its calls, and then the run from its checkpoint
 
-  abbrev pub waits : Calls → Table → Kills → Option ℕ → ℕ → Answer
+  abbrev pub waits : MadeCalls → Table → Kills → Option ℕ → ℕ → Answer
   waits earlier table cuts stop n = ended stop r.definition k.head.outputs
       (remains k (view_of w) (inputs_of w r.node) earlier (within k.head.outputs stop (around (levels_of r) library table cuts)) c (submits d calls) n)
 

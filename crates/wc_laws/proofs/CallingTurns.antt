@@ -24,7 +24,7 @@ use Rattle.wc_machine.specs.Recorded.{recorded_inputs}
 use Rattle.wc_machine.specs.Resting.{levels_of}
 use Rattle.wc_machine.specs.Sound.{HoldsEnded, IsKnownNode, NamesKnown}
 use Rattle.wc_machine.specs.Stepping.{Call, values_in}
-use Rattle.wc_laws.specs.Instead.{Calls}
+use Rattle.wc_laws.specs.Instead.{MadeCalls}
 use Rattle.wc_laws.specs.OutlineLaws.{remains}
 use Rattle.wc_laws.specs.Nodes.{HoldsAfter, NodesAre}
 use Rattle.wc_laws.specs.View.{env_in}
@@ -50,7 +50,7 @@ use Rattle.wc_laws.proofs.CallingOnTrack.{waits_on_track}
 use Rattle.wc_laws.proofs.PlannedCalls.{IsMade, awaited_is}
 
 module _ (w : World) (r : ProcessRecord) (k : Chain) (library : List Definition) (c : Checkpoint) (env : Env) (at : IsAtTurn w r k library c env) where
-  step_is : (x : Advanced) → advance library k r.depth env c ≡ x → (earlier : Calls) (table : Table) (cuts : Kills) (stop : Option ℕ) (n : ℕ)
+  step_is : (x : Advanced) → advance library k r.depth env c ≡ x → (earlier : MadeCalls) (table : Table) (cuts : Kills) (stop : Option ℕ) (n : ℕ)
       → finishes w r k library earlier table cuts stop c n
       ≡ ended stop r.definition k.head.outputs (remains k (view_of w) (inputs_of w r.node) earlier (within k.head.outputs stop (around (levels_of r) library table cuts)) c x n)
   step_is x e earlier table cuts stop n =

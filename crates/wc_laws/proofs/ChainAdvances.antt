@@ -13,7 +13,7 @@ use Rattle.wc_semantics.specs.declared.progress.Answer.TheVariants.{Gave, TooLit
 use Rattle.wc_semantics.specs.Meaning.{ended, around, within}
 use Rattle.wc_semantics.specs.Run.{Around}
 use Rattle.wc_semantics.specs.Tables.{Table, Kills}
-use Rattle.wc_laws.specs.Instead.{Calls}
+use Rattle.wc_laws.specs.Instead.{MadeCalls}
 use Rattle.wc_world.specs.Records.{find_record, has_ended}
 use Rattle.wc_world.specs.Trees.{inputs_of, items_of, context_of}
 use Rattle.wc_world.specs.World.{World}
@@ -60,7 +60,7 @@ module _ (w : World) (r : ProcessRecord) (k : Chain) (library : List Definition)
 
   -- ---- one step of the run
 
-  step_is : (x : Advanced) → advance library k r.depth env c ≡ x → (earlier : Calls) (table : Table) (cuts : Kills) (stop : Option ℕ) (n : ℕ)
+  step_is : (x : Advanced) → advance library k r.depth env c ≡ x → (earlier : MadeCalls) (table : Table) (cuts : Kills) (stop : Option ℕ) (n : ℕ)
       → finishes w r k library earlier table cuts stop c n
       ≡ ended stop r.definition k.head.outputs (remains k (view_of w) (inputs_of w r.node) earlier (within k.head.outputs stop (around (levels_of r) library table cuts)) c x n)
   step_is x e earlier table cuts stop n =
@@ -106,7 +106,7 @@ module _ (w : World) (r : ProcessRecord) (k : Chain) (library : List Definition)
 
   -- ---- a turn of a loop
 
-  lower_loop : (d : Checkpoint) → advance library k r.depth env c ≡ loops d → (earlier : Calls) (table : Table) (cuts : Kills) (n : ℕ) (t : Tree)
+  lower_loop : (d : Checkpoint) → advance library k r.depth env c ≡ loops d → (earlier : MadeCalls) (table : Table) (cuts : Kills) (n : ℕ) (t : Tree)
       → GivesTree (Some (finishes w r k library earlier table cuts None c n)) t → (m : ℕ) × GivesTree (Some (finishes w r k library earlier table cuts None d m)) t
   lower_loop d e earlier table cuts zero t g =
       let h = subst (λ (x : Answer). GivesTree (Some x) t) (step_is (loops d) e earlier table cuts None 0) g in

@@ -38,7 +38,7 @@ use Rattle.wc_machine.specs.Outlines.{Blocks, blocks, block_of, blocks_in, left_
 use Rattle.wc_machine.specs.Resting.{env_alone}
 use Rattle.wc_machine.specs.Stepping as machine
 use Rattle.wc_machine.specs.Stepping.{stops, makes}
-use Rattle.wc_laws.specs.Instead.{Calls}
+use Rattle.wc_laws.specs.Instead.{MadeCalls}
 use Rattle.wc_laws.specs.OutlineLaws.{as_planned, remains, run_on, AdvancesAreExact}
 use Rattle.wc_laws.specs.View.{View, IsSeenRight, env_in, values_of, progress_in}
 use Rattle.wc_laws.proofs.Alongside.{Alongside, noted, alongside}
@@ -69,7 +69,7 @@ pub record Surrounds (library : List Definition) (ports : List Port) (depth : �
   pub takes : a.takes ≡ takes_of library
   pub kinds : a.kinds ≡ kinds_of ports
 
-module _ (library : List Definition) (k : Chain) (depth : ℕ) (v : View) (inputs : NamedValues) (c : Checkpoint) (earlier : Calls) (a : Around)
+module _ (library : List Definition) (k : Chain) (depth : ℕ) (v : View) (inputs : NamedValues) (c : Checkpoint) (earlier : MadeCalls) (a : Around)
     (stop : Option ℕ) (name : List ℕ) (around_it : Surrounds library k.head.outputs depth a) (seen : IsSeenRight v inputs) where
   abbrev bs : Blocks
   bs = blocks k.outline

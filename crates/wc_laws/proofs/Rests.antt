@@ -19,13 +19,13 @@ use Rattle.wc_world.specs.Trees.{inputs_of, items_of, context_of, environment_at
 use Rattle.wc_world.specs.World.{World}
 use Rattle.wc_machine.specs.Recorded.{its_definition}
 use Rattle.wc_machine.specs.Resting.{levels_of, env_alone, set_values, as_call, progress_with, progress_of, bound_trees, awaited, gone_on, chain_rest, part_rest, rest}
-use Rattle.wc_laws.specs.Instead.{Calls}
+use Rattle.wc_laws.specs.Instead.{MadeCalls}
 use Rattle.wc_laws.specs.OutlineLaws.{run_on}
 use Rattle.wc_laws.specs.View.{context_in, values_of, env_in, progress_in}
 use Rattle.wc_laws.proofs.SeenWorlds.{view_of}
 
 -- how a chain ends that goes on from a checkpoint, where this is seen and these calls were made
-abbrev pub finishes : World → ProcessRecord → Chain → List Definition → Calls → Table → Kills → Option ℕ → Checkpoint → ℕ → Answer
+abbrev pub finishes : World → ProcessRecord → Chain → List Definition → MadeCalls → Table → Kills → Option ℕ → Checkpoint → ℕ → Answer
 finishes w r k library earlier table cuts stop c n =
     ended stop r.definition k.head.outputs
     (run_on k (view_of w) (inputs_of w r.node) earlier (within k.head.outputs stop (around (levels_of r) library table cuts)) c n)

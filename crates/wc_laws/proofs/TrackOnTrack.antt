@@ -20,7 +20,7 @@ use Rattle.wc_semantics.specs.Laws.{MoreAnswer}
 use Rattle.wc_semantics.specs.Meaning as meaning
 use Rattle.wc_semantics.specs.Tables.{Label, Table, Kills}
 use Rattle.wc_semantics.proofs.Keeps.{meaning_more}
-use Rattle.wc_laws.specs.Instead.{Calls}
+use Rattle.wc_laws.specs.Instead.{MadeCalls}
 use Rattle.wc_world.specs.Records.{find_record, library_at, has_ended, is_call_from}
 use Rattle.wc_world.specs.Trees.{branches, recorded_tree}
 use Rattle.wc_world.specs.World.{World}
@@ -50,9 +50,9 @@ pub record GoesOn (w : World) (r : ProcessRecord) (k : Chain) (library : List De
   pub library_there : library_at w.libraries r.library ≡ Some library
   pub stands : Standing r c
   pub counts : KeepsCalls c d
-  pub exact : (earlier : Calls) (table : Table) (cuts : Kills) (stop : Option ℕ) (n : ℕ)
+  pub exact : (earlier : MadeCalls) (table : Table) (cuts : Kills) (stop : Option ℕ) (n : ℕ)
       → finishes w r k library earlier table cuts stop c (n + more) ≡ finishes w r k library earlier table cuts stop d n
-  pub lower : (earlier : Calls) (table : Table) (cuts : Kills) (n : ℕ) (t : Tree) → GivesTree (Some (finishes w r k library earlier table cuts None c n)) t
+  pub lower : (earlier : MadeCalls) (table : Table) (cuts : Kills) (n : ℕ) (t : Tree) → GivesTree (Some (finishes w r k library earlier table cuts None c n)) t
       → (m : ℕ) × GivesTree (Some (finishes w r k library earlier table cuts None d m)) t
 
 module _ (w : World) (r : ProcessRecord) (k : Chain) (library : List Definition) (c d : Checkpoint) (more : ℕ) (on : GoesOn w r k library c d more)

@@ -30,7 +30,7 @@ use Rattle.wc_semantics.specs.Meaning as meaning
 use Rattle.wc_semantics.specs.Meaning.{ended, around, within, chain_tree, its_tree}
 use Rattle.wc_semantics.specs.Run.{Around}
 use Rattle.wc_semantics.specs.Tables.{Label, Table, Kills}
-use Rattle.wc_laws.specs.Instead.{Calls}
+use Rattle.wc_laws.specs.Instead.{MadeCalls}
 use Rattle.wc_laws.proofs.Touched.{meant_kept, tables_narrow, untouched}
 use Rattle.wc_world.specs.World.{World}
 use Rattle.wc_world.specs.Consistent.{Stands}
@@ -220,10 +220,10 @@ module _ (w : World) (r : ProcessRecord) (k : Chain) (library : List Definition)
 
   -- ---- the run comes to it
 
-  abbrev progress : Calls → Progress
+  abbrev progress : MadeCalls → Progress
   progress earlier = record { env = env_alone (env_in (view_of w) (inputs_of w r.node) c.ctx); outputs = values_of (view_of w) outputs; calls = earlier }
 
-  comes_to : (earlier : Calls) (table : Table) (cuts : Kills) (n : ℕ) → finishes w r k library earlier table cuts None c n
+  comes_to : (earlier : MadeCalls) (table : Table) (cuts : Kills) (n : ℕ) → finishes w r k library earlier table cuts None c n
       ≡ Gave (chain_tree r.definition (meaning.judged k.head.outputs s (values_of (view_of w) outputs)) (progress earlier)) n
   comes_to earlier table cuts n =
       let a : Around = within k.head.outputs None (around (levels_of r) library table cuts) in

@@ -9,15 +9,15 @@ use Rattle.wc_semantics.specs.declared.progress.Replayed.{Replayed}
 use Rattle.wc_semantics.specs.Tables.{Label}
 
 -- calls with what was asked for each
-abbrev pub Calls : Type 0
-Calls = List (Label × Replayed)
+abbrev pub MadeCalls : Type 0
+MadeCalls = List (Label × Replayed)
 
 -- progress with these calls in place of so many earlier ones
-abbrev pub instead : ℕ → Calls → Progress → Progress
+abbrev pub instead : ℕ → MadeCalls → Progress → Progress
 instead k cs e = record { env = e.env; outputs = e.outputs; calls = cs ++ drop k e.calls }
 
 -- where a run comes to, with these calls in place of so many earlier ones
-abbrev pub flow_instead : ℕ → Calls → Flow → Flow
+abbrev pub flow_instead : ℕ → MadeCalls → Flow → Flow
 flow_instead k cs (Goes n e) = Goes n (instead k cs e)
 flow_instead k cs (Ends s n e) = Ends s n (instead k cs e)
 flow_instead k cs NoFuel = NoFuel

@@ -16,14 +16,14 @@ use Rattle.wc_machine.specs.Outlines.{blocks, left}
 use Rattle.wc_machine.specs.Resting.{env_alone}
 use Rattle.wc_machine.specs.Stepping.{Call, values_in}
 use Rattle.wc_world.specs.Trees.{NamedValues}
-use Rattle.wc_laws.specs.Instead.{Calls}
+use Rattle.wc_laws.specs.Instead.{MadeCalls}
 use Rattle.wc_laws.specs.View.{View, IsSeenRight, env_in, values_of, progress_in}
 
 -- a call that a step makes, as one that a run plans: the values of its arguments
 abbrev pub as_planned : Call → Planned
 as_planned c = record { callee = c.definition; key = c.key; append = c.append; inputs = values_in c.args }
 
-module _ (k : Chain) (v : View) (inputs : NamedValues) (earlier : Calls) (a : Around) where
+module _ (k : Chain) (v : View) (inputs : NamedValues) (earlier : MadeCalls) (a : Around) where
   -- the run of the instructions that a checkpoint leaves, from there on
   abbrev pub run_on : Checkpoint → ℕ → Flow
   run_on c n = run (left (blocks k.outline) c.frames) a n (progress_in v inputs earlier c)
@@ -39,7 +39,7 @@ module _ (k : Chain) (v : View) (inputs : NamedValues) (earlier : Calls) (a : Ar
 -- The run from a checkpoint ends as the run that remains after one advance, for every table, every list of kills, every stop and every amount of
 -- fuel; whatever the values of data and the called processes are, and whatever was called earlier.
 abbrev pub AdvancesAreExact : Type 0
-AdvancesAreExact = (library : List Definition) (k : Chain) (depth : ℕ) (v : View) (inputs : NamedValues) (c : Checkpoint) (earlier : Calls)
+AdvancesAreExact = (library : List Definition) (k : Chain) (depth : ℕ) (v : View) (inputs : NamedValues) (c : Checkpoint) (earlier : MadeCalls)
     (table : Table) (cuts : Kills) (stop : Option ℕ) (name : List ℕ) (n : ℕ) → IsSeenRight v inputs
     → (a : Around) → a ≡ within k.head.outputs stop (around (16 - depth) library table cuts)
     → ended stop name k.head.outputs (run_on k v inputs earlier a c n)

@@ -14,7 +14,7 @@ use Rattle.wc_semantics.specs.declared.progress.Progress.{Progress}
 use Rattle.wc_semantics.specs.Tables.{Label}
 use Rattle.wc_world.specs.Trees.{NamedValues}
 use Rattle.wc_machine.specs.Resting.{env_alone}
-use Rattle.wc_laws.specs.Instead.{Calls}
+use Rattle.wc_laws.specs.Instead.{MadeCalls}
 
 -- the value of each data node, and what is seen of each called process
 pub record View : Type 0 where
@@ -47,5 +47,5 @@ abbrev pub env_in : View → NamedValues → Pairs → Env
 env_in v inputs ctx = record { inputs = inputs; ctx = context_in v ctx }
 
 -- how far a chain is that stands at a checkpoint, with these inputs and these earlier calls
-abbrev pub progress_in : View → NamedValues → Calls → Checkpoint → Progress
+abbrev pub progress_in : View → NamedValues → MadeCalls → Checkpoint → Progress
 progress_in v inputs calls c = record { env = env_alone (env_in v inputs c.ctx); outputs = values_of v c.outputs; calls = calls }

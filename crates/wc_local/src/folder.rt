@@ -88,7 +88,7 @@ fn place_file<R: Files<File = File>>(
 }
 
 /// Whether a name is that of a file in the folder itself, and none of the folder's own.
-fn is_plain(name: &Text) -> bool {
+fn is_file_name(name: &Text) -> bool {
     let name = name.as_str();
     !name.is_empty() && !name.starts_with('.') && !name.starts_with("_wc") && !name.contains('/')
 }
@@ -108,14 +108,14 @@ fn is_runnable(request: &Request) -> bool {
 }
 
 /// Whether each file that a request brings or asks for is one of the folder itself.
-fn names_are_plain(request: &Request) -> bool {
+fn names_are_of_files(request: &Request) -> bool {
     for (name, _) in request.files.as_slice() {
-        if !is_plain(name) {
+        if !is_file_name(name) {
             return false;
         }
     }
     for name in request.fetch.as_slice() {
-        if !is_plain(name) {
+        if !is_file_name(name) {
             return false;
         }
     }
@@ -203,7 +203,7 @@ pub fn place<R: Files<File = File>>(
     if !is_runnable(request) {
         return Err(Fault::Program);
     }
-    if !names_are_plain(request) {
+    if !names_are_of_files(request) {
         return Err(Fault::Name);
     }
     called("making the folder", fs::create_dir_all(rt, folder))?;
@@ -289,7 +289,7 @@ pub fn result_of<R: Files>(
     let code = code_of(rt, alloc, folder)?;
     let mut files = Keyed::new(alloc);
     for name in request.fetch.as_slice() {
-        if !is_plain(name) {
+        if !is_file_name(name) {
             return Err(Fault::Name);
         }
         let path = path_in(alloc, folder, name.as_str())?;

@@ -5,10 +5,9 @@ ghost use Rattle.std.specs.Option.{option_copied};
 ghost use Rattle.wc_syntax.specs.Findings.{definition_named};
 ghost use Rattle.wc_meaning.specs.Ran.{ran};
 
-use crate::functions::find_definition;
 use std::alloc::{AllocError, Global};
 use wc_semantics::{Parsed, calculate, parse_result};
-use wc_syntax::{Checked, Definition};
+use wc_syntax::{Checked, Definition, find_definition};
 use wc_value::{Fields, JobResult, Text};
 
 /// What the rules of a function give, or those of a job's `parse` part with its result.

@@ -5,7 +5,6 @@
 #![tactic(auto)]
 
 mod calculations;
-mod functions;
 mod inputs;
 mod kills;
 mod replies;
@@ -14,7 +13,6 @@ mod statements;
 mod trees;
 
 pub use calculations::rules;
-pub use functions::{find_definition, head};
 pub use inputs::{find_bad_input, least_name, lesser_name};
 pub use replies::{DryError, dry, replay};
 pub use run::mean;

@@ -4,13 +4,12 @@ ghost use Rattle.std.specs.Prelude.{◌≡◌, ◌≤◌, ◌-◌, []};
 ghost use Rattle.wc_meaning.specs.Replies.{Replies, DryReplies, tree_alone, reply_of};
 ghost use Rattle.wc_meaning.specs.declared.replies.DryError.TheVariants.{OutOfMemory};
 
-use crate::functions::{find_definition, head};
 use crate::inputs::find_bad_input;
 use crate::run::mean;
 use std::alloc::{AllocError, AllocFailed, Global};
 use thiserror::Error;
 use wc_semantics::{Answer, Kills, Replayed};
-use wc_syntax::{Checked, Library};
+use wc_syntax::{Checked, Library, find_definition, head};
 use wc_value::{Duplicate, Fields, Request, Table, Text, Tree};
 
 /// The greatest depth of a process.

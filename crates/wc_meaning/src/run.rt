@@ -10,19 +10,19 @@ ghost use Rattle.wc_semantics.specs.Requests.{request};
 ghost use Rattle.wc_semantics.specs.Outcomes.{calculated, excepted, parsed};
 ghost use Rattle.wc_meaning.specs.Settings.{around_in};
 
-use crate::functions::find_definition;
 use crate::kills::{find_kill, kills_below};
 use crate::statements::{Setting, run_statements};
 use crate::trees::{asked_itself, finish, killed_first, leaf};
 use std::alloc::{AllocError, Global};
 use wc_expression::{Outcome, eval_condition};
 use wc_semantics::{
-    Answer, Asked, Calls, Flow, Kills, Parsed, Plan, Planned, Progress, Replayed, Stepped,
+    Answer, Asked, Flow, Kills, MadeCalls, Parsed, Plan, Planned, Progress, Replayed, Stepped,
     bind_child, calculate, environment, label_of, parse_result, request_of,
 };
 use wc_state::{Child, Env};
 use wc_syntax::{
     Arms, Block, Chain, Definition, Expr, Function, Instr, Job, Library, Number, Stmts,
+    find_definition,
 };
 use wc_value::{
     Duplicate, Fields, JobResult, ProcessState, Reason, Request, Table, Text, same_request,
@@ -366,7 +366,7 @@ fn mean_chain(
     let progress = Progress {
         env: environment(alloc, inputs)?,
         outputs: Fields::new(alloc),
-        calls: Calls::new(alloc),
+        calls: MadeCalls::new(alloc),
     };
     let flow = run_block(alloc, setting, outline, fuel, progress)?;
     finish(alloc, name, setting.ports, setting.stop, flow)

@@ -5,13 +5,15 @@ ghost use Rattle.wc_semantics.specs.Meaning.{takes_of};
 ghost use Rattle.wc_semantics.specs.Statements.{names_data, output, argument, arguments, collected, statements, exits, with_key};
 ghost use Rattle.wc_semantics.specs.Rules.{kind_of_port};
 
-use crate::functions::{find_definition, head};
 use crate::inputs::are_good;
 use std::alloc::{AllocError, Global};
 use wc_expression::{Outcome, eval, eval_form};
 use wc_semantics::{Kills, Plan, Planned, Stepped, exit_status, fits, set_key, takes};
 use wc_state::{Env, Item};
-use wc_syntax::{CallArgs, CallStmt, ChildPart, Expr, Form, Library, Name, PortList, Stmt, Stmts};
+use wc_syntax::{
+    CallArgs, CallStmt, ChildPart, Expr, Form, Library, Name, PortList, Stmt, Stmts,
+    find_definition, head,
+};
 use wc_value::{Duplicate, Fields, ProcessState, Reason, Table, Text, Value};
 
 /// What surrounds the run of a work chain.

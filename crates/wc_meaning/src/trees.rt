@@ -4,7 +4,7 @@ ghost use Rattle.std.specs.Prelude.{◌≡◌, ◌∷◌, [], IfOk, map, flat_ma
 ghost use Rattle.wc_semantics.specs.Meaning.{kept, its_tree, its_asked, from_caller, chain_tree, leaf, killed_first, judged, strays, end, ended};
 
 use std::alloc::{AllocError, Global};
-use wc_semantics::{Answer, Asked, Calls, Flow, Parsed, Progress, Replayed, final_status};
+use wc_semantics::{Answer, Asked, Flow, MadeCalls, Parsed, Progress, Replayed, final_status};
 use wc_syntax::PortList;
 use wc_value::{Branches, Duplicate, Fields, ProcessState, Request, Text, Tree, Words};
 
@@ -32,7 +32,7 @@ fn add_asked(alloc: Global, asked: Asked, label: &Text, more: Asked) -> Result<A
 }
 
 /// The trees of calls, each under its label, and what they asked.
-fn gather(alloc: Global, calls: Calls) -> Result<(Branches, Asked), AllocError>
+fn gather(alloc: Global, calls: MadeCalls) -> Result<(Branches, Asked), AllocError>
     ensures branches { IfOk result (λ r. r.0 ≡ map its_tree calls) }
     ensures asked { IfOk result (λ r. r.1 ≡ flat_map its_asked calls) }
 {

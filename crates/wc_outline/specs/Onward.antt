@@ -10,7 +10,7 @@ use Rattle.wc_semantics.specs.Tables.{Table, Kills}
 use Rattle.wc_world.specs.Trees.{NamedValues}
 use Rattle.wc_machine.specs.Advancing as machine
 use Rattle.wc_machine.specs.Stepping as stepping
-use Rattle.wc_laws.specs.Instead.{Calls}
+use Rattle.wc_laws.specs.Instead.{MadeCalls}
 use Rattle.wc_laws.specs.OutlineLaws.{run_on, remains}
 use Rattle.wc_laws.specs.View.{View, IsSeenRight, env_in}
 use Rattle.wc_outline.specs.declared.calls.Advanced.{Advanced}
@@ -41,6 +41,6 @@ around_at library k depth table cuts stop = within k.head.outputs stop (around (
 -- every list of kills, every stop and every amount of fuel, whatever the values of data and the called processes are, and whatever was called earlier.
 abbrev pub EndsAlike : List Definition → Chain → ℕ → Env → Checkpoint → Advanced → Type 0
 EndsAlike library k depth env c x = (v : View) (inputs : NamedValues) → env ≡ env_in v inputs c.ctx → IsSeenRight v inputs
-    → (earlier : Calls) (table : Table) (cuts : Kills) (stop : Option ℕ) (name : List ℕ) (n : ℕ)
+    → (earlier : MadeCalls) (table : Table) (cuts : Kills) (stop : Option ℕ) (name : List ℕ) (n : ℕ)
     → ended stop name k.head.outputs (run_on k v inputs earlier (around_at library k depth table cuts stop) c n)
     ≡ ended stop name k.head.outputs (remains k v inputs earlier (around_at library k depth table cuts stop) c (seen_by v x) n)

@@ -18,9 +18,8 @@ use crate::frames::place_of;
 use crate::instructions::advance_at;
 use crate::statements::{Noted, Scene};
 use std::alloc::{AllocError, Global};
-use wc_meaning::find_definition;
 use wc_state::{Checkpoint, Env, Frame};
-use wc_syntax::{Chain, Checked, Definition, Library};
+use wc_syntax::{Chain, Checked, Definition, Library, find_definition};
 use wc_value::{List, ProcessState, Text};
 
 /// Whether a definition is a work chain.

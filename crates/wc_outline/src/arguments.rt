@@ -12,10 +12,9 @@ use crate::calls::{Args, Argument};
 use crate::nodes::find_node;
 use std::alloc::{AllocError, Global};
 use wc_expression::{Outcome, eval};
-use wc_meaning::{find_definition, head};
 use wc_semantics::fits;
 use wc_state::Env;
-use wc_syntax::{CallArg, CallStmt, Definition, Library};
+use wc_syntax::{CallArg, CallStmt, Definition, Library, find_definition, head};
 use wc_value::{Duplicate, Keyed, Reason, Text, Value};
 
 /// Arguments so far.

@@ -1,12 +1,15 @@
 -- Offsets play no part in what is owed.
 use Rattle.std.proofs.Common.{◌≡◌, ℕ, List, Option, Some, None, Result, Ok, Err, IfOk, map, refl, sym, ap, subst, ◌∙◌}
-use Rattle.std.specs.Prelude.{option_map}
+use Rattle.std.specs.Prelude.{option_map, IsSome}
+use Rattle.std.proofs.lemmas.Bool.{false≢true}
 use Rattle.wc_value.specs.declared.value.Value.{Value}
 use Rattle.wc_syntax.specs.Bare.{bare_port, bare_definition, bare_library}
 use Rattle.wc_syntax.specs.Findings.{definition_named}
 use Rattle.wc_syntax.specs.declared.definition.Definition.{Definition}
 use Rattle.wc_syntax.specs.declared.definition.Definition.TheVariants as definition
 use Rattle.wc_syntax.specs.declared.definition.Port.{Port}
+use Rattle.wc_semantics.specs.declared.progress.Answer.{Answer}
+use Rattle.wc_semantics.specs.Laws.{IsUncut}
 use Rattle.wc_semantics.specs.Tables.{plain, no_kills}
 use Rattle.wc_semantics.specs.Meaning.{meaning}
 use Rattle.wc_semantics.proofs.Bare.{named_bare, meaning_bare}
@@ -61,3 +64,8 @@ pub result_bare : {E : Type 0} (told : Option (List ℕ → Option (List ℕ))) 
     → IfOk result (λ r. OwesDefinition told t (definition_named t.name ds) ds r) → IfOk result (λ r. OwesDefinition told t (definition_named t.name library) library r)
 result_bare told t ds library (Ok r) same h = subst (λ (l : List Definition). OwesDefinition told t (definition_named t.name l) l r) same (owes_bare told t ds r h)
 result_bare told t ds library (Err e) same h = h
+
+-- where a definition is there, what is known of each one that is there is known of it
+pub uncut : (o : Option Definition) (a : Answer) → ((d : Definition) → o ≡ Some d → IsUncut a) → IsSome o → IsUncut a
+uncut None a law some = absurd (false≢true some)
+uncut (Some d) a law some = law d refl

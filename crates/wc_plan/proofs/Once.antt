@@ -15,8 +15,8 @@ use Rattle.wc_config.specs.declared.settings.Settings.{Settings}
 use Rattle.wc_cli.specs.declared.command.Command.{Command}
 use Rattle.wc_cli.specs.declared.command.Command.TheVariants.{Check, Dry, Init, Submit, Run, View, Pause, Play, Kill, Pack, Drill}
 use Rattle.wc_plan.specs.declared.commands.dry.Trial.{Trial}
-use Rattle.wc_plan.specs.declared.reading.Read.{Read}
-use Rattle.wc_plan.specs.declared.reading.Read.TheVariants as read
+use Rattle.wc_plan.specs.declared.libraries.Read.{Read}
+use Rattle.wc_plan.specs.declared.libraries.Read.TheVariants as read
 use Rattle.wc_plan.specs.declared.status.Cause.{Cause}
 use Rattle.wc_plan.specs.declared.status.Cause.TheVariants as cause
 use Rattle.wc_plan.specs.declared.reply.Reply.{Reply}

@@ -14,8 +14,8 @@ use Rattle.wc_value.specs.declared.value.Value.{Value}
 use Rattle.wc_json.specs.Tables.{Row}
 use Rattle.wc_plan.specs.declared.commands.dry.Trial.{Trial}
 use Rattle.wc_plan.specs.declared.status.Cause.{Cause}
-use Rattle.wc_plan.specs.declared.reading.Read.{Read}
-use Rattle.wc_plan.specs.declared.reading.Read.TheVariants as read
+use Rattle.wc_plan.specs.declared.libraries.Read.{Read}
+use Rattle.wc_plan.specs.declared.libraries.Read.TheVariants as read
 use Rattle.wc_plan.specs.declared.deed.Plan.TheVariants as plan
 use Rattle.wc_plan.specs.declared.reply.Reply.{Reply}
 use Rattle.wc_plan.specs.declared.status.Cause.TheVariants as cause

@@ -24,8 +24,8 @@ use Rattle.wc_semantics.specs.Rules.{kind_of_port, fits_port}
 use Rattle.wc_semantics.proofs.Bare.{named_bare}
 use Rattle.wc_meaning.specs.Inputs.{least, wrong_inputs, missing_inputs, bad_input}
 use Rattle.wc_meaning.proofs.Least.{no_least}
-use Rattle.wc_plan.specs.declared.reading.Read.{Read}
-use Rattle.wc_plan.specs.declared.reading.Read.TheVariants as read
+use Rattle.wc_plan.specs.declared.libraries.Read.{Read}
+use Rattle.wc_plan.specs.declared.libraries.Read.TheVariants as read
 use Rattle.wc_plan.specs.declared.submission.Prepared.{Prepared}
 use Rattle.wc_json.specs.declared.error.JsonError.{JsonError}
 use Rattle.wc_json.specs.Documents.{answer_of}

@@ -1,7 +1,7 @@
 -- Bytes that are a text.
 use Rattle.std.proofs.Common.{◌≡◌, ℕ, List, Some, None, Result, Ok, Err, IfOk, Bool, true, false, subst, if◌then◌else◌}
 use Rattle.std.specs.Str.{is_utf8}
-use Rattle.wc_plan.specs.declared.reading.Read.{Read}
+use Rattle.wc_plan.specs.declared.libraries.Read.{Read}
 use Rattle.wc_plan.specs.Files.{ReadsText, ReadsBytes}
 
 by_bytes : (file : List ℕ) (valid : Bool) (bytes text : List ℕ) (r : Read) → Some text ≡ (if valid then Some bytes else None) → ReadsText text r → ReadsBytes file valid bytes r

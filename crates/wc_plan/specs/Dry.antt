@@ -11,8 +11,8 @@ use Rattle.wc_semantics.specs.Meaning.{meaning}
 use Rattle.wc_report.specs.Trees.{tree_text}
 use Rattle.wc_json.specs.Tables.{Row}
 use Rattle.wc_plan.specs.declared.commands.dry.Trial.{Trial}
-use Rattle.wc_plan.specs.declared.reading.Read.{Read}
-use Rattle.wc_plan.specs.declared.reading.Read.TheVariants as read
+use Rattle.wc_plan.specs.declared.libraries.Read.{Read}
+use Rattle.wc_plan.specs.declared.libraries.Read.TheVariants as read
 use Rattle.wc_plan.specs.declared.reply.Reply.{Reply}
 use Rattle.wc_plan.specs.declared.status.Cause.{Cause}
 use Rattle.wc_plan.specs.declared.status.Cause.TheVariants as cause
@@ -23,7 +23,8 @@ use Rattle.wc_plan.specs.Texts.{definitions_text}
 
 -- ---- dry
 
--- for what a definition means: its tree, or else the first request that the table lacks, or that the fuel doesn't suffice
+-- for what a definition means: its tree, or else the first request that the table lacks, or that the fuel doesn't suffice; without kills none is
+-- missed, so no definition of the library goes astray
 abbrev pub owed_answer : Answer → Reply
 owed_answer (Gave r left) = prints (tree_text r.tree)
 owed_answer (Without q) = refuses (cause.NoAnswer q)

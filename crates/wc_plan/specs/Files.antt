@@ -6,8 +6,8 @@ use Rattle.wc_syntax.specs.Bare.{bare_library}
 use Rattle.wc_parser.specs.Parsing.{Parsed, TextSays}
 use Rattle.wc_check.specs.declared.error.CheckError.{CheckError}
 use Rattle.wc_check.specs.Refusals.{IsFirstFinding}
-use Rattle.wc_plan.specs.declared.reading.Read.{Read}
-use Rattle.wc_plan.specs.declared.reading.Read.TheVariants as read
+use Rattle.wc_plan.specs.declared.libraries.Read.{Read}
+use Rattle.wc_plan.specs.declared.libraries.Read.TheVariants as read
 use Rattle.wc_plan.specs.declared.status.Cause.TheVariants as cause
 
 -- a library of which this is the first finding

@@ -6,5 +6,5 @@ pub mod Replies
 pub mod Dry
 pub mod Submits
 pub mod Settings
-pub mod Calls
+pub mod Counts
 pub mod Plans

@@ -14,7 +14,7 @@ use Rattle.wc_plan.specs.declared.deed.Work.{Work}
 use Rattle.wc_plan.specs.declared.deed.Work.TheVariants as work
 use Rattle.wc_plan.specs.declared.deed.Plan.{Plan}
 use Rattle.wc_plan.specs.declared.deed.Plan.TheVariants as plan
-use Rattle.wc_plan.specs.declared.reading.Read.{Read}
+use Rattle.wc_plan.specs.declared.libraries.Read.{Read}
 use Rattle.wc_plan.specs.declared.reply.Reply.{Reply}
 use Rattle.wc_plan.specs.declared.status.Cause.{Cause}
 use Rattle.wc_plan.specs.declared.status.Cause.TheVariants as cause

@@ -10,8 +10,8 @@ use Rattle.wc_syntax.specs.declared.definition.Port.{Port}
 use Rattle.wc_meaning.specs.Inputs.{bad_input}
 use Rattle.wc_state.specs.Ranges.{AreLimits}
 use Rattle.wc_fits.specs.Fits.{names_ascend}
-use Rattle.wc_plan.specs.declared.reading.Read.{Read}
-use Rattle.wc_plan.specs.declared.reading.Read.TheVariants as read
+use Rattle.wc_plan.specs.declared.libraries.Read.{Read}
+use Rattle.wc_plan.specs.declared.libraries.Read.TheVariants as read
 use Rattle.wc_plan.specs.declared.status.Cause.{Cause}
 use Rattle.wc_plan.specs.declared.status.Cause.TheVariants as cause
 use Rattle.wc_plan.specs.declared.submission.Submission.{Submission}

@@ -4,7 +4,7 @@ ghost use Rattle.std.specs.Prelude.{◌≡◌, [], IfOk};
 ghost use Rattle.wc_json.specs.Documents.{answer_of};
 ghost use Rattle.wc_json.specs.Limits.{read_fields};
 ghost use Rattle.wc_json.specs.Tables.{read_table};
-ghost use Rattle.wc_plan.specs.Calls.{CountsShelf};
+ghost use Rattle.wc_plan.specs.Counts.{CountsShelf};
 ghost use Rattle.wc_plan.specs.Further.{Has, InputsFrom, TableFrom, kinds_of, or_cause, read_file};
 ghost use Rattle.wc_plan.specs.declared.status.Cause.TheVariants.{Inputs, Table as TableCause};
 
@@ -23,7 +23,7 @@ pub(crate) fn content_from<R: Shelf>(
     file: &Text,
 ) -> Result<Option<Bytes>, PlanError>
     ensures content { IfOk result (λ content. Has (R.contents shelf.old) file.now content) }
-    ensures counts { CountsShelf result (R.faults shelf.old) (R.faults shelf.new) }
+    ensures counts { CountsShelf result (R.faults shelf.old) (R.faults shelf.new) (R.failed shelf.new) }
     ensures kept { R.contents shelf.new ≡ R.contents shelf.old }
 {
     match shelf.read(alloc, file) {
@@ -86,7 +86,7 @@ pub(crate) fn inputs_from<R: Shelf>(
     ports: &[Port],
 ) -> Result<Result<Fields, Cause>, PlanError>
     ensures inputs { IfOk result (λ read. InputsFrom (R.contents shelf.old) inputs.now ports.now read) }
-    ensures counts { CountsShelf result (R.faults shelf.old) (R.faults shelf.new) }
+    ensures counts { CountsShelf result (R.faults shelf.old) (R.faults shelf.new) (R.failed shelf.new) }
     ensures kept { R.contents shelf.new ≡ R.contents shelf.old }
 {
     match inputs {
@@ -142,7 +142,7 @@ pub(crate) fn table_from<R: Shelf>(
     table: &Option<Text>,
 ) -> Result<Result<Table, Cause>, PlanError>
     ensures table { IfOk result (λ read. TableFrom (R.contents shelf.old) table.now read) }
-    ensures counts { CountsShelf result (R.faults shelf.old) (R.faults shelf.new) }
+    ensures counts { CountsShelf result (R.faults shelf.old) (R.faults shelf.new) (R.failed shelf.new) }
     ensures kept { R.contents shelf.new ≡ R.contents shelf.old }
 {
     match table {

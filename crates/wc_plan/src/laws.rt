@@ -9,7 +9,7 @@ ghost use Rattle.wc_config.specs.declared.settings.Settings.{Settings};
 ghost use Rattle.wc_plan.specs.Files.{Reads, ReadsFrom};
 ghost use Rattle.wc_plan.specs.Settings.{ReadsSettings, SettingsFrom, names_on};
 ghost use Rattle.wc_plan.specs.Submits.{PreparesFrom};
-ghost use Rattle.wc_plan.specs.declared.reading.Read.{Read};
+ghost use Rattle.wc_plan.specs.declared.libraries.Read.{Read};
 ghost use Rattle.wc_plan.specs.declared.status.Cause.{Cause};
 ghost use Rattle.wc_plan.specs.declared.submission.Prepared.{Prepared};
 

@@ -48,7 +48,7 @@ pub fn finish<W: Sink>(sink: &mut W, reply: Reply) -> Status
     ensures memory { result ≡ Status.OutOfMemory → ⊥ }
     ensures reading { result ≡ Status.ReadFault → ⊥ }
     ensures disks { result ≡ Status.DiskFault → ⊥ }
-    ensures fault { result ≡ Status.WriteFault → RisesByOne (W.faults sink.old) (W.faults sink.new) × TakesPart reply.text (W.taken sink.old) (W.taken sink.new) }
+    ensures fault { result ≡ Status.WriteFault → RisesByOne (W.faults sink.old) (W.faults sink.new) × W.failed sink.new × TakesPart reply.text (W.taken sink.old) (W.taken sink.new) }
     ensures whole { (result ≡ Status.WriteFault → ⊥) → Writes reply.text (W.taken sink.old) (W.taken sink.new) × (W.faults sink.new ≡ W.faults sink.old) }
 {
     let Reply { status, text } = reply;

@@ -8,8 +8,7 @@ use crate::status::Cause;
 use crate::submission::{Invocation, Submission};
 use std::alloc::{AllocError, Global};
 use wc_config::{ConfigError, Settings, caching_on, read_settings};
-use wc_meaning::head;
-use wc_syntax::Library;
+use wc_syntax::{Library, head};
 use wc_value::{Bytes, Duplicate, Keyed, Text, Words};
 
 /// Names in their order.

@@ -3,20 +3,19 @@
 ghost use Rattle.std.specs.Prelude.{◌≡◌, IfOk};
 ghost use Rattle.wc_syntax.specs.Findings.{definition_named};
 ghost use Rattle.wc_plan.specs.Given.{bad_given};
-ghost use Rattle.wc_plan.specs.Calls.{CountsShelf};
+ghost use Rattle.wc_plan.specs.Counts.{CountsShelf};
 ghost use Rattle.wc_plan.specs.Submits.{inputs_of, inputs_beside, prepared_with, InputsFor, PreparesRead, PreparesFrom, SubmitsReady};
 
 use crate::error::PlanError;
 use crate::further::inputs_from;
 use crate::given::{find_bad_given, read_given};
-use crate::reading::{Read, read_from};
+use crate::libraries::{Read, read_from};
 use crate::status::Cause;
 use std::alloc::{AllocError, Global};
 use wc_cli::Given;
 use wc_io::Shelf;
-use wc_meaning::{find_definition, head};
 use wc_state::Limits;
-use wc_syntax::{Checked, Library, Port};
+use wc_syntax::{Checked, Library, Port, find_definition, head};
 use wc_value::{Duplicate, Fields, Text, Words};
 
 /// A definition that is called with inputs.
@@ -92,7 +91,7 @@ fn inputs_among<R: Shelf>(
     inputs: &Option<Text>,
 ) -> Result<Result<Fields, Cause>, PlanError>
     ensures inputs { IfOk result (λ r. InputsFor (R.contents shelf.old) inputs.now (definition_named name.now library.now) name.now given.now r) }
-    ensures counts { CountsShelf result (R.faults shelf.old) (R.faults shelf.new) }
+    ensures counts { CountsShelf result (R.faults shelf.old) (R.faults shelf.new) (R.failed shelf.new) }
     ensures kept { R.contents shelf.new ≡ R.contents shelf.old }
 {
     match find_definition(library, name) {
@@ -115,7 +114,7 @@ fn inputs_for<R: Shelf>(
     inputs: &Option<Text>,
 ) -> Result<Result<Fields, Cause>, PlanError>
     ensures inputs { IfOk result (λ r. InputsFor (R.contents shelf.old) inputs.now (definition_named name.now library.now) name.now given.now r) }
-    ensures counts { CountsShelf result (R.faults shelf.old) (R.faults shelf.new) }
+    ensures counts { CountsShelf result (R.faults shelf.old) (R.faults shelf.new) (R.failed shelf.new) }
     ensures kept { R.contents shelf.new ≡ R.contents shelf.old }
 {
     inputs_among(alloc, shelf, library.library(), name, given, inputs)
@@ -149,7 +148,7 @@ fn prepare_read<R: Shelf>(
     inputs: &Option<Text>,
 ) -> Result<Prepared, PlanError>
     ensures prepares { IfOk result (λ p. PreparesRead (R.contents shelf.old) inputs.now name.now given.now read p) }
-    ensures counts { CountsShelf result (R.faults shelf.old) (R.faults shelf.new) }
+    ensures counts { CountsShelf result (R.faults shelf.old) (R.faults shelf.new) (R.failed shelf.new) }
     ensures kept { R.contents shelf.new ≡ R.contents shelf.old }
 {
     match read {
@@ -175,7 +174,7 @@ pub fn prepare<R: Shelf>(
     ensures exact { IfOk result (λ p. PreparesFrom (R.contents shelf.old) file.now name.now given.now inputs.now p) }
     // The definition's ports take what is submitted, and it is within the limits.
     ensures ready { IfOk result (λ p. SubmitsReady p) }
-    ensures counts { CountsShelf result (R.faults shelf.old) (R.faults shelf.new) }
+    ensures counts { CountsShelf result (R.faults shelf.old) (R.faults shelf.new) (R.failed shelf.new) }
     ensures kept { R.contents shelf.new ≡ R.contents shelf.old }
 {
     let read = read_from(alloc, shelf, file)?;

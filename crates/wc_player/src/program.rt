@@ -17,11 +17,13 @@ pub struct Sipping {
 }
 
 impl Sink for Sipping {
-    ghost use Rattle.std.specs.Prelude.{Some};
+    ghost use Rattle.std.specs.Prelude.{Some, IsTrue};
 
     ghost taken = { λ sink. Some sink.inner.bytes };
 
     ghost faults = { λ sink. sink.inner.schedule.faults };
+
+    ghost failed = { λ sink. IsTrue sink.inner.schedule.failed };
 
     fn write(&mut self, bytes: &[u8]) -> Result<usize, Failed> {
         let count = bytes.len().min(self.most.max(1));

@@ -27,7 +27,7 @@ use Rattle.wc_runner.specs.Leaves.{IsTurnWithin}
 use Rattle.wc_runner.specs.Outside.{Answers, Outside}
 use Rattle.wc_runner.specs.Refusals.{Counts, IsUnchanged, RefusesItsCommit, RefusesPrepared, RefusesStep, RefusesStored, is_live_after}
 use Rattle.wc_runner.specs.Trips.{TurnOf}
-use Rattle.wc_runner.specs.Turning.{IsOfCommit, IsPrepared, IsReady, IsRoomOrMemory, RefusesChanges, of_turn}
+use Rattle.wc_runner.specs.Turns.{IsOfCommit, IsPrepared, IsReady, IsRoomOrMemory, RefusesChanges, of_turn}
 use Rattle.wc_runner.proofs.ManyTurns.{one_batch}
 
 -- changes of which none is a Count or a Kept may be committed
@@ -92,10 +92,11 @@ still_live o w pid DiskFault h = absurd h
 still_live o w pid (Full what count limit) h = refl
 still_live o w pid OutOfMemory h = refl
 
-pub counts_none : (o : Outside) (w : World) (pid : ℕ) (e : RunError) (one two : ℕ) → RefusesPrepared o pid w e → Counts {T = Unit {0}} (Err e) one one two two
-counts_none o w pid DiskFault one two h = absurd h
-counts_none o w pid (Full what count limit) one two h = (refl, refl)
-counts_none o w pid OutOfMemory one two h = (refl, refl)
+pub counts_none : (o : Outside) (w : World) (pid : ℕ) (e : RunError) (one two : ℕ) (failed_one failed_two : Type 0) → RefusesPrepared o pid w e
+    → Counts {T = Unit {0}} (Err e) one one two two failed_one failed_two
+counts_none o w pid DiskFault one two failed_one failed_two h = absurd h
+counts_none o w pid (Full what count limit) one two failed_one failed_two h = (refl, refl)
+counts_none o w pid OutOfMemory one two failed_one failed_two h = (refl, refl)
 
 pub unchanged : {S : Type 0} (e : RunError) (s : S) → IsUnchanged {T = Unit {0}} (Err e) s s
 unchanged DiskFault s = tt

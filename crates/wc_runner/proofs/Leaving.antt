@@ -12,13 +12,13 @@ use Rattle.wc_world.specs.Applied.{applied}
 use Rattle.wc_store.specs.declared.place.Place.{Place}
 use Rattle.wc_store.specs.declared.place.Place.TheVariants.{One, Two}
 use Rattle.wc_store.specs.declared.store.Store.{Store}
-use Rattle.wc_store.specs.Choosing.{Choice, chosen}
+use Rattle.wc_store.specs.Choices.{Choice, chosen}
 use Rattle.wc_store.specs.Places.{its}
 use Rattle.wc_store.specs.Held.{Standing, a_world, IsHeld}
 use Rattle.wc_store.specs.Stores.{other, ChoosesAs, HoldsAs, HoldsBy, HoldsEither, IsLonger, StandsFor, CommitLeaves}
 use Rattle.wc_runner.specs.Leaves.{HoldsSome, LeavesHeld, LeavesNow, IsTurnWithin, IsOrTurnOf, of_world}
 use Rattle.wc_runner.specs.Outside.{Outside}
-use Rattle.wc_runner.specs.Running.{FitsIn, TakesWithin}
+use Rattle.wc_runner.specs.Runs.{FitsIn, TakesWithin}
 use Rattle.wc_runner.specs.Trips.{Turns, one_more}
 use Rattle.wc_runner.proofs.Widened.{Widens, turns_widened}
 

@@ -12,3 +12,6 @@ pub mod Leaving
 mod Placed
 mod Codes
 mod UnderWay
+mod Trailed
+mod TrailLaws
+mod OnTrail

@@ -11,7 +11,7 @@ use Rattle.wc_machine.specs.Asking.{Need, nothing, performs, need}
 use Rattle.wc_machine.specs.Readiness.{is_ready}
 use Rattle.wc_core.specs.Ready.{is_ready_at, is_ready_by}
 use Rattle.wc_runner.specs.Asked.{AsksOnce, CountsAsking, IsAsked, IsAskedFor, WhatItNeeds}
-use Rattle.wc_runner.specs.Running.{RisesBy}
+use Rattle.wc_runner.specs.Runs.{RisesBy}
 use Rattle.wc_runner.specs.declared.error.RunError.{RunError}
 use Rattle.wc_runner.specs.declared.error.RunError.TheVariants.{DiskFault, Full, OutOfMemory}
 

@@ -25,7 +25,7 @@ use Rattle.wc_runner.specs.Codes.{AreBrought}
 use Rattle.wc_runner.specs.Marks.{AreNoWorse}
 use Rattle.wc_runner.specs.Outside.{Outside, in_run, in_turn}
 use Rattle.wc_runner.specs.Refusals.{RefusesStep, RefusesRun}
-use Rattle.wc_runner.specs.Running.{FitsAfter, FitsIn, TakesAll, TakesUpTo, TakesWithin}
+use Rattle.wc_runner.specs.Runs.{FitsAfter, FitsIn, TakesAll, TakesUpTo, TakesWithin}
 use Rattle.wc_runner.specs.Trips.{RestsAt, TurnOf, none, one_more, one_rest}
 use Rattle.wc_runner.proofs.Journals.{step_by}
 use Rattle.wc_runner.proofs.Leaving.{leaves_now, leaves_on, more_turns, stands_leaves, stands_now, weaker_leaves, within_widened}

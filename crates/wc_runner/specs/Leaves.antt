@@ -9,7 +9,7 @@ use Rattle.wc_store.specs.Places.{its}
 use Rattle.wc_store.specs.Stores.{other, HoldsBy}
 use Rattle.wc_runner.specs.Outside.{Outside}
 use Rattle.wc_runner.specs.Trips.{TurnOf}
-use Rattle.wc_runner.specs.Running.{FitsIn, TakesTurns}
+use Rattle.wc_runner.specs.Runs.{FitsIn, TakesTurns}
 
 -- The image, beside that of the other disk, holds a world, by a journal on its own disk, of which P holds.
 abbrev pub HoldsSome : Place → (World → Journal → Type 0) → List ℕ → List ℕ → Type 0

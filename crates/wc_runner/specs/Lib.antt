@@ -3,8 +3,9 @@ pub mod Trips
 pub mod Laws
 pub mod Refusals
 pub mod Leaves
-pub mod Turning
+pub mod Turns
 pub mod Asked
-pub mod Running
+pub mod Runs
 pub mod Marks
 pub mod Codes
+pub mod Trails

@@ -1,6 +1,6 @@
 -- Why a turn on a store, or a run, breaks off, and what is counted.
 use Rattle.std.specs.Prelude.{◌≡◌, ◌⊎◌, ℕ, Bool, true, false, List, Result, Ok, Err}
-use Rattle.wc_io.specs.Counts.{EitherRisesByOne}
+use Rattle.wc_io.specs.Counts.{EitherFailedLast}
 use Rattle.wc_journal.specs.declared.journal.Journal.{Journal}
 use Rattle.wc_state.specs.declared.record.Limits.{Limits}
 use Rattle.wc_world.specs.declared.change.Change.{Change}
@@ -64,12 +64,13 @@ RefusesRun o store OutOfMemory = Unit {0}
 
 -- ---- what is counted
 
--- `DiskFault` comes only where the count of one of the disks rose by one and the other stayed, and each other answer leaves both counts
-abbrev pub Counts : {T : Type 0} → Result T RunError → (one one' two two' : ℕ) → Type 0
-Counts (Ok answer) one one' two two' = (one' ≡ one) × (two' ≡ two)
-Counts (Err DiskFault) one one' two two' = EitherRisesByOne one one' two two'
-Counts (Err (Full what count limit)) one one' two two' = (one' ≡ one) × (two' ≡ two)
-Counts (Err OutOfMemory) one one' two two' = (one' ≡ one) × (two' ≡ two)
+-- `DiskFault` comes only where the count of one of the disks rose by one, its last call failed and the other count stayed,
+-- and each other answer leaves both counts
+abbrev pub Counts : {T : Type 0} → Result T RunError → (one one' two two' : ℕ) → (failed_one failed_two : Type 0) → Type 0
+Counts (Ok answer) one one' two two' failed_one failed_two = (one' ≡ one) × (two' ≡ two)
+Counts (Err DiskFault) one one' two two' failed_one failed_two = EitherFailedLast one one' two two' failed_one failed_two
+Counts (Err (Full what count limit)) one one' two two' failed_one failed_two = (one' ≡ one) × (two' ≡ two)
+Counts (Err OutOfMemory) one one' two two' failed_one failed_two = (one' ≡ one) × (two' ≡ two)
 
 -- a disk is as it was where the store was full or memory ran out
 abbrev pub IsUnchanged : {T S : Type 0} → Result T RunError → S → S → Type 0

@@ -3,7 +3,7 @@
 ghost use Rattle.std.specs.Prelude.{ℕ};
 ghost use Rattle.wc_state.specs.declared.record.Limits.{Limits};
 ghost use Rattle.wc_runner.specs.Codes.{TurnsBringCodes};
-ghost use Rattle.wc_runner.specs.Laws.{ContinuingGoesOn, TurnsAreBatches, TurnsKeepSound, WorldsContinueThemselves};
+ghost use Rattle.wc_runner.specs.Laws.{ContinuingGoesOn, TrailsComeTo, TurnsAreBatches, TurnsKeepSound, WorldsContinueThemselves};
 ghost use Rattle.wc_runner.specs.Outside.{in_run, in_turn};
 
 use wc_io::Pacer;
@@ -25,6 +25,11 @@ pub fn turns_are_batches<T: Transport, P: Pacer>()
 pub fn turns_bring_codes<T: Transport, P: Pacer>()
     ensures in_turn { (limits : Limits) (now : ℕ) (old new : T) → TurnsBringCodes (in_turn T.Transport limits now old new) }
     ensures in_run { (limits : Limits) (old new : T) (clock : P) → TurnsBringCodes (in_run T.Transport P.Pacer limits old new clock) }
+{}
+
+/// The trail of a run comes to turns and rests by what a run sees, and to so many calls of the transport and of the clock.
+pub fn trails_come_to_turns<T: Transport, P: Pacer>()
+    ensures { TrailsComeTo T.Transport P.Pacer }
 {}
 
 /// Each world that accepted changes make continues itself.

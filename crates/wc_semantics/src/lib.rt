@@ -20,6 +20,8 @@ pub use laws::{
     rows_of_a_label, without_kills,
 };
 pub use outcomes::{Parsed, calculate, calculate_job, final_status, parse_result};
-pub use progress::{Answer, Asked, Calls, Flow, Kills, Plan, Planned, Progress, Replayed, Stepped};
+pub use progress::{
+    Answer, Asked, Flow, Kills, MadeCalls, Plan, Planned, Progress, Replayed, Stepped,
+};
 pub use requests::request_of;
 pub use rules::{environment, exit_status, fits, port_kind, takes};

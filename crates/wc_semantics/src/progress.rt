@@ -19,8 +19,8 @@ pub struct Replayed {
     pub asked: Asked,
 }
 
-/// Calls that were made, each under its label, in order.
-pub type Calls = List<(Text, Replayed)>;
+/// The calls that were made, each under its label, in order.
+pub type MadeCalls = List<(Text, Replayed)>;
 
 /// How far the run of a work chain has come.
 #[derive(Drop)]
@@ -30,7 +30,7 @@ pub struct Progress {
     /// The outputs that were set.
     pub outputs: Fields,
     /// The calls that were made.
-    pub calls: Calls,
+    pub calls: MadeCalls,
 }
 
 /// A call that a step collects.

@@ -11,7 +11,7 @@ use Rattle.wc_store.specs.declared.place.Place.{Place}
 use Rattle.wc_store.specs.declared.place.Place.TheVariants.{One, Two}
 use Rattle.wc_store.specs.Places.{number_of, its}
 use Rattle.wc_store.specs.Stores.{other, ChoosesAs, HoldsAs}
-use Rattle.wc_store.specs.Choosing.{Choice, no_store, broken, on, is_nil, found_at, begins, settled_on, without_journal, later_of, chosen_of, chosen, journal_in}
+use Rattle.wc_store.specs.Choices.{Choice, no_store, broken, on, is_nil, found_at, begins, settled_on, without_journal, later_of, chosen_of, chosen, journal_in}
 use Rattle.wc_store.specs.Held.{a_world, Plays, PlaysChoice, IsHeld}
 use Rattle.wc_store.proofs.Looking.{other_first, short_none}
 use Rattle.wc_store.proofs.Verdicts.{first_later, second_later}

@@ -25,10 +25,10 @@ use Rattle.wc_store.specs.declared.store.Store.{Store}
 use Rattle.wc_store.specs.declared.place.Place.{Place}
 use Rattle.wc_store.specs.declared.place.Place.TheVariants.{One, Two}
 use Rattle.wc_store.specs.Places.{number_of, its}
-use Rattle.wc_store.specs.Placing.{RefusesLength}
+use Rattle.wc_store.specs.Writes.{RefusesLength}
 use Rattle.wc_store.specs.Refusals.{IsUnchanged, byte_limit}
 use Rattle.wc_store.specs.Stores.{other, StandsFor, CommitLeaves, HoldsBy, HoldsEither, IsLonger}
-use Rattle.wc_store.specs.Choosing.{on, chosen, is_nil}
+use Rattle.wc_store.specs.Choices.{on, chosen, is_nil}
 use Rattle.wc_store.specs.Held.{a_world, is_plain, suits, IsHeld}
 use Rattle.wc_store.proofs.Playing.{plays_any_image, plays_one_more}
 use Rattle.wc_store.proofs.Chosen.{HasSome, Keeps, chooses_as, keeps_from, keeps_chosen, keeps_held, keeps_as, keeps_named}

@@ -21,7 +21,7 @@ use Rattle.wc_store.specs.declared.store.Store.{Store}
 use Rattle.wc_store.specs.Places.{its, opposite}
 use Rattle.wc_store.specs.Stores.{other, StandsFor, CommitLeaves, PackLeaves}
 use Rattle.wc_store.specs.Held.{is_plain}
-use Rattle.wc_store.specs.Placing.{Appends, Replaces}
+use Rattle.wc_store.specs.Writes.{Appends, Replaces}
 use Rattle.wc_store.specs.Refusals.{byte_limit, is_live_after}
 use Rattle.wc_store.proofs.Chosen.{Keeps}
 use Rattle.wc_store.proofs.Commits.{no_snapshot, kept_by, own_durable, other_durable, stands_again, stands_committed, keeps_after, commit_leaves}

@@ -26,18 +26,18 @@ module _ {T : Type 0} (result : Result T StoreError) {D : Type 0} (one two one_n
   unchanged_own Two own same = (unchanged result one one_new same, own)
 
 -- ---- what is counted of both disks, where the call is of one
-module _ {T : Type 0} (one one_new two two_new : ℕ) where
-  counts_first : (result : Result T StoreError) → CountsOne result one one_new → two_new ≡ two → Counts result one one_new two two_new
+module _ {T : Type 0} (one one_new two two_new : ℕ) (failed_one failed_two : Type 0) where
+  counts_first : (result : Result T StoreError) → CountsOne result one one_new failed_one → two_new ≡ two → Counts result one one_new two two_new failed_one failed_two
   counts_first (Ok answer) own same = (own, same)
-  counts_first (Err DiskFault) own same = inl (own, same)
+  counts_first (Err DiskFault) own same = inl (own.0, own.1, same)
   counts_first (Err (Damaged disk at found)) own same = (own, same)
   counts_first (Err (Full what count limit)) own same = (own, same)
   counts_first (Err AlreadyThere) own same = (own, same)
   counts_first (Err OutOfMemory) own same = (own, same)
 
-  counts_second : (result : Result T StoreError) → CountsOne result two two_new → one_new ≡ one → Counts result one one_new two two_new
+  counts_second : (result : Result T StoreError) → CountsOne result two two_new failed_two → one_new ≡ one → Counts result one one_new two two_new failed_one failed_two
   counts_second (Ok answer) own same = (same, own)
-  counts_second (Err DiskFault) own same = inr (same, own)
+  counts_second (Err DiskFault) own same = inr (same, own.0, own.1)
   counts_second (Err (Damaged disk at found)) own same = (same, own)
   counts_second (Err (Full what count limit)) own same = (same, own)
   counts_second (Err AlreadyThere) own same = (same, own)
@@ -45,16 +45,18 @@ module _ {T : Type 0} (one one_new two two_new : ℕ) where
 
 module _ {T D : Type 0} (g : disk.Ghosts D) (result : Result T StoreError) (one two one_new two_new : D) where
   -- the call is of the disk at a place
-  pub counts_own : (place : Place) → CountsOne result (g.faults (its place one two)) (g.faults (its place one_new two_new)) → other place one_new two_new ≡ other place one two
-      → Counts result (g.faults one) (g.faults one_new) (g.faults two) (g.faults two_new)
-  counts_own One own same = counts_first (g.faults one) (g.faults one_new) (g.faults two) (g.faults two_new) result own (ap g.faults same)
-  counts_own Two own same = counts_second (g.faults one) (g.faults one_new) (g.faults two) (g.faults two_new) result own (ap g.faults same)
+  pub counts_own : (place : Place) → CountsOne result (g.faults (its place one two)) (g.faults (its place one_new two_new)) (g.failed (its place one_new two_new))
+      → other place one_new two_new ≡ other place one two
+      → Counts result (g.faults one) (g.faults one_new) (g.faults two) (g.faults two_new) (g.failed one_new) (g.failed two_new)
+  counts_own One own same = counts_first (g.faults one) (g.faults one_new) (g.faults two) (g.faults two_new) (g.failed one_new) (g.failed two_new) result own (ap g.faults same)
+  counts_own Two own same = counts_second (g.faults one) (g.faults one_new) (g.faults two) (g.faults two_new) (g.failed one_new) (g.failed two_new) result own (ap g.faults same)
 
   -- the call is of the other disk
-  pub counts_other : (place : Place) → CountsOne result (g.faults (other place one two)) (g.faults (other place one_new two_new)) → its place one_new two_new ≡ its place one two
-      → Counts result (g.faults one) (g.faults one_new) (g.faults two) (g.faults two_new)
-  counts_other One own same = counts_second (g.faults one) (g.faults one_new) (g.faults two) (g.faults two_new) result own (ap g.faults same)
-  counts_other Two own same = counts_first (g.faults one) (g.faults one_new) (g.faults two) (g.faults two_new) result own (ap g.faults same)
+  pub counts_other : (place : Place) → CountsOne result (g.faults (other place one two)) (g.faults (other place one_new two_new)) (g.failed (other place one_new two_new))
+      → its place one_new two_new ≡ its place one two
+      → Counts result (g.faults one) (g.faults one_new) (g.faults two) (g.faults two_new) (g.failed one_new) (g.failed two_new)
+  counts_other One own same = counts_second (g.faults one) (g.faults one_new) (g.faults two) (g.faults two_new) (g.failed one_new) (g.failed two_new) result own (ap g.faults same)
+  counts_other Two own same = counts_first (g.faults one) (g.faults one_new) (g.faults two) (g.faults two_new) (g.failed one_new) (g.failed two_new) result own (ap g.faults same)
 
 -- what a live store left unchanged is the same
 pub same_after : (T : Type 0) {S : Type 0} (e : StoreError) (old new : S) → is_live_after {T = T} (Err e) true ≡ true → IsUnchanged {T = T} (Err e) old new → new ≡ old

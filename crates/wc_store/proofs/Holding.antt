@@ -9,7 +9,7 @@ use Rattle.wc_world.specs.declared.error.WorldError.{WorldError}
 use Rattle.wc_world.specs.World.{World, empty}
 use Rattle.wc_world.specs.Applied.{applied}
 use Rattle.wc_world.specs.Accepted.{IsAccepted, IsRefused}
-use Rattle.wc_store.specs.Choosing.{Choice, no_store, broken, on, chosen, found_at}
+use Rattle.wc_store.specs.Choices.{Choice, no_store, broken, on, chosen, found_at}
 use Rattle.wc_store.specs.Held.{Standing, nothing, damage, a_world, place_of, suits, Plays, image_of, PlaysChoice}
 use Rattle.wc_store.proofs.Playing.{held_is_one}
 use Rattle.wc_store.specs.DecidedLaws.{ImagesHoldSomething, ImagesHoldExactlyOneThing}

@@ -5,7 +5,7 @@ mod ValueEnds
 mod Stops
 mod Addressed
 mod Turns
-mod Opened
+pub mod Opened
 mod Chosen
 mod Made
 mod Commits
@@ -14,6 +14,7 @@ mod Accepts
 mod Counted
 mod Placed
 mod Committed
+mod Imaged
 pub mod Parts
 mod Reached
 mod Deciding

@@ -2,14 +2,17 @@
 use Rattle.std.proofs.Common.{◌≡◌, ◌⊎◌, inl, inr, ℕ, zero, suc, ◌+◌, ◌<◌, ◌≤◌, Bool, true, false, List, [], ◌∷◌, length, take, drop, Option, Some, None, Ok, Err, refl, sym, ◌∙◌, ap, subst, arith}
 use Rattle.std.specs.Prelude.{◌==◌, nat_le, if◌then◌else◌}
 use Rattle.std.proofs.lemmas.Bool.Decides.{nat_tests}
+use Rattle.wc_disk.specs.declared.disk.Disk as disk
 use Rattle.wc_journal.specs.declared.error.Found.{Found}
 use Rattle.wc_journal.specs.declared.error.Found.TheVariants.{Byte}
 use Rattle.wc_journal.specs.declared.journal.Loaded.{Loaded}
-use Rattle.wc_journal.specs.Reading.{Outcome, Held, no_journal, holds, damaged, fits_header, misfit_from, header_misfit, generation_in, version_in, size_of, stated, wrong_kind, and_then_batch, unless_wrong, batches_from, stands_for_none, held_by, after_header, journal_of, end_of}
-use Rattle.wc_store.specs.declared.choosing.Seen.{Seen}
-use Rattle.wc_store.specs.declared.choosing.Seen.TheVariants.{Bare, Broken, Holding}
-use Rattle.wc_store.specs.Choosing.{found_at, begins}
-use Rattle.wc_store.specs.Seeing.{Shows}
+use Rattle.wc_journal.specs.Reading.{Outcome, Held, no_journal, holds, damaged, fits_header, misfit_from, header_misfit, generation_in, version_in, size_of, stated, wrong_kind, and_then_batch, unless_wrong, batches_from, stands_for_none, held_by, after_header, journal_of}
+use Rattle.wc_journal.specs.Journals.{IsJournalOf}
+use Rattle.wc_journal.specs.Loading.{OfImage}
+use Rattle.wc_store.specs.declared.choice.Seen.{Seen}
+use Rattle.wc_store.specs.declared.choice.Seen.TheVariants.{Bare, Broken, Holding}
+use Rattle.wc_store.specs.Choices.{found_at, begins}
+use Rattle.wc_store.specs.Sights.{Shows}
 
 either : (b : Bool) → (b ≡ true) ⊎ (b ≡ false)
 either true = inl refl
@@ -182,16 +185,16 @@ broken_shown image at found behind is = elim (either (begins image)) [
   ]
 ]
 
-pub holding_shown : (image : List ℕ) (loaded : Loaded) → journal_of image ≡ holds loaded.journal.version loaded.journal.generation loaded.batches
-    → loaded.journal.end ≡ end_of loaded.batches → Shows image (Holding loaded)
-holding_shown image loaded is end = elim (either (begins image)) [
+pub holding_shown : (image : List ℕ) (loaded : Loaded) → loaded.batches.image ≡ image → IsJournalOf loaded.journal loaded.batches.placed image → Shows image (Holding loaded)
+holding_shown image loaded same stands = elim (either (begins image)) [
   | inl begun ↦ record {
-    counts = ap (λ (c : Bool). if c then journal_of image else no_journal) begun ∙ is;
-    stands = record { held = is; end = end };
+    kept = same;
+    counts = ap (λ (c : Bool). if c then journal_of image else no_journal) begun ∙ stands.held;
+    stands = stands;
   }
   | inr other ↦ elim (other_first image other) [
-    | inl short ↦ let same : no_journal ≡ holds loaded.journal.version loaded.journal.generation loaded.batches = sym short.0 ∙ is in absurd (cc)
-    | inr long ↦ let same : damaged 0 (found_at image 0) ≡ holds loaded.journal.version loaded.journal.generation loaded.batches = sym long.0 ∙ is in absurd (cc)
+    | inl short ↦ let other : no_journal ≡ holds loaded.journal.version loaded.journal.generation loaded.batches.placed = sym short.0 ∙ stands.held in absurd (cc)
+    | inr long ↦ let other : damaged 0 (found_at image 0) ≡ holds loaded.journal.version loaded.journal.generation loaded.batches.placed = sym long.0 ∙ stands.held in absurd (cc)
   ]
 ]
 
@@ -202,3 +205,7 @@ none_seen image seen bare shows =
       | inl begun ↦ sym (ap (λ (c : Bool). if c then journal_of image else no_journal) begun) ∙ shown.0
       | inr other ↦ elim (other_first image other) [ inl short ↦ short.0 | inr long ↦ absurd (omega (arith, long.1, shown.1)) ]
     ]
+
+-- what is so of an image that was read
+pub image_as : {D : Type 0} (g : disk.Ghosts D) (d : D) (P Q : List ℕ → Type 0) → ((image : List ℕ) → P image → Q image) → OfImage g d P → OfImage g d Q
+image_as g d P Q more o = record { image = o.image; told = o.told; is = more o.image o.is }

@@ -1,5 +1,5 @@
 -- A store that is made on two disks that hold none.
-use Rattle.std.proofs.Common.{◌≡◌, ◌⊎◌, inl, inr, ℕ, ◌≤◌, Bool, true, false, List, [], length, Option, refl, sym, ap, subst, ◌∙◌, arith}
+use Rattle.std.proofs.Common.{◌≡◌, ◌⊎◌, inl, inr, ℕ, ◌≤◌, Bool, true, false, List, [], length, Option, Some, None, refl, sym, ap, subst, ◌∙◌, arith}
 use Rattle.std.specs.Prelude.{◌==◌, ◌&&◌, nat_le, nat_lt, is_some, if◌then◌else◌}
 use Rattle.std.proofs.lemmas.Bool.{cases_Bool}
 use Rattle.std.proofs.lemmas.Bool.Decides.{nat_tests}
@@ -13,13 +13,14 @@ use Rattle.wc_store.specs.declared.place.Place.{Place}
 use Rattle.wc_store.specs.declared.place.Place.TheVariants.{One}
 use Rattle.wc_store.specs.declared.store.Store.{Store}
 use Rattle.wc_store.specs.Places.{number_of, its}
-use Rattle.wc_store.specs.Choosing.{Choice, no_store, broken, on, is_nil, found_at, without_journal, settled_on, chosen_of, chosen, journal_in}
+use Rattle.wc_store.specs.Choices.{Choice, no_store, broken, on, is_nil, found_at, without_journal, settled_on, chosen_of, chosen, journal_in}
 use Rattle.wc_store.specs.Held.{a_world, nothing, PlaysChoice, IsHeld}
-use Rattle.wc_store.specs.Opening.{Opens}
-use Rattle.wc_store.specs.Stores.{StandsFor, InTwoParts, BeginsFrom}
+use Rattle.wc_store.specs.Opened.{Opens, IsOpenedOf}
+use Rattle.wc_store.specs.Sights.{OfImages}
+use Rattle.wc_store.specs.Stores.{StandsFor, IsLoadedOf, InTwoParts, BeginsFrom}
 use Rattle.wc_store.proofs.Chosen.{IsBefore, keeps_chosen, keeps_held}
 use Rattle.wc_store.proofs.Looking.{bare_shown}
-use Rattle.wc_store.proofs.Opened.{stands, opens_none}
+use Rattle.wc_store.proofs.Opened.{stands, opens_none, images_as}
 use Rattle.wc_store.proofs.Parts.{then_one}
 
 -- ---- without a store the second disk counts as one without a journal
@@ -137,3 +138,13 @@ module _ {D : Type 0} (g : disk.Ghosts D) (store : Store) (one two : D) where
       (λ disk image. ap a_world world)
       (subst (IsSettled g store.journal) (sym its_disk) settled)
       settled.durable durable
+
+-- what was opened of two images is what they hold
+pub loaded_of : {D : Type 0} (g : disk.Ghosts D) (one two : D) (found : Option Store) → OfImages g one two (IsOpenedOf found) → OfImages g one two (IsLoadedOf found)
+loaded_of g one two None o = images_as g one two (λ a b. chosen a b ≡ no_store) (λ a b. IsHeld a b nothing) holds_nothing o
+loaded_of g one two (Some store) o = o
+
+pub none_opened : {D : Type 0} (g : disk.Ghosts D) (one two : D) (found : Option Store) → is_some found ≡ false → OfImages g one two (IsOpenedOf found)
+    → OfImages g one two (λ a b. chosen a b ≡ no_store)
+none_opened g one two None none o = o
+none_opened g one two (Some store) none o = absurd (cc)

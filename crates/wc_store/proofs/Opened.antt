@@ -3,8 +3,11 @@ use Rattle.std.proofs.Common.{◌≡◌, ℕ, true, false, List, Option, Some, N
 use Rattle.std.specs.Prelude.{IsTrue, is_some}
 use Rattle.wc_disk.specs.declared.disk.Disk as disk
 use Rattle.wc_disk.specs.Steps.{Only}
+use Rattle.wc_journal.specs.declared.journal.Journal.{Journal}
+use Rattle.wc_journal.specs.declared.journal.Loaded.{Loaded}
 use Rattle.wc_journal.specs.Reading.{Placed, journal_of, batches_of}
 use Rattle.wc_journal.specs.Journals.{IsJournalOf, IsSettled}
+use Rattle.wc_journal.specs.Loading.{OfImage}
 use Rattle.wc_world.specs.World.{World, empty}
 use Rattle.wc_store.specs.declared.error.StoreError.{StoreError}
 use Rattle.wc_store.specs.declared.error.StoreError.TheVariants.{DiskFault, Damaged, Full, AlreadyThere, OutOfMemory}
@@ -12,12 +15,14 @@ use Rattle.wc_store.specs.declared.place.Place.{Place}
 use Rattle.wc_store.specs.declared.place.Place.TheVariants.{One, Two}
 use Rattle.wc_store.specs.declared.store.Store.{Store}
 use Rattle.wc_store.specs.Places.{number_of, its}
-use Rattle.wc_store.specs.Choosing.{Choice, no_store, on, chosen}
+use Rattle.wc_store.specs.Choices.{Choice, no_store, broken, on, chosen}
 use Rattle.wc_store.specs.Held.{Standing, damage, a_world, Plays, PlaysChoice, IsHeld}
-use Rattle.wc_store.specs.Played.{Makes, RefusesPlaying}
-use Rattle.wc_store.specs.Opening.{Opens}
-use Rattle.wc_store.specs.Stores.{StandsFor}
-use Rattle.wc_store.specs.Refusals.{RefusesLoad}
+use Rattle.wc_store.specs.Played.{AreCounted, Makes, RefusesPlaying}
+use Rattle.wc_store.specs.Opened.{Opens, IsOpenedOf}
+use Rattle.wc_store.specs.Sights.{IsOn, OfImages}
+use Rattle.wc_store.specs.Stores.{StandsFor, IsOfImages}
+use Rattle.wc_store.specs.Refusals.{RefusesFinding, RefusesLoad, IsDamageOf}
+use Rattle.wc_store.proofs.Addressed.{addressed}
 
 module _ (one two : List ℕ) where
   held_by : (choice : Choice) (s : Standing) → chosen one two ≡ choice → PlaysChoice one two choice s → IsHeld one two s
@@ -29,32 +34,103 @@ module _ (one two : List ℕ) where
   played One v n bs s choice plays = held_by (on 1 v n bs) s choice plays
   played Two v n bs s choice plays = held_by (on 2 v n bs) s choice plays
 
-  -- ---- refusals
-  pub playing_refused : (told reads : Type 0) (place : Place) (v n : ℕ) (bs : Placed) (image : List ℕ) → (told → reads)
-      → (told → chosen one two ≡ on (number_of place) v n bs) → image ≡ its place one two
-      → (e : StoreError) → RefusesPlaying reads (number_of place) image n bs e → RefusesLoad told (IsHeld one two) e
-  playing_refused told reads place v n bs image known choice is DiskFault refused = tt
-  playing_refused told reads place v n bs image known choice is (Damaged number at found) refused =
-      λ t.
-      let plays : Plays (number_of place) (its place one two) n 0 empty bs (damage number at found)
-      = subst (λ (i : List ℕ). Plays (number_of place) i n 0 empty bs (damage number at found)) is (refused (known t)) in
-      played place v n bs (damage number at found) (choice t) plays
-  playing_refused told reads place v n bs image known choice is (Full what count limit) refused = refused
-  playing_refused told reads place v n bs image known choice is AlreadyThere refused = refused
-  playing_refused told reads place v n bs image known choice is OutOfMemory refused = tt
+-- ---- what is so of two images
+module _ {D : Type 0} (g : disk.Ghosts D) (one two : D) where
+  pub images_of : (P Q : List ℕ → Type 0) (R : List ℕ → List ℕ → Type 0) → OfImage g one P → OfImage g two Q → ((a b : List ℕ) → P a → Q b → R a b) → OfImages g one two R
+  images_of P Q R first second both = record {
+    first = first.image;
+    second = second.image;
+    told_one = first.told;
+    told_two = second.told;
+    are = both first.image second.image first.is second.is;
+  }
 
-pub its_same : {T : Type 0} (place : Place) (one two one' two' : T) → one' ≡ one → two' ≡ two → its place one' two' ≡ its place one two
-its_same One one two one' two' first second = first
-its_same Two one two one' two' first second = second
+  pub images_as : (P Q : List ℕ → List ℕ → Type 0) → ((a b : List ℕ) → P a b → Q a b) → OfImages g one two P → OfImages g one two Q
+  images_as P Q more o = record { first = o.first; second = o.second; told_one = o.told_one; told_two = o.told_two; are = more o.first o.second o.are }
+
+  -- is so of those that the disks read as
+  pub of_seen : (P : List ℕ → List ℕ → Type 0) → OfImages g one two P → IsTrue (g.tells one) → IsTrue (g.tells two) → P (g.seen one) (g.seen two)
+  of_seen P o told told_too = subst (λ (b : List ℕ). P (g.seen one) b) (o.told_two told_too) (subst (λ (a : List ℕ). P a o.second) (o.told_one told) o.are)
+
+  -- ---- refusals
+  pub finding_damage : (e : StoreError) → RefusesFinding g one two e → IsDamageOf g one two e
+  finding_damage DiskFault refused = tt
+  finding_damage (Damaged number at found) refused =
+      images_as (λ a b. chosen a b ≡ broken number at found) (λ a b. IsHeld a b (damage number at found))
+      (λ a b is. held_by a b (broken number at found) (damage number at found) is refl) refused
+  finding_damage (Full what count limit) refused = tt
+  finding_damage AlreadyThere refused = tt
+  finding_damage OutOfMemory refused = tt
+
+  pub playing_damage : (place : Place) (loaded : Loaded) → OfImages g one two (λ a b. IsOn (chosen a b) (its place a b) place loaded) → (e : StoreError)
+      → RefusesPlaying (number_of place) loaded.batches.image loaded.journal.generation loaded.batches.placed e → IsDamageOf g one two e
+  playing_damage place loaded finds DiskFault refused = tt
+  playing_damage place loaded finds (Damaged number at found) refused =
+      images_as (λ a b. IsOn (chosen a b) (its place a b) place loaded) (λ a b. IsHeld a b (damage number at found))
+      (λ a b is.
+      let counted : AreCounted loaded.batches.image loaded.batches.placed
+      = subst (λ (image : List ℕ). AreCounted image loaded.batches.placed) (sym is.kept) (addressed loaded.journal loaded.batches.placed (its place a b) is.stands) in
+      played a b place loaded.journal.version loaded.journal.generation loaded.batches.placed (damage number at found) is.chosen
+      (subst (λ (image : List ℕ). Plays (number_of place) image loaded.journal.generation 0 empty loaded.batches.placed (damage number at found)) is.kept (refused counted)))
+      finds
+  playing_damage place loaded finds (Full what count limit) refused = tt
+  playing_damage place loaded finds AlreadyThere refused = tt
+  playing_damage place loaded finds OutOfMemory refused = tt
+
+  abbrev IsOfReading : StoreError → Type 0
+  IsOfReading DiskFault = Unit {0}
+  IsOfReading (Damaged number at found) = Unit {0}
+  IsOfReading (Full what count limit) = ⊥
+  IsOfReading AlreadyThere = ⊥
+  IsOfReading OutOfMemory = Unit {0}
+
+  load_refused : (e : StoreError) → IsOfReading e → IsDamageOf g one two e → RefusesLoad (IsTrue (g.tells one) × IsTrue (g.tells two)) (IsHeld (g.seen one) (g.seen two)) e
+  load_refused DiskFault reading is = tt
+  load_refused (Damaged number at found) reading is = λ told. of_seen (λ a b. IsHeld a b (damage number at found)) is told.0 told.1
+  load_refused (Full what count limit) reading is = reading
+  load_refused AlreadyThere reading is = reading
+  load_refused OutOfMemory reading is = tt
+
+  pub finding_refused : (e : StoreError) → RefusesFinding g one two e → RefusesLoad (IsTrue (g.tells one) × IsTrue (g.tells two)) (IsHeld (g.seen one) (g.seen two)) e
+  finding_refused e refused = load_refused e (of_reading e refused) (finding_damage e refused)
+    where
+      of_reading : (e : StoreError) → RefusesFinding g one two e → IsOfReading e
+      of_reading DiskFault refused = tt
+      of_reading (Damaged number at found) refused = tt
+      of_reading (Full what count limit) refused = refused
+      of_reading AlreadyThere refused = refused
+      of_reading OutOfMemory refused = tt
+
+  pub playing_refused : (place : Place) (loaded : Loaded) → OfImages g one two (λ a b. IsOn (chosen a b) (its place a b) place loaded) → (e : StoreError)
+      → RefusesPlaying (number_of place) loaded.batches.image loaded.journal.generation loaded.batches.placed e
+      → RefusesLoad (IsTrue (g.tells one) × IsTrue (g.tells two)) (IsHeld (g.seen one) (g.seen two)) e
+  playing_refused place loaded finds e refused = load_refused e (of_reading e refused) (playing_damage place loaded finds e refused)
+    where
+      of_reading : (e : StoreError) → RefusesPlaying (number_of place) loaded.batches.image loaded.journal.generation loaded.batches.placed e → IsOfReading e
+      of_reading DiskFault refused = absurd refused
+      of_reading (Damaged number at found) refused = tt
+      of_reading (Full what count limit) refused = refused
+      of_reading AlreadyThere refused = refused
+      of_reading OutOfMemory refused = tt
+
+  -- ---- a store
+  pub opened_of : (store : Store) (loaded : Loaded) → OfImages g one two (λ a b. IsOn (chosen a b) (its store.place a b) store.place loaded) → store.journal ≡ loaded.journal
+      → Makes loaded.journal.generation loaded.batches.placed store.world.world → OfImages g one two (IsOpenedOf (Some store))
+  opened_of store loaded finds same makes =
+      images_as (λ a b. IsOn (chosen a b) (its store.place a b) store.place loaded) (IsOfImages store)
+      (λ a b is. record {
+        batches = loaded.batches.placed;
+        chooses = is.chosen ∙ ap (λ (j : Journal). on (number_of store.place) j.version j.generation loaded.batches.placed) (sym same);
+        held = played a b store.place loaded.journal.version loaded.journal.generation loaded.batches.placed (a_world store.world.world) is.chosen
+            (makes (number_of store.place) (its store.place a b));
+        end = ap (λ (j : Journal). j.end) same ∙ is.stands.end;
+      })
+      finds
 
 module _ {D : Type 0} (g : disk.Ghosts D) where
   pub seen_its : (place : Place) (one two : D) → g.seen (its place one two) ≡ its place (g.seen one) (g.seen two)
   seen_its One one two = refl
   seen_its Two one two = refl
-
-  pub tells_its : (place : Place) (one two : D) → IsTrue (g.tells one) → IsTrue (g.tells two) → IsTrue (g.tells (its place one two))
-  tells_its One one two first second = first
-  tells_its Two one two first second = second
 
   module _ (store : Store) (bs : Placed) (one two : D) where
     pub stands : chosen (g.seen one) (g.seen two) ≡ on (number_of store.place) store.journal.version store.journal.generation bs
@@ -72,6 +148,20 @@ module _ {D : Type 0} (g : disk.Ghosts D) where
               (makes (number_of store.place) (its store.place (g.seen one) (g.seen two)));
           settled = settled;
         }
+
+  -- a store that was opened of the images that the disks read as
+  pub stands_on : (store : Store) (loaded : Loaded) (one two : D) (first second : List ℕ) → g.seen one ≡ first → g.seen two ≡ second
+      → IsOn (chosen first second) (its store.place first second) store.place loaded → store.journal ≡ loaded.journal
+      → Makes loaded.journal.generation loaded.batches.placed store.world.world → IsSettled g loaded.journal (its store.place one two)
+      → Only (g.seen one) (g.may_leave one) → Only (g.seen two) (g.may_leave two) → StandsFor g store one two
+  stands_on store loaded one two first second seen_one seen_two finds same makes settled durable_one durable_two =
+      let P : List ℕ → List ℕ → Type 0 = λ a b. IsOn (chosen a b) (its store.place a b) store.place loaded in
+      let here : P (g.seen one) (g.seen two) = subst (λ (b : List ℕ). P (g.seen one) b) (sym seen_two) (subst (λ (a : List ℕ). P a second) (sym seen_one) finds) in
+      stands store loaded.batches.placed one two
+      (here.chosen ∙ ap (λ (j : Journal). on (number_of store.place) j.version j.generation loaded.batches.placed) (sym same))
+      (subst (λ (j : Journal). IsJournalOf j loaded.batches.placed (its store.place (g.seen one) (g.seen two))) (sym same) here.stands)
+      (subst (λ (j : Journal). Makes j.generation loaded.batches.placed store.world.world) (sym same) makes)
+      (subst (λ (j : Journal). IsSettled g j (its store.place one two)) (sym same) settled) durable_one durable_two
 
   pub opens_none : (found : Option Store) (one two : D) → is_some found ≡ false → Opens g found one two → chosen (g.seen one) (g.seen two) ≡ no_store
   opens_none None one two none opens = opens

@@ -13,7 +13,7 @@ use Rattle.wc_journal.specs.Refusals.{size_after, RefusesAppend, RefusesReading,
 use Rattle.wc_state.specs.declared.record.What.TheVariants as what
 use Rattle.wc_store.specs.declared.error.StoreError.{StoreError}
 use Rattle.wc_store.specs.declared.error.StoreError.TheVariants as store
-use Rattle.wc_store.specs.Placing.{IsToldAs, RefusesLength, Appends, Replaces}
+use Rattle.wc_store.specs.Writes.{IsToldAs, RefusesLength, Appends, Replaces}
 use Rattle.wc_store.specs.Refusals.{RefusesLook, CountsOne, IsUnchanged, is_live_after}
 
 -- a fact of a refusal and of what is told of it, where it is one of each kind that may be
@@ -24,9 +24,11 @@ by_kind P fault full memory (Damaged at found) s told = absurd told
 by_kind P fault full memory (Full count limit) s told = subst (P (Full count limit)) (sym told) (full count limit)
 by_kind P fault full memory OutOfMemory s told = subst (P OutOfMemory) (sym told) memory
 
-pub cause_as : (T S : Type 0) (e : JournalError) (s : StoreError) → IsToldAs e s → (a b : ℕ) → CountsDiskFault {T = T} (Err e) a b → CountsOne {T = S} (Err s) a b
-cause_as T S =
-    by_kind (λ e s. (a b : ℕ) → CountsDiskFault {T = T} (Err e) a b → CountsOne {T = S} (Err s) a b) (λ a b counts. counts) (λ count limit a b counts. counts) (λ a b counts. counts)
+pub cause_as : (T S failed : Type 0) (e : JournalError) (s : StoreError) → IsToldAs e s → (a b : ℕ) → CountsDiskFault {T = T} (Err e) a b failed
+    → CountsOne {T = S} (Err s) a b failed
+cause_as T S failed =
+    by_kind (λ e s. (a b : ℕ) → CountsDiskFault {T = T} (Err e) a b failed → CountsOne {T = S} (Err s) a b failed)
+    (λ a b counts. counts) (λ count limit a b counts. counts) (λ a b counts. counts)
 
 -- ---- of an append
 module _ (T S : Type 0) (size limit : ℕ) where
@@ -62,7 +64,7 @@ module _ {D : Type 0} (g : disk.Ghosts D) where
       → RefusesAppend (size_after journal.end journal.version p) limit e → ((count most : ℕ) → IsErrOf {T = T} (Err e) (Full count most) → new ≡ old)
       → ((count most : ℕ) → IsErrOf {T = T} (Err e) (Full count most) → IsTrue (g.tells old) → IsSettled g journal_new new)
       → journal_new.version ≡ journal.version → journal_new.generation ≡ journal.generation → g.tells new ≡ g.tells old
-      → CountsDiskFault {T = T} (Err e) (g.faults old) (g.faults new) → journal_new.end ≡ journal.end
+      → CountsDiskFault {T = T} (Err e) (g.faults old) (g.faults new) (g.failed new) → journal_new.end ≡ journal.end
       → Appends {T = S} g p limit journal journal_new old new (Err s)
   refused_appends T S p limit journal journal_new old new e s told moment refused unwritten still version generation tells cause kept =
       let size : ℕ = size_after journal.end journal.version p in
@@ -79,23 +81,24 @@ module _ {D : Type 0} (g : disk.Ghosts D) where
         version = version;
         generation = generation;
         tells = tells;
-        cause = cause_as T S e s told (g.faults old) (g.faults new) cause;
+        cause = cause_as T S (g.failed new) e s told (g.faults old) (g.faults new) cause;
       }
 
   pub refused_replaces : (T : Type 0) (generation : ℕ) (p : List ℕ) (old new : D) (e : JournalError) (s : StoreError) → IsToldAs e s
       → (IsTrue (g.tells old) → LeavesOnly g old new (IsReplaced (g.seen old) (holds 2 generation ((26, p) ∷ []))))
       → RefusesReading e → (IsErrOf {T = T} (Err e) OutOfMemory → new ≡ old) → g.tells new ≡ g.tells old
-      → CountsDiskFault {T = T} (Err e) (g.faults old) (g.faults new) → Replaces g generation p old new (Err s)
+      → CountsDiskFault {T = T} (Err e) (g.faults old) (g.faults new) (g.failed new) → Replaces g generation p old new (Err s)
   refused_replaces T generation p old new e s told moment refused untouched tells cause =
       record {
         version = tt;
         generation = tt;
         settled = tt;
+        end = tt;
         held = tt;
         written = tt;
         any_moment = moment;
         refused = reading_as e s told refused;
         untouched = replace_untouched T Journal old new e s told refused untouched;
         tells = tells;
-        cause = cause_as T Journal e s told (g.faults old) (g.faults new) cause;
+        cause = cause_as T Journal (g.failed new) e s told (g.faults old) (g.faults new) cause;
       }

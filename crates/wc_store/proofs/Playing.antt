@@ -10,7 +10,7 @@ use Rattle.wc_world.specs.Applied.{applied}
 use Rattle.wc_world.specs.Accepted.{IsAccepted}
 use Rattle.wc_world.specs.declared.change.Change.{Change}
 use Rattle.wc_world.proofs.OneAnswer.{taken_or_refused}
-use Rattle.wc_store.specs.Choosing.{Choice, no_store, broken, on, chosen, found_at}
+use Rattle.wc_store.specs.Choices.{Choice, no_store, broken, on, chosen, found_at}
 use Rattle.wc_store.specs.Held.{Standing, damage, a_world, place_of, suits, IsUnfit, Plays, image_of, PlaysChoice, IsHeld}
 
 pub same_world : (w v : World) → a_world w ≡ a_world v → w ≡ v

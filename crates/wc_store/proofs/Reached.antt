@@ -4,7 +4,7 @@ use Rattle.wc_journal.specs.Reading.{Placed}
 use Rattle.wc_world.specs.World.{World, empty}
 use Rattle.wc_world.specs.Applied.{applied}
 use Rattle.wc_world.specs.Accepted.{IsReached, nothing, then_changes}
-use Rattle.wc_store.specs.Choosing.{Choice, no_store, broken, on, chosen}
+use Rattle.wc_store.specs.Choices.{Choice, no_store, broken, on, chosen}
 use Rattle.wc_store.specs.Held.{a_world, place_of, Plays, PlaysChoice, image_of}
 use Rattle.wc_store.specs.Laws.{HeldIsReached}
 use Rattle.wc_store.proofs.Playing.{same_world, world_or_damage}

@@ -4,10 +4,10 @@ use Rattle.std.specs.Prelude.{min}
 use Rattle.std.proofs.lemmas.List.{drop_more, drop_all}
 use Rattle.wc_journal.specs.Reading.{Placed, is_snapshot_place}
 use Rattle.wc_world.specs.World.{World, empty}
-use Rattle.wc_store.specs.declared.loading.Unplayed.{Unplayed}
-use Rattle.wc_store.specs.declared.loading.Unplayed.TheVariants.{Unread, Unfit, OutOfMemory}
-use Rattle.wc_store.specs.declared.loading.Stop.{Stop}
-use Rattle.wc_store.specs.Choosing.{found_at}
+use Rattle.wc_store.specs.declared.replay.Unplayed.{Unplayed}
+use Rattle.wc_store.specs.declared.replay.Unplayed.TheVariants.{Unread, Unfit, OutOfMemory}
+use Rattle.wc_store.specs.declared.replay.Stop.{Stop}
+use Rattle.wc_store.specs.Choices.{found_at}
 use Rattle.wc_store.specs.Held.{Standing, a_world, damage, place_of, Plays}
 use Rattle.wc_store.specs.Played.{IsPlayed, RefusesPayload, stop_of, Makes, RefusesBatches}
 use Rattle.wc_store.proofs.Stops.{stops_within}

@@ -11,11 +11,11 @@ use Rattle.wc_journal.specs.Reading.{Placed, Held, no_journal, holds, damaged, j
 use Rattle.wc_journal.specs.Journals.{IsJournalOf, IsSettled}
 use Rattle.wc_store.specs.declared.place.Place.{Place}
 use Rattle.wc_store.specs.declared.place.Place.TheVariants.{One, Two}
-use Rattle.wc_store.specs.declared.choosing.Seen.TheVariants.{Bare, Broken, Holding}
-use Rattle.wc_store.specs.declared.choosing.Verdict.{Verdict}
+use Rattle.wc_store.specs.declared.choice.Seen.TheVariants.{Bare, Broken, Holding}
+use Rattle.wc_store.specs.declared.choice.Verdict.{Verdict}
 use Rattle.wc_store.specs.Places.{its}
-use Rattle.wc_store.specs.Choosing.{Choice, broken, found_at, without_journal, settled_on, later_of, chosen_of, chosen, journal_in}
-use Rattle.wc_store.specs.Seeing.{Shows, Tells}
+use Rattle.wc_store.specs.Choices.{Choice, broken, found_at, without_journal, settled_on, later_of, chosen_of, chosen, journal_in}
+use Rattle.wc_store.specs.Sights.{Shows, Tells}
 
 -- ---- of two journals
 module _ (one two : List ℕ) (v g : ℕ) (bs : Placed) (w h : ℕ) (cs : Placed) (apart : g ≡ h → ⊥) where
@@ -51,23 +51,23 @@ module _ (one two : List ℕ) where
   second_broken foreign at found first second = chosen_from no_journal (damaged at found) first.0 second
 
   pub second_broken_beside : (a : Loaded) (at : ℕ) (found : Found) → Shows one (Holding a) → Shows two (Broken at found) → chosen one two ≡ broken 2 at found
-  second_broken_beside a at found first second = chosen_from (holds a.journal.version a.journal.generation a.batches) (damaged at found) first.counts second
+  second_broken_beside a at found first second = chosen_from (holds a.journal.version a.journal.generation a.batches.placed) (damaged at found) first.counts second
 
   pub both_bare : (foreign other : Option Found) → Shows one (Bare foreign) → Shows two (Bare other) → chosen one two ≡ without_journal one two
   both_bare foreign other first second = chosen_from no_journal no_journal first.0 second.0
 
   pub second_holds : (foreign : Option Found) (b : Loaded) → Shows one (Bare foreign) → Shows two (Holding b)
-      → chosen one two ≡ settled_on 2 two b.journal.version b.journal.generation b.batches
-  second_holds foreign b first second = chosen_from no_journal (holds b.journal.version b.journal.generation b.batches) first.0 second.counts
+      → chosen one two ≡ settled_on 2 two b.journal.version b.journal.generation b.batches.placed
+  second_holds foreign b first second = chosen_from no_journal (holds b.journal.version b.journal.generation b.batches.placed) first.0 second.counts
 
   pub first_holds : (a : Loaded) (other : Option Found) → Shows one (Holding a) → Shows two (Bare other)
-      → chosen one two ≡ settled_on 1 one a.journal.version a.journal.generation a.batches
-  first_holds a other first second = chosen_from (holds a.journal.version a.journal.generation a.batches) no_journal first.counts second.0
+      → chosen one two ≡ settled_on 1 one a.journal.version a.journal.generation a.batches.placed
+  first_holds a other first second = chosen_from (holds a.journal.version a.journal.generation a.batches.placed) no_journal first.counts second.0
 
   pub both_hold : (a b : Loaded) → Shows one (Holding a) → Shows two (Holding b)
-      → chosen one two ≡ later_of one two a.journal.version a.journal.generation a.batches b.journal.version b.journal.generation b.batches
+      → chosen one two ≡ later_of one two a.journal.version a.journal.generation a.batches.placed b.journal.version b.journal.generation b.batches.placed
   both_hold a b first second =
-      chosen_from (holds a.journal.version a.journal.generation a.batches) (holds b.journal.version b.journal.generation b.batches) first.counts second.counts
+      chosen_from (holds a.journal.version a.journal.generation a.batches.placed) (holds b.journal.version b.journal.generation b.batches.placed) first.counts second.counts
 
 -- ---- the disk that the store is on
 module _ {D : Type 0} (g : disk.Ghosts D) (journal : Journal) (bs : Placed) where

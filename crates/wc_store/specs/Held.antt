@@ -11,7 +11,7 @@ use Rattle.wc_world.specs.Accepted.{IsAccepted, IsRefused, is_in_order}
 use Rattle.wc_world.specs.declared.change.Change.{Change}
 use Rattle.wc_world.specs.declared.change.Change.TheVariants as change
 use Rattle.wc_world.specs.declared.error.WorldError.{WorldError}
-use Rattle.wc_store.specs.Choosing.{Choice, no_store, broken, on, chosen, found_at}
+use Rattle.wc_store.specs.Choices.{Choice, no_store, broken, on, chosen, found_at}
 
 pub data Standing : Type 0 where
   nothing : Standing

@@ -1,12 +1,12 @@
 pub mod Places
-pub mod Choosing
+pub mod Choices
 pub mod Refusals
-pub mod Seeing
+pub mod Sights
 pub mod Held
 pub mod Stores
 pub mod Laws
 pub mod Played
-pub mod Opening
-pub mod Placing
-pub mod Preparing
+pub mod Opened
+pub mod Writes
+pub mod Prepared
 pub mod DecidedLaws

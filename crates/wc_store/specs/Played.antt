@@ -10,11 +10,11 @@ use Rattle.wc_world.specs.declared.change.Change.{Change}
 use Rattle.wc_world.specs.declared.error.WorldError.{WorldError}
 use Rattle.wc_store.specs.declared.error.StoreError.{StoreError}
 use Rattle.wc_store.specs.declared.error.StoreError.TheVariants as store
-use Rattle.wc_store.specs.declared.loading.Unplayed.{Unplayed}
-use Rattle.wc_store.specs.declared.loading.Unplayed.TheVariants as unplayed
-use Rattle.wc_store.specs.declared.loading.Stop.{Stop}
-use Rattle.wc_store.specs.declared.loading.Stop.TheVariants as stop
-use Rattle.wc_store.specs.Choosing.{found_at}
+use Rattle.wc_store.specs.declared.replay.Unplayed.{Unplayed}
+use Rattle.wc_store.specs.declared.replay.Unplayed.TheVariants as unplayed
+use Rattle.wc_store.specs.declared.replay.Stop.{Stop}
+use Rattle.wc_store.specs.declared.replay.Stop.TheVariants as stop
+use Rattle.wc_store.specs.Choices.{found_at}
 use Rattle.wc_store.specs.Held.{a_world, damage, place_of, suits, IsUnfit, Plays}
 
 -- ---- one payload
@@ -61,14 +61,6 @@ AreAddressed bs = All (λ b. b.0 + length b.1 < 2 ^ 64) bs
 abbrev pub AreCounted : List ℕ → Placed → Type 0
 AreCounted image bs = length image < 2 ^ 64 → AreAddressed bs
 
--- damage is told only of an image whose bytes 64 bits can count
-abbrev pub IsSized : List ℕ → StoreError → Type 0
-IsSized image store.DiskFault = Unit {0}
-IsSized image (store.Damaged number at found) = length image < 2 ^ 64
-IsSized image (store.Full what count limit) = Unit {0}
-IsSized image store.AlreadyThere = Unit {0}
-IsSized image store.OutOfMemory = Unit {0}
-
 -- on each disk these batches make this world
 abbrev pub Makes : ℕ → Placed → World → Type 0
 Makes generation bs w = (disk : ℕ) (image : List ℕ) → Plays disk image generation 0 empty bs (a_world w)
@@ -81,10 +73,11 @@ abbrev pub RefusesBatches : ℕ → Placed → Stop → Type 0
 RefusesBatches generation bs (stop.At at) = AreAddressed bs → Breaks generation bs at
 RefusesBatches generation bs stop.OutOfMemory = Unit {0}
 
--- a disk is damaged where the batches that it has aren't played, and what is told is there, where the disk tells it
-abbrev pub RefusesPlaying : Type 0 → (disk : ℕ) → List ℕ → ℕ → Placed → StoreError → Type 0
-RefusesPlaying told disk image generation bs store.DiskFault = Unit {0}
-RefusesPlaying told disk image generation bs (store.Damaged number at found) = told → Plays disk image generation 0 empty bs (damage number at found)
-RefusesPlaying told disk image generation bs (store.Full what count limit) = ⊥
-RefusesPlaying told disk image generation bs store.AlreadyThere = ⊥
-RefusesPlaying told disk image generation bs store.OutOfMemory = Unit {0}
+-- A disk is damaged where the batches of its image aren't played, and what is told is there, where 64 bits can tell where each payload ends if
+-- they can count the image's bytes.
+abbrev pub RefusesPlaying : (disk : ℕ) → List ℕ → ℕ → Placed → StoreError → Type 0
+RefusesPlaying disk image generation bs store.DiskFault = ⊥
+RefusesPlaying disk image generation bs (store.Damaged number at found) = AreCounted image bs → Plays disk image generation 0 empty bs (damage number at found)
+RefusesPlaying disk image generation bs (store.Full what count limit) = ⊥
+RefusesPlaying disk image generation bs store.AlreadyThere = ⊥
+RefusesPlaying disk image generation bs store.OutOfMemory = Unit {0}

@@ -1,12 +1,14 @@
 -- When a store refuses, and what is counted.
 use Rattle.std.specs.Prelude.{◌≡◌, ℕ, List, Result, Ok, Err, Bool, false, ◌-◌, ◌^◌, ◌<◌, ◌≤◌, ◌==◌, min, length, if◌then◌else◌}
-use Rattle.wc_io.specs.Counts.{RisesByOne, EitherRisesByOne}
+use Rattle.wc_disk.specs.declared.disk.Disk as disk
+use Rattle.wc_io.specs.Counts.{RisesByOne, EitherFailedLast}
 use Rattle.wc_store.specs.declared.error.StoreError.{StoreError}
 use Rattle.wc_store.specs.declared.error.StoreError.TheVariants.{DiskFault, Damaged, Full, AlreadyThere, OutOfMemory}
-use Rattle.wc_store.specs.Choosing.{Choice, broken, found_at}
+use Rattle.wc_store.specs.Choices.{broken, chosen}
+use Rattle.wc_store.specs.Sights.{OfImages}
 use Rattle.wc_state.specs.declared.record.Limits.{Limits}
 use Rattle.wc_state.specs.declared.record.What.TheVariants as what
-use Rattle.wc_store.specs.Held.{Standing, damage, a_world}
+use Rattle.wc_store.specs.Held.{Standing, damage, a_world, IsHeld}
 use Rattle.wc_journal.specs.declared.journal.Journal.{Journal}
 use Rattle.wc_journal.specs.Refusals.{size_after}
 use Rattle.wc_record.specs.Spelled.{spelled}
@@ -23,43 +25,36 @@ RefusesLook (Full what count limit) = ⊥
 RefusesLook AlreadyThere = ⊥
 RefusesLook OutOfMemory = Unit {0}
 
--- a disk is damaged at the place that is told, where both disks tell their bytes
-abbrev pub RefusesFinding : Type 0 → Choice → StoreError → Type 0
-RefusesFinding told choice DiskFault = Unit {0}
-RefusesFinding told choice (Damaged disk at found) = told → choice ≡ broken disk at found
-RefusesFinding told choice (Full what count limit) = ⊥
-RefusesFinding told choice AlreadyThere = ⊥
-RefusesFinding told choice OutOfMemory = Unit {0}
+-- a disk is damaged at the place that is told, as two images say
+abbrev pub RefusesFinding : {D : Type 0} → disk.Ghosts D → (one two : D) → StoreError → Type 0
+RefusesFinding g one two DiskFault = Unit {0}
+RefusesFinding g one two (Damaged number at found) = OfImages g one two (λ a b. chosen a b ≡ broken number at found)
+RefusesFinding g one two (Full what count limit) = ⊥
+RefusesFinding g one two AlreadyThere = ⊥
+RefusesFinding g one two OutOfMemory = Unit {0}
 
--- damage of this disk at this place, with what the image has there, where the disk tells it
-abbrev pub IsDamageAt : Type 0 → (number at : ℕ) → List ℕ → StoreError → Type 0
-IsDamageAt told number at image DiskFault = Unit {0}
-IsDamageAt told number at image (Damaged disk place found) = (disk ≡ number) × (place ≡ at) × (told → found ≡ found_at image at)
-IsDamageAt told number at image (Full what count limit) = ⊥
-IsDamageAt told number at image AlreadyThere = ⊥
-IsDamageAt told number at image OutOfMemory = ⊥
-
--- `DiskFault` comes only where the disk's count rose by one, and each other refusal leaves that count
-abbrev pub CountsRefusal : StoreError → ℕ → ℕ → Type 0
-CountsRefusal DiskFault old new = RisesByOne old new
-CountsRefusal (Damaged disk at found) old new = new ≡ old
-CountsRefusal (Full what count limit) old new = new ≡ old
-CountsRefusal AlreadyThere old new = new ≡ old
-CountsRefusal OutOfMemory old new = new ≡ old
+-- `DiskFault` comes only where the disk's count rose by one and its last call failed, and each other refusal leaves that count
+abbrev pub CountsRefusal : StoreError → ℕ → ℕ → Type 0 → Type 0
+CountsRefusal DiskFault old new failed = RisesByOne old new × failed
+CountsRefusal (Damaged disk at found) old new failed = new ≡ old
+CountsRefusal (Full what count limit) old new failed = new ≡ old
+CountsRefusal AlreadyThere old new failed = new ≡ old
+CountsRefusal OutOfMemory old new failed = new ≡ old
 
 -- the same of a call on one disk
-abbrev pub CountsOne : {T : Type 0} → Result T StoreError → ℕ → ℕ → Type 0
-CountsOne (Ok answer) old new = new ≡ old
-CountsOne (Err error) old new = CountsRefusal error old new
+abbrev pub CountsOne : {T : Type 0} → Result T StoreError → ℕ → ℕ → Type 0 → Type 0
+CountsOne (Ok answer) old new failed = new ≡ old
+CountsOne (Err error) old new failed = CountsRefusal error old new failed
 
--- `DiskFault` comes only where the count of one of the disks rose by one and the other stayed, and each other answer leaves both counts
-abbrev pub Counts : {T : Type 0} → Result T StoreError → (one one' two two' : ℕ) → Type 0
-Counts (Ok answer) one one' two two' = (one' ≡ one) × (two' ≡ two)
-Counts (Err DiskFault) one one' two two' = EitherRisesByOne one one' two two'
-Counts (Err (Damaged disk at found)) one one' two two' = (one' ≡ one) × (two' ≡ two)
-Counts (Err (Full what count limit)) one one' two two' = (one' ≡ one) × (two' ≡ two)
-Counts (Err AlreadyThere) one one' two two' = (one' ≡ one) × (two' ≡ two)
-Counts (Err OutOfMemory) one one' two two' = (one' ≡ one) × (two' ≡ two)
+-- `DiskFault` comes only where the count of one of the disks rose by one, its last call failed and the other count stayed,
+-- and each other answer leaves both counts
+abbrev pub Counts : {T : Type 0} → Result T StoreError → (one one' two two' : ℕ) → (failed_one failed_two : Type 0) → Type 0
+Counts (Ok answer) one one' two two' failed_one failed_two = (one' ≡ one) × (two' ≡ two)
+Counts (Err DiskFault) one one' two two' failed_one failed_two = EitherFailedLast one one' two two' failed_one failed_two
+Counts (Err (Damaged disk at found)) one one' two two' failed_one failed_two = (one' ≡ one) × (two' ≡ two)
+Counts (Err (Full what count limit)) one one' two two' failed_one failed_two = (one' ≡ one) × (two' ≡ two)
+Counts (Err AlreadyThere) one one' two two' failed_one failed_two = (one' ≡ one) × (two' ≡ two)
+Counts (Err OutOfMemory) one one' two two' failed_one failed_two = (one' ≡ one) × (two' ≡ two)
 
 -- where the disks tell their bytes, damage is what they hold; a load is never refused for a store that is there
 abbrev pub RefusesLoad : Type 0 → (Standing → Type 0) → StoreError → Type 0
@@ -68,6 +63,14 @@ RefusesLoad told held (Damaged disk at found) = told → held (damage disk at fo
 RefusesLoad told held (Full what count limit) = ⊥
 RefusesLoad told held AlreadyThere = ⊥
 RefusesLoad told held OutOfMemory = Unit {0}
+
+-- damage that is told is what two images hold: those that the disks read as, where they tell their bytes
+abbrev pub IsDamageOf : {D : Type 0} → disk.Ghosts D → (one two : D) → StoreError → Type 0
+IsDamageOf g one two DiskFault = Unit {0}
+IsDamageOf g one two (Damaged number at found) = OfImages g one two (λ a b. IsHeld a b (damage number at found))
+IsDamageOf g one two (Full what count limit) = Unit {0}
+IsDamageOf g one two AlreadyThere = Unit {0}
+IsDamageOf g one two OutOfMemory = Unit {0}
 
 -- where they tell their bytes, a store that is there holds a world
 abbrev pub RefusesInit : Type 0 → (Standing → Type 0) → StoreError → Type 0

@@ -19,7 +19,7 @@ use Rattle.wc_world.specs.Applied.{applied}
 use Rattle.wc_world.specs.Snapshot.{snapshot}
 use Rattle.wc_world.specs.declared.change.Change.{Change}
 use Rattle.wc_store.specs.Places.{number_of, its}
-use Rattle.wc_store.specs.Choosing.{Choice, on, chosen}
+use Rattle.wc_store.specs.Choices.{Choice, on, chosen}
 use Rattle.wc_store.specs.Held.{IsHeld, Standing, nothing, a_world}
 use Rattle.wc_store.specs.Refusals.{byte_limit, committed_bytes}
 
@@ -41,6 +41,17 @@ pub record StandsFor {D : Type 0} (g : disk.Ghosts D) (store : Store) (one two :
       ≡ on (number_of store.place) store.journal.version store.journal.generation (batches_of (journal_of (g.seen (its store.place one two))))
   pub held : IsHeld (g.seen one) (g.seen two) (a_world store.world.world)
   pub settled : IsSettled g store.journal (its store.place one two)
+
+-- The two images hold the store's world, by its journal at its place.
+pub record IsOfImages (store : Store) (one two : List ℕ) : Type 0 where
+  pub batches : Placed
+  pub chooses : chosen one two ≡ on (number_of store.place) store.journal.version store.journal.generation batches
+  pub held : IsHeld one two (a_world store.world.world)
+  pub end : store.journal.end ≡ end_of batches
+
+-- some two images hold the store's world, by its journal
+abbrev pub HasImages : Store → Type 0
+HasImages store = (one : List ℕ) × (two : List ℕ) × IsOfImages store one two
 
 -- the choice between the same images
 abbrev pub ChoosesAs : Place → List ℕ → List ℕ → Choice → Type 0
@@ -98,6 +109,11 @@ MadeOr bare before image = before image ⊎ (bare × IsMade image)
 abbrev pub Loads : {D : Type 0} → disk.Ghosts D → Option Store → D → D → Type 0
 Loads g None one two = IsHeld (g.seen one) (g.seen two) nothing
 Loads g (Some store) one two = StandsFor g store one two
+
+-- what was loaded is what the two images hold: nothing, or the store's world by its journal
+abbrev pub IsLoadedOf : Option Store → (one two : List ℕ) → Type 0
+IsLoadedOf None one two = IsHeld one two nothing
+IsLoadedOf (Some store) one two = IsOfImages store one two
 
 -- ---- a call in two parts
 

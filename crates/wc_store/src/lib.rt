@@ -1,17 +1,17 @@
 //! The world on two disks: what was acknowledged stays, whatever crash cuts a write; with laws, among them that each question of a store has one answer.
 #![tactic(auto)]
 
-mod choosing;
-mod committing;
+mod batches;
+mod choice;
+mod commit;
 mod decided;
 mod error;
 mod laws;
-mod loading;
-mod opening;
+mod load;
 mod place;
-mod placing;
-mod preparing;
+mod replay;
 mod store;
+mod writes;
 
 pub use decided::{
     changes_are_decided, images_hold_exactly_one_thing, images_hold_something, links_are_decided,

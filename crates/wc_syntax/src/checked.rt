@@ -4,10 +4,11 @@ ghost use Rattle.std.specs.Prelude.{◌≡◌, map, IfOk};
 ghost use Rattle.std.specs.Option.{option_copied, option_map};
 ghost use Rattle.wc_syntax.specs.Bare.{bare_library};
 ghost use Rattle.wc_syntax.specs.Checked.{IsChecked};
-ghost use Rattle.wc_syntax.specs.Findings.{head_of, definition_named};
+ghost use Rattle.wc_syntax.specs.Findings.{definition_named};
 ghost use Rattle.wc_syntax.specs.Printing.{printed_definition};
 
-use crate::definition::{Definition, Head, Library};
+use crate::definition::{Definition, Library};
+use crate::lookup::head;
 use crate::printing::print_definition;
 use std::alloc::{AllocError, Global};
 use std::marker::Model;
@@ -48,17 +49,6 @@ fn texts_of(alloc: Global, library: &Library) -> Result<Words, AllocError>
         texts.push(print_definition(alloc, definition)?)?;
     }
     Ok(texts)
-}
-
-/// What a definition begins with.
-fn head(definition: &Definition) -> &Head
-    ensures { result.now ≡ head_of definition.now }
-{
-    match definition {
-        Definition::Function(function) => &function.head,
-        Definition::Job(job) => &job.head,
-        Definition::Chain(chain) => &chain.head,
-    }
 }
 
 /// The text of the definition with this name, where the texts are those of the definitions.

@@ -8,6 +8,7 @@
 mod checked;
 mod definition;
 mod expression;
+mod lookup;
 mod outline;
 mod printing;
 
@@ -19,6 +20,7 @@ pub use definition::{
 pub use expression::{
     BinaryOp, ChildPart, Expr, Exprs, Form, Name, Number, OneOf, Quoted, TwoOf, UnaryOp,
 };
+pub use lookup::{find_definition, head};
 pub use outline::{
     Arm, Arms, Block, CallArg, CallArgs, CallStmt, Instr, Instrs, Step, Stmt, Stmts,
 };

@@ -139,7 +139,7 @@ impl TableTransport {
     fn refuse(&mut self) -> TaskError
         ensures failed { result ≡ error.Failed }
         ensures kept { self.new ≡ record self.old { schedule = self.new.schedule } }
-        ensures schedule { self.new.schedule ≡ record self.old.schedule { faults = self.new.schedule.faults } }
+        ensures schedule { self.new.schedule ≡ record self.old.schedule { faults = self.new.schedule.faults; failed = self.new.schedule.failed } }
         ensures risen { RisesByOne self.old.schedule.faults self.new.schedule.faults }
     {
         self.schedule.count_fault();

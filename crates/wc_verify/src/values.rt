@@ -4,7 +4,7 @@ ghost use Rattle.std.specs.Prelude.{◌≡◌, ◌↔◌, Some, None, if◌then�
 ghost use Rattle.std.specs.Option.{option_copied};
 ghost use Rattle.wc_semantics.specs.Outcomes.{parsed};
 ghost use Rattle.wc_semantics.specs.Requests.{request};
-ghost use Rattle.wc_world.specs.Records.{find_record, is_calculation};
+ghost use Rattle.wc_world.specs.Records.{find_record};
 ghost use Rattle.wc_machine.specs.Created.{IsGiven, killed_outcome};
 ghost use Rattle.wc_verify.specs.Faults.{IsLowestWrong, IsRight, IsWrong};
 ghost use Rattle.wc_verify.specs.Givers.{AreLastGivers, HasOutcome, given_alone, given_by, giver, job_given, when_asked, when_unasked};
@@ -14,21 +14,12 @@ use crate::recorded::{recorded_outputs, retrieved_folder};
 use std::alloc::{AllocError, Global};
 use wc_cache::{definition_of, recorded_inputs};
 use wc_expression::Outcome;
+use wc_fits::is_calculation;
 use wc_semantics::{Parsed, calculate, parse_result, request_of};
-use wc_state::{ProcessKind, ProcessRecord};
+use wc_state::ProcessRecord;
 use wc_syntax::{Definition, Job};
 use wc_value::{Fields, Files, JobResult, ProcessState, same_fields, same_state};
 use wc_world::{World, has_ended, reached_worlds_are_consistent};
-
-/// Whether processes of this kind calculate.
-fn is_calculation(kind: ProcessKind) -> bool
-    ensures { result ≡ is_calculation kind }
-{
-    match kind {
-        ProcessKind::Function | ProcessKind::Job => true,
-        ProcessKind::Chain => false,
-    }
-}
 
 /// What is given for a killed process: that it was killed, with no outputs, unless it keeps an exit code.
 fn killed_given(alloc: Global, keeps_code: bool) -> Option<Parsed>

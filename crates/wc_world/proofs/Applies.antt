@@ -9,7 +9,7 @@ use Rattle.wc_world.specs.Applied.{after_change, changed, begun, applied}
 use Rattle.wc_world.specs.Accepted.{Setting, setting, Fits, Apply, IsAccepted, IsReached}
 use Rattle.wc_world.specs.Room.{Room, HasRoom}
 use Rattle.wc_world.specs.Drafts.{Ascends}
-use Rattle.wc_world.specs.Calls.{AwaitsCalled}
+use Rattle.wc_world.specs.Called.{AwaitsCalled}
 use Rattle.wc_world.specs.Fits.{is_of_kind}
 use Rattle.wc_world.specs.Keys.{AreDefined, its_definition}
 use Rattle.wc_world.proofs.Awaiting.{change_awaits, fits_sets, reached_awaits}

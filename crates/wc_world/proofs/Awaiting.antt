@@ -18,7 +18,7 @@ use Rattle.wc_world.specs.Records.{find_record, has_ended, has_called, is_call_f
 use Rattle.wc_world.specs.Applied.{next_number, made, set, keep, after_change, changed, begun}
 use Rattle.wc_world.specs.Fits.{part_fits, fails_fit, standing_fits}
 use Rattle.wc_world.specs.Accepted.{Setting, setting, Fits, Apply, IsReached, nothing, then_changes}
-use Rattle.wc_world.specs.Calls.{awaits_called, AwaitsCalled, SetFits, SetsFitting}
+use Rattle.wc_world.specs.Called.{awaits_called, AwaitsCalled, SetFits, SetsFitting}
 use Rattle.wc_world.proofs.FoundRecords.{left, right}
 
 -- ---- lists

@@ -8,7 +8,7 @@ use Rattle.wc_world.specs.Applied.{after_change, changed}
 use Rattle.wc_world.specs.Accepted.{Setting, Apply, FirstRefused}
 use Rattle.wc_world.specs.Drafts.{drafted, Ascends, AreSettledBut, Tells, FitsBy, touched_by}
 use Rattle.wc_world.specs.Playing.{Leads}
-use Rattle.wc_world.specs.Calls.{AwaitsCalled, SetsFitting}
+use Rattle.wc_world.specs.Called.{AwaitsCalled, SetsFitting}
 use Rattle.wc_world.proofs.Ascents.{change_ascends}
 use Rattle.wc_world.proofs.Awaiting.{change_awaits}
 use Rattle.wc_world.proofs.Unsettled.{settled_change}

@@ -12,7 +12,7 @@ use Rattle.wc_world.specs.Applied.{started_in}
 use Rattle.wc_world.specs.Fits.{set_fits}
 use Rattle.wc_world.specs.Slots.{kept_at}
 use Rattle.wc_world.specs.Accepted.{Setting, kepts, kept_of, kept_started, kept_ended, started_after, ended_before, is_source, source_fits}
-use Rattle.wc_world.specs.Calls.{SetFits}
+use Rattle.wc_world.specs.Called.{SetFits}
 use Rattle.wc_world.specs.Drafts.{Tells, started_by, ended_by, is_source_by, source_fits_by, FitsBy, RefusesBy}
 use Rattle.wc_world.proofs.FoundRecords.{left, right}
 

@@ -13,7 +13,7 @@ pub mod Applying
 pub mod After
 pub mod Order
 pub mod Slots
-pub mod Calls
+pub mod Called
 pub mod Drafts
 pub mod Playing
 pub mod Linked

@@ -7,7 +7,7 @@ use Rattle.wc_world.specs.declared.terms.Terms.{Terms}
 use Rattle.wc_world.specs.World.{World}
 use Rattle.wc_world.specs.Applied.{changed}
 use Rattle.wc_world.specs.Accepted.{Setting, Apply, FirstRefused}
-use Rattle.wc_world.specs.Calls.{AwaitsCalled}
+use Rattle.wc_world.specs.Called.{AwaitsCalled}
 use Rattle.wc_world.specs.Drafts.{drafted, Ascends, AreSettledBut, Tells}
 
 -- Each change applies to the world as those before it left it.

@@ -6,7 +6,7 @@ ghost use Rattle.wc_graph.specs.Rules.{IsLinkCorrect};
 ghost use Rattle.wc_world.specs.declared.change.Change.{Change};
 ghost use Rattle.wc_records.specs.Readiness.{ended_at};
 ghost use Rattle.wc_world.specs.Records.{at_process, process_node};
-ghost use Rattle.wc_world.specs.Calls.{awaits_called, AwaitsCalled};
+ghost use Rattle.wc_world.specs.Called.{awaits_called, AwaitsCalled};
 ghost use Rattle.wc_world.specs.Applied.{made, set, after_change, applied};
 ghost use Rattle.wc_world.specs.Accepted.{IsAccepted};
 ghost use Rattle.wc_world.specs.Room.{HasRoom, needed};

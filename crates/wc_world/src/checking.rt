@@ -7,7 +7,7 @@ ghost use Rattle.wc_world.specs.declared.error.WorldError.TheVariants as error;
 ghost use Rattle.wc_world.specs.Records.{find_record};
 ghost use Rattle.wc_world.specs.Fits.{names_ascend, set_fits};
 ghost use Rattle.wc_world.specs.Accepted.{Setting, HasNumber, Fits, Refuses, ended_fits};
-ghost use Rattle.wc_world.specs.Calls.{SetFits};
+ghost use Rattle.wc_world.specs.Called.{SetFits};
 ghost use Rattle.wc_world.specs.Drafts.{drafted, FitsBy, RefusesBy, is_source_by, source_fits_by, kept_fits_by};
 
 use crate::batches::{ended_before, ended_fits, started_after};

@@ -5,7 +5,7 @@ ghost use Rattle.wc_world.specs.declared.change.Change.TheVariants as change;
 ghost use Rattle.wc_world.specs.declared.error.WorldError.TheVariants as error;
 ghost use Rattle.wc_world.specs.Applied.{after_change};
 ghost use Rattle.wc_world.specs.Accepted.{Setting, Fits, Refuses};
-ghost use Rattle.wc_world.specs.Calls.{AwaitsCalled, SetFits, SetsFitting};
+ghost use Rattle.wc_world.specs.Called.{AwaitsCalled, SetFits, SetsFitting};
 ghost use Rattle.wc_world.specs.Drafts.{drafted, Ascends, FitsBy, RefusesBy, touched_by};
 
 use crate::applying::set_process;

@@ -6,7 +6,7 @@ ghost use Rattle.wc_world.specs.declared.error.WorldError.TheVariants as error;
 ghost use Rattle.wc_world.specs.Applied.{changed, applied, begun};
 ghost use Rattle.wc_world.specs.Fits.{unsettled};
 ghost use Rattle.wc_world.specs.Accepted.{setting, IsAccepted, IsRefused, IsReached};
-ghost use Rattle.wc_world.specs.Calls.{AwaitsCalled};
+ghost use Rattle.wc_world.specs.Called.{AwaitsCalled};
 ghost use Rattle.wc_world.specs.Drafts.{drafted, Ascends, AreSettledBut, Tells};
 ghost use Rattle.wc_world.specs.Playing.{ApplyBy, FirstRefusedBy};
 

@@ -3,7 +3,7 @@
 ghost use Rattle.std.specs.Prelude.{◌≡◌, IfOk};
 ghost use Rattle.wc_plan.specs.Dry.{owed_check};
 
-use crate::reading::Read;
+use crate::libraries::Read;
 use crate::reply::{Reply, print, refuse};
 use crate::text::definitions_line;
 use std::alloc::{AllocError, Global};

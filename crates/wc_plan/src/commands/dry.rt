@@ -1,26 +1,27 @@
 //! The tree that a definition has, with no store.
 
-ghost use Rattle.std.specs.Prelude.{◌≡◌, IfOk};
+ghost use Rattle.std.specs.Prelude.{◌≡◌, IfOk, IsSome};
 ghost use Rattle.wc_syntax.specs.Findings.{definition_named};
-ghost use Rattle.wc_plan.specs.Calls.{CountsShelf};
+ghost use Rattle.wc_plan.specs.Counts.{CountsShelf};
 ghost use Rattle.wc_plan.specs.Given.{bad_given, fields_of};
 ghost use Rattle.wc_plan.specs.Dry.{owed_answer, owed_inputs, owed_rows, OwesDefinition, OwesDry, OwesRows};
 ghost use Rattle.wc_semantics.specs.Tables.{plain, no_kills};
+ghost use Rattle.wc_semantics.specs.Laws.{IsUncut};
 ghost use Rattle.wc_semantics.specs.Meaning.{meaning};
 
 use crate::error::PlanError;
 use crate::further::{inputs_from, table_from};
 use crate::given::{find_bad_given, read_given};
-use crate::reading::Read;
+use crate::libraries::Read;
 use crate::reply::{Reply, print, refuse};
 use crate::status::Cause;
 use std::alloc::{AllocError, Global};
 use wc_cli::Givens;
 use wc_io::Shelf;
-use wc_meaning::{find_definition, head, mean};
+use wc_meaning::mean;
 use wc_report::tree_lines;
-use wc_semantics::{Answer, Kills};
-use wc_syntax::{Checked, Library, Port};
+use wc_semantics::{Answer, Kills, without_kills};
+use wc_syntax::{Checked, Library, Port, find_definition, head};
 use wc_value::{Duplicate, Fields, Table, Text};
 
 /// What `dry` is asked for, beside the file of the library.
@@ -38,15 +39,16 @@ pub struct Trial {
     pub fuel: u64,
 }
 
-/// The reply for what a definition means.
+/// The reply for what a definition means. Where nobody is killed, no kill is missed.
 fn reply_for_answer(alloc: Global, answer: Answer) -> Result<Reply, AllocError>
+    requires { IsUncut answer }
     ensures { IfOk result (λ r. r ≡ owed_answer answer) }
 {
     match answer {
         Answer::Gave(replayed, _) => Ok(print(tree_lines(alloc, &replayed.tree)?)),
         Answer::Without(request) => refuse(alloc, Cause::NoAnswer(request)),
         Answer::TooLittle => refuse(alloc, Cause::Fuel),
-        Answer::Astray => refuse(alloc, Cause::Fuel),
+        Answer::Astray => unreachable!(),
     }
 }
 
@@ -81,9 +83,11 @@ fn reply_for_inputs(
     inputs: &Fields,
     table: &Table,
 ) -> Result<Reply, AllocError>
+    requires named { IsSome (definition_named trial.now.name library.now) }
     ensures { IfOk result (λ r. r ≡ owed_answer (meaning 15 library.now (plain table.now) no_kills trial.now.fuel trial.now.name inputs.now)) }
 {
     let answer = meaning_alone(alloc, library, trial, inputs, table)?;
+    without_kills();
     reply_for_answer(alloc, answer)
 }
 
@@ -96,6 +100,7 @@ fn reply_for_given(
     file: Fields,
     table: &Table,
 ) -> Result<Reply, AllocError>
+    requires named { IsSome (definition_named trial.now.name library.now) }
     ensures { IfOk result (λ r. r ≡ owed_answer (meaning 15 library.now (plain table.now) no_kills trial.now.fuel trial.now.name (fields_of ports.now trial.now.given file))) }
 {
     let inputs = read_given(ports, trial.given.as_slice(), file)?;
@@ -111,6 +116,7 @@ fn reply_for_table(
     file: Fields,
     table: &Table,
 ) -> Result<Reply, AllocError>
+    requires named { IsSome (definition_named trial.now.name library.now) }
     ensures { IfOk result (λ r. r ≡ owed_inputs (bad_given ports.now trial.now.given file) ports.now library.now trial.now.name trial.now.given file table.now trial.now.fuel) }
 {
     match find_bad_given(ports, trial.given.as_slice(), &file)? {
@@ -128,6 +134,7 @@ fn reply_for_rows(
     file: Fields,
     table: Result<Table, Cause>,
 ) -> Result<Reply, AllocError>
+    requires named { IsSome (definition_named trial.now.name library.now) }
     ensures { IfOk result (λ r. r ≡ owed_rows table ports.now library.now trial.now.name trial.now.given file trial.now.fuel) }
 {
     match table {
@@ -145,8 +152,9 @@ fn reply_for_file<R: Shelf>(
     trial: &Trial,
     file: Result<Fields, Cause>,
 ) -> Result<Reply, PlanError>
+    requires named { IsSome (definition_named trial.now.name library.now) }
     ensures owes { IfOk result (λ r. OwesRows (R.contents shelf.old) trial.now file ports.now library.now r) }
-    ensures counts { CountsShelf result (R.faults shelf.old) (R.faults shelf.new) }
+    ensures counts { CountsShelf result (R.faults shelf.old) (R.faults shelf.new) (R.failed shelf.new) }
     ensures kept { R.contents shelf.new ≡ R.contents shelf.old }
 {
     match file {
@@ -166,7 +174,7 @@ fn reply_for_name<R: Shelf>(
     trial: &Trial,
 ) -> Result<Reply, PlanError>
     ensures owes { IfOk result (λ r. OwesDefinition (R.contents shelf.old) trial.now (definition_named trial.now.name library.now) library.now r) }
-    ensures counts { CountsShelf result (R.faults shelf.old) (R.faults shelf.new) }
+    ensures counts { CountsShelf result (R.faults shelf.old) (R.faults shelf.new) (R.failed shelf.new) }
     ensures kept { R.contents shelf.new ≡ R.contents shelf.old }
 {
     match find_definition(library, &trial.name) {
@@ -187,7 +195,7 @@ fn reply_for_library<R: Shelf>(
     trial: &Trial,
 ) -> Result<Reply, PlanError>
     ensures owes { IfOk result (λ r. OwesDefinition (R.contents shelf.old) trial.now (definition_named trial.now.name library.now) library.now r) }
-    ensures counts { CountsShelf result (R.faults shelf.old) (R.faults shelf.new) }
+    ensures counts { CountsShelf result (R.faults shelf.old) (R.faults shelf.new) (R.failed shelf.new) }
     ensures kept { R.contents shelf.new ≡ R.contents shelf.old }
 {
     reply_for_name(alloc, shelf, library.library(), trial)
@@ -201,7 +209,7 @@ pub(crate) fn reply_to_dry<R: Shelf>(
     trial: &Trial,
 ) -> Result<Reply, PlanError>
     ensures owes { IfOk result (λ r. OwesDry (R.contents shelf.old) trial.now read r) }
-    ensures counts { CountsShelf result (R.faults shelf.old) (R.faults shelf.new) }
+    ensures counts { CountsShelf result (R.faults shelf.old) (R.faults shelf.new) (R.failed shelf.new) }
     ensures kept { R.contents shelf.new ≡ R.contents shelf.old }
 {
     match read {

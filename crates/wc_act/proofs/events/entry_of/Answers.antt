@@ -1,5 +1,5 @@
 use Rattle.std.proofs.Common.{◌≡◌, ℕ, Option, Some, subst}
-use Rattle.wc_act.specs.Opening.{turn_reply}
+use Rattle.wc_act.specs.Opened.{turn_reply}
 use Rattle.wc_act.proofs.Entries.{line_there, refusal_alone}
 use Rattle.wc_act.proofs.events.entry_of.Goals as goal
 

@@ -52,9 +52,9 @@ returns-in-Ok-clause-does g c =
     λ told told_too.
     let s = c.args.store.now in
     let a = c.args.asked in
-    let cs = c.in-Stored.changes in
+    let cs = c.in-Commits.changes in
     let w : c.world.result.now.world ≡ s.world.world = λ i. (c.world.ensures i).world in
-    let e = subst (λ (v : World). IsEntryOf a v (entry.Stored cs c.in-Stored.line)) w (subst (IsEntryOf a c.world.result.now.world) c.in-Stored.is c.in_ok-reply.ensures) in
+    let e = subst (λ (v : World). IsEntryOf a v (entry.Commits cs c.in-Commits.line)) w (subst (IsEntryOf a c.world.result.now.world) c.in-Commits.is c.in_ok-reply.ensures) in
     has_entered g.D.Disk a s c.commit.new.self cs c.args.one.now c.args.two.now c.commit.new.one c.commit.new.two c.print.result e.0 (c.commit.ensures.still c.in-Ok.ensures.live told told_too)
     c.in-Ok.ensures.world
     (subst (λ (l : Limits). (length (applied s.world.world cs).nodes ≤ l.max_nodes) × (committed_bytes s.journal cs ≤ byte_limit s.journal.version l.max_bytes)) c.limits_of-limits.ensures.value
@@ -63,17 +63,17 @@ returns-in-Ok-clause-does g c =
 
 pub returns-in-Ok-clause-may : goal.returns-in-Ok-clause-may
 returns-in-Ok-clause-may g c =
-    let e = subst (IsEntryOf c.args.asked c.world.result.now.world) c.in-Stored.is c.in_ok-reply.ensures in
-    (c.world.result.now.world, inl (c.in-Stored.changes, e.0.leads, c.print.ensures ∙ ap prints e.1))
+    let e = subst (IsEntryOf c.args.asked c.world.result.now.world) c.in-Commits.is c.in_ok-reply.ensures in
+    (c.world.result.now.world, inl (c.in-Commits.changes, e.0.leads, c.print.ensures ∙ ap prints e.1))
 
 pub returns-in-Ok-clause-kept : goal.returns-in-Ok-clause-kept
 returns-in-Ok-clause-kept g c =
     λ told told_too.
     let s = c.args.store.now in
     let a = c.args.asked in
-    let cs = c.in-Stored.changes in
+    let cs = c.in-Commits.changes in
     let w : c.world.result.now.world ≡ s.world.world = λ i. (c.world.ensures i).world in
-    let e = subst (λ (v : World). IsEntryOf a v (entry.Stored cs c.in-Stored.line)) w (subst (IsEntryOf a c.world.result.now.world) c.in-Stored.is c.in_ok-reply.ensures) in
+    let e = subst (λ (v : World). IsEntryOf a v (entry.Commits cs c.in-Commits.line)) w (subst (IsEntryOf a c.world.result.now.world) c.in-Commits.is c.in_ok-reply.ensures) in
     committed g.D.Disk g.met.D.Disk.only_now c.worlds_are_kept.ensures.reached c.worlds_are_kept.ensures.same s c.args.one.now c.args.two.now (c.requires.stands told told_too)
     (MayHappen a) c.limits_of-limits.result cs c.commit.new.one c.commit.new.two (λ images. inl refl) (λ images. inr (made_by a s.world.world cs e.0)) e.0.keeps (c.commit.ensures.any_moment told told_too)
 
@@ -86,9 +86,9 @@ pub returns-in-Err-clause-does : goal.returns-in-Err-clause-does
 returns-in-Err-clause-does g c =
     let s = c.args.store.now in
     let a = c.args.asked in
-    let cs = c.in-Stored.changes in
+    let cs = c.in-Commits.changes in
     let w : c.world.result.now.world ≡ s.world.world = λ i. (c.world.ensures i).world in
-    let e = subst (λ (v : World). IsEntryOf a v (entry.Stored cs c.in-Stored.line)) w (subst (IsEntryOf a c.world.result.now.world) c.in-Stored.is c.in_ok-reply.ensures) in
+    let e = subst (λ (v : World). IsEntryOf a v (entry.Commits cs c.in-Commits.line)) w (subst (IsEntryOf a c.world.result.now.world) c.in-Commits.is c.in_ok-reply.ensures) in
     refused_entry g.D.Disk a s cs c.in-Err.error c.args.one.now c.args.two.now c.commit.new.one c.commit.new.two c.refused.result c.requires.stands e.0
     (subst (λ (l : Limits). RefusesCommit s.journal l s.world.world cs c.in-Err.error) c.limits_of-limits.ensures.value c.in-Err.ensures.refused)
     c.in-Err.ensures.untouched_one c.in-Err.ensures.untouched_two c.refused.ensures.reply
@@ -97,9 +97,9 @@ pub returns-in-Err-clause-may : goal.returns-in-Err-clause-may
 returns-in-Err-clause-may g c =
     let s = c.args.store.now in
     let a = c.args.asked in
-    let cs = c.in-Stored.changes in
+    let cs = c.in-Commits.changes in
     let w : c.world.result.now.world ≡ s.world.world = λ i. (c.world.ensures i).world in
-    let e = subst (λ (v : World). IsEntryOf a v (entry.Stored cs c.in-Stored.line)) w (subst (IsEntryOf a c.world.result.now.world) c.in-Stored.is c.in_ok-reply.ensures) in
+    let e = subst (λ (v : World). IsEntryOf a v (entry.Commits cs c.in-Commits.line)) w (subst (IsEntryOf a c.world.result.now.world) c.in-Commits.is c.in_ok-reply.ensures) in
     refused_commit a s.journal s.world.world cs c.in-Err.error c.refused.result e.0
     (subst (λ (l : Limits). RefusesCommit s.journal l s.world.world cs c.in-Err.error) c.limits_of-limits.ensures.value c.in-Err.ensures.refused) c.refused.ensures.reply
 
@@ -108,9 +108,9 @@ returns-in-Err-clause-kept g c =
     λ told told_too.
     let s = c.args.store.now in
     let a = c.args.asked in
-    let cs = c.in-Stored.changes in
+    let cs = c.in-Commits.changes in
     let w : c.world.result.now.world ≡ s.world.world = λ i. (c.world.ensures i).world in
-    let e = subst (λ (v : World). IsEntryOf a v (entry.Stored cs c.in-Stored.line)) w (subst (IsEntryOf a c.world.result.now.world) c.in-Stored.is c.in_ok-reply.ensures) in
+    let e = subst (λ (v : World). IsEntryOf a v (entry.Commits cs c.in-Commits.line)) w (subst (IsEntryOf a c.world.result.now.world) c.in-Commits.is c.in_ok-reply.ensures) in
     committed g.D.Disk g.met.D.Disk.only_now c.worlds_are_kept.ensures.reached c.worlds_are_kept.ensures.same s c.args.one.now c.args.two.now (c.requires.stands told told_too)
     (MayHappen a) c.limits_of-limits.result cs c.commit.new.one c.commit.new.two (λ images. inl refl) (λ images. inr (made_by a s.world.world cs e.0)) e.0.keeps (c.commit.ensures.any_moment told told_too)
 

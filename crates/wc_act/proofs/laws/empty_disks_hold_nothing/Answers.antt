@@ -1,5 +1,5 @@
 use Rattle.std.proofs.Common.{[], inl, refl}
-use Rattle.wc_store.specs.Choosing.{chosen}
+use Rattle.wc_store.specs.Choices.{chosen}
 use Rattle.wc_store.specs.Held.{IsHeld, nothing}
 use Rattle.wc_act.proofs.laws.empty_disks_hold_nothing.Goals as goal
 

@@ -1,7 +1,7 @@
 use Rattle.std.proofs.Common.{refl, sym, subst}
 use Rattle.std.specs.Prelude.{IsSome}
 use Rattle.wc_core.proofs.Asking.{asks_there}
-use Rattle.wc_core.proofs.Turns.{found_itself}
+use Rattle.wc_core.proofs.TurnsByKind.{found_itself}
 use Rattle.wc_core.proofs.needs.need.Goals as goal
 
 pub asks_with-requires-clause-there : goal.asks_with-requires-clause-there

@@ -45,10 +45,13 @@ pub returns-in-Ok-clause-ok : goal.returns-in-Ok-clause-ok
 returns-in-Ok-clause-ok c =
     let seen = c.as_slice-bytes.ensures.value in
     let live : (c.generation-generation.result == 0) ≡ false = grind (arith, nat_tests) in (
-      held_is c.args.image.items _ c.generation-generation.result (ap stands_for_none (sym seen) ∙ sym c.is_none.ensures ∙ c.if-is_none.false)
-          (ap header_misfit (sym seen) ∙ sym c.misfit.ensures ∙ c.in_default.is) live (ap version_in (sym seen)) (ap generation_in (sym seen) ∙ sym c.generation-generation.ensures)
-          ∙ ap (held_by _ c.generation-generation.result) c.in-Ok.ensures.ok.reads,
-      c.in-Ok.ensures.ok.end,
+      c.in-Ok.ensures.image,
+      record {
+        held = held_is c.args.image.items _ c.generation-generation.result (ap stands_for_none (sym seen) ∙ sym c.is_none.ensures ∙ c.if-is_none.false)
+            (ap header_misfit (sym seen) ∙ sym c.misfit.ensures ∙ c.in_default.is) live (ap version_in (sym seen)) (ap generation_in (sym seen) ∙ sym c.generation-generation.ensures)
+            ∙ ap (held_by _ c.generation-generation.result) c.in-Ok.ensures.ok.reads;
+        end = c.in-Ok.ensures.ok.end;
+      },
     )
 
 pub invariant_of-result : goal.invariant_of-result

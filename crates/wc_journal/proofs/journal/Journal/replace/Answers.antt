@@ -1,4 +1,4 @@
-use Rattle.std.proofs.Common.{◌≡◌, ◌∙◌, ◌+◌, ◌≤◌, ℕ, [], ◌∷◌, ◌++◌, Bool, true, arith, ap, subst, length, length-append}
+use Rattle.std.proofs.Common.{◌≡◌, ◌∙◌, ◌≤◌, ℕ, [], ◌∷◌, ◌++◌, Bool, true, arith, ap, subst, length, length-append}
 use Rattle.wc_journal.specs.Frame.{heading, framed, most_of}
 use Rattle.wc_journal.specs.Batches.{payload_of}
 use Rattle.wc_journal.proofs.Appending.{length-framed}
@@ -36,12 +36,11 @@ returns-clause-written g c =
     (c.deref.ensures.value ∙ c.in_ok-bytes.ensures ∙ ap (λ (s : Bool). heading 2 c.args.generation ++ 1 ∷ framed 2 s (payload_of c.args.batch.now)) c.requires.snapshot)
     c.close_first.new.disk c.put_behind_first.new.disk c.put.new.disk (c.in_ok-close_first.ensures.closed told) (c.in_ok-put_behind_first.ensures.written (c.close_first.ensures.tells ∙ told)) (c.in_ok-put.ensures.written (c.put_behind_first.ensures.tells ∙ c.close_first.ensures.tells ∙ told))
 
-pub returns-clause-settled : goal.returns-clause-settled
-returns-clause-settled g c =
+pub returns-clause-end : goal.returns-clause-end
+returns-clause-end g c =
     let is : c.deref.result.now ≡ heading 2 c.args.generation ++ 1 ∷ framed 2 true (payload_of c.args.batch.now)
     = c.deref.ensures.value ∙ c.in_ok-bytes.ensures ∙ ap (λ (s : Bool). heading 2 c.args.generation ++ 1 ∷ framed 2 s (payload_of c.args.batch.now)) c.requires.snapshot in
-    let end : c.len.result ≡ 26 + length (payload_of c.args.batch.now)
-    = omega (
+    omega (
       arith,
       c.len.ensures,
       c.deref.ensures.len,
@@ -49,9 +48,13 @@ returns-clause-settled g c =
       length-append (heading 2 c.args.generation) (1 ∷ framed 2 true (payload_of c.args.batch.now)),
       length-heading 2 c.args.generation,
       length-framed 2 true (payload_of c.args.batch.now),
-    ) in
+    )
+
+pub returns-clause-settled : goal.returns-clause-settled
+returns-clause-settled g c =
     λ told. settled_by g.D.Disk _ c.put.new.disk ((26, payload_of c.args.batch.now) ∷ []) (c.in_ok-put.ensures.durable (c.put_behind_first.ensures.tells ∙ c.close_first.ensures.tells ∙ told))
     (replaced_held g.D.Disk c.args.disk.now c.args.generation (payload_of c.args.batch.now) c.deref.result.now c.requires.generation (omega arith)
     (subst (λ (v : ℕ). length (payload_of c.args.batch.now) ≤ most_of v) c.requires.version c.args.batch.now.is_small)
     (c.deref.ensures.value ∙ c.in_ok-bytes.ensures ∙ ap (λ (s : Bool). heading 2 c.args.generation ++ 1 ∷ framed 2 s (payload_of c.args.batch.now)) c.requires.snapshot)
-    c.close_first.new.disk c.put_behind_first.new.disk c.put.new.disk (c.in_ok-close_first.ensures.closed told) (c.in_ok-put_behind_first.ensures.written (c.close_first.ensures.tells ∙ told)) (c.in_ok-put.ensures.written (c.put_behind_first.ensures.tells ∙ c.close_first.ensures.tells ∙ told))) end
+    c.close_first.new.disk c.put_behind_first.new.disk c.put.new.disk (c.in_ok-close_first.ensures.closed told) (c.in_ok-put_behind_first.ensures.written (c.close_first.ensures.tells ∙ told)) (c.in_ok-put.ensures.written (c.put_behind_first.ensures.tells ∙ c.close_first.ensures.tells ∙ told)))
+    (returns-clause-end g c)

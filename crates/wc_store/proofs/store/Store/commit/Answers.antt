@@ -1,10 +1,14 @@
-use Rattle.std.proofs.Common.{◌∙◌, ℕ, ap, sym, Ok, Err}
+use Rattle.std.proofs.Common.{◌≤◌, ◌∙◌, ℕ, List, length, ap, refl, subst, sym, Ok, Err}
 use Rattle.wc_journal.specs.Batches.{payload_of}
+use Rattle.wc_journal.specs.Frame.{most_of}
+use Rattle.wc_record.specs.Reading.{whole}
+use Rattle.wc_record.proofs.Whole.{written_is_read}
 use Rattle.wc_world.specs.World.{World}
 use Rattle.wc_world.specs.Applied.{applied}
 use Rattle.wc_store.specs.Refusals.{byte_limit}
 use Rattle.wc_store.proofs.Commits.{nothing_committed}
 use Rattle.wc_store.proofs.Committed.{settled_there, plain_there, appended_leaves, appended_stands, refused_stands}
+use Rattle.wc_store.proofs.Imaged.{images_more, images_same}
 use Rattle.wc_store.proofs.store.Store.commit.Goals as goal
 
 pub append_at-requires : goal.append_at-requires
@@ -55,3 +59,23 @@ pub returns-in_err-batch-clause-any_moment : goal.returns-in_err-batch-clause-an
 returns-in_err-batch-clause-any_moment g c =
     λ told told_too.
     nothing_committed g.D.Disk c.args.self.now c.args.one.now c.args.two.now (c.requires.stands told told_too) c.args.limits.now c.args.changes g.met.D.Disk.only_now
+
+pub returns-in-Ok-clause-images : goal.returns-in-Ok-clause-images
+returns-in-Ok-clause-images g c =
+    let s = c.args.self.now in
+    let appends = c.in-Ok.ensures.appends in
+    let batch = c.in_ok-batch.ensures.batch in
+    let fits : length (payload_of c.in_ok-batch.batch) ≤ most_of s.journal.version
+    = subst (λ (v : ℕ). length (payload_of c.in_ok-batch.batch) ≤ most_of v) batch.version_is c.in_ok-batch.batch.is_small in
+    images_more s c.args.changes (payload_of c.in_ok-batch.batch) c.apply.new.self c.append_at.new.journal s.live
+    (subst (λ (q : List ℕ). whole q (Ok c.args.changes)) (sym batch.payload) (written_is_read c.args.changes batch.written)) c.requires.plain c.requires.accepted fits
+    (c.apply.ensures.world ∙ ap (λ (w : World). applied w c.args.changes) c.prepare.ensures.same) appends.version appends.generation appends.longer
+
+pub returns-in-Err-clause-images : goal.returns-in-Err-clause-images
+returns-in-Err-clause-images g c =
+    let appends = c.in-Err.ensures.appends in
+    images_same c.args.self.now c.prepare.new.world c.append_at.new.journal c.is_live_after-self.result c.prepare.ensures.same appends.version appends.generation appends.kept
+
+pub returns-in_err-batch-clause-images : goal.returns-in_err-batch-clause-images
+returns-in_err-batch-clause-images g c =
+    images_same c.args.self.now c.prepare.new.world c.args.self.now.journal c.args.self.now.live c.prepare.ensures.same refl refl refl

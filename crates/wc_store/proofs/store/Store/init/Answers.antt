@@ -1,6 +1,7 @@
 use Rattle.std.proofs.Common.{◌∙◌, inr, refl, sym}
 use Rattle.wc_store.proofs.Opened.{opens_none, opens_some}
-use Rattle.wc_store.proofs.Made.{made, made_parts, second_counts}
+use Rattle.wc_store.proofs.Imaged.{images_made}
+use Rattle.wc_store.proofs.Made.{made, made_parts, none_opened, second_counts}
 use Rattle.wc_store.proofs.store.Store.init.Goals as goal
 
 pub returns-then-is_some-clause-refused : goal.returns-then-is_some-clause-refused
@@ -30,3 +31,8 @@ returns-in-Err-DiskFault-clause-parts g c =
     let opened = c.in_ok-open.ensures in
     inr (made_parts g.D.Disk g.met.D.Disk.only_now c.in_ok-open.field-0 c.args.one.now c.args.two.now c.open.new.one c.open.new.two c.create.new.disk
     (sym c.if-is_some.ensures) (opened.ok told_one told_two) opened.seen_one opened.seen_two opened.any_moment_one opened.any_moment_two opened.durable_two (c.in-Err-DiskFault.ensures.any_moment (c.open.ensures.tells_one ∙ told_one)))
+
+pub returns-in-Ok-clause-images : goal.returns-in-Ok-clause-images
+returns-in-Ok-clause-images g c =
+    let none = none_opened g.D.Disk c.args.one.now c.args.two.now c.in_ok-open.field-0 (sym c.if-is_some.ensures) c.in_ok-open.ensures.images in
+    images_made none.first none.second _ _ _ none.are c.new.ensures c.in-Ok.ensures.version c.in-Ok.ensures.generation c.in-Ok.ensures.end

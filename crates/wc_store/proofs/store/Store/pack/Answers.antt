@@ -1,9 +1,14 @@
-use Rattle.std.proofs.Common.{ℕ, ◌+◌, refl, sym, subst, Ok, Err}
+use Rattle.std.proofs.Common.{ℕ, ◌+◌, ◌^◌, ◌<◌, ◌≤◌, List, arith, length, refl, sym, subst, Ok, Err}
 use Rattle.wc_journal.specs.Batches.{payload_of}
+use Rattle.wc_journal.specs.Frame.{most_of}
+use Rattle.wc_record.specs.Reading.{whole}
+use Rattle.wc_record.proofs.Whole.{written_is_read}
+use Rattle.wc_world.specs.Snapshot.{snapshot}
 use Rattle.wc_store.specs.declared.place.Place.{Place}
-use Rattle.wc_store.specs.Placing.{Replaces}
-use Rattle.wc_store.specs.Stores.{other, StandsFor}
+use Rattle.wc_store.specs.Writes.{Replaces}
+use Rattle.wc_store.specs.Stores.{other, StandsFor, HasImages}
 use Rattle.wc_store.proofs.Committed.{replaced_leaves, replaced_stands}
+use Rattle.wc_store.proofs.Imaged.{images_packed, images_same}
 use Rattle.wc_store.proofs.store.Store.pack.Goals as goal
 
 pub returns-in-Ok-clause-still : goal.returns-in-Ok-clause-still
@@ -51,3 +56,19 @@ returns-clause-any_moment g c =
     let replaces = subst (λ (m : ℕ). Replaces g.D.Disk (m + 1) p (other s.place one two) (other s.place one_new two_new) (Err e)) c.generation-generation.ensures.value c.in-Err.ensures.replaces in
     replaced_leaves g.D.Disk s one two c.requires.stands told told_too p one_new two_new (Err e) batch.payload batch.written c.in_ok-batch.ensures.reached replaces
     c.in-Err.ensures.untouched
+
+pub returns-in-Ok-clause-images : goal.returns-in-Ok-clause-images
+returns-in-Ok-clause-images g c =
+    let s = c.args.self.now in
+    let batch = c.in_ok-batch.ensures.batch in
+    let p = payload_of c.in_ok-batch.batch in
+    let j = c.in-Ok.journal in
+    let replaces = subst (λ (m : ℕ). Replaces g.D.Disk (m + 1) p (other s.place c.args.one.now c.args.two.now) (other s.place c.replace_beside.new.one c.replace_beside.new.two) (Ok j)) c.generation-generation.ensures.value c.in-Ok.ensures.replaces in
+    let few : s.journal.generation + 1 < 2 ^ 64 = omega (arith, c.in_ok-batch.ensures.fits.few, c.generation-generation.ensures.value) in
+    let fits : length p ≤ most_of 2 = subst (λ (v : ℕ). length p ≤ most_of v) batch.version_is c.in_ok-batch.batch.is_small in
+    subst (λ (q : Place). HasImages s → HasImages (record { world = s.world; journal = j; place = q; live = s.live })) (sym c.other-self.ensures)
+    (images_packed s p s.world j s.live (subst (λ (q : List ℕ). whole q (Ok (snapshot s.world.world))) (sym batch.payload) (written_is_read (snapshot s.world.world) batch.written))
+    c.in_ok-batch.ensures.reached fits few refl replaces.version replaces.generation replaces.end)
+
+pub returns-clause-images : goal.returns-clause-images
+returns-clause-images g c = images_same c.args.self.now c.args.self.now.world c.args.self.now.journal c.is_live_after-self.result refl refl refl refl

@@ -1,0 +1,8 @@
+use Rattle.wc_act.proofs.SoundDeeds.{deeds_keep, deeds_begin}
+use Rattle.wc_act.proofs.laws.deeds_keep_worlds_sound.Goals as goal
+
+pub returns-clause-keep : goal.returns-clause-keep
+returns-clause-keep c = deeds_keep c.events_keep_sound.ensures c.worlds_continue_themselves.ensures
+
+pub returns-clause-begin : goal.returns-clause-begin
+returns-clause-begin c = deeds_begin c.drills_are_sound.ensures

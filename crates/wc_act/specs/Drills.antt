@@ -1,0 +1,94 @@
+-- What `drill` does.
+use Rattle.std.specs.Prelude.{◌≡◌, ◌⊎◌, ℕ, List, [], Option, Some, None}
+use Rattle.wc_journal.specs.declared.journal.Journal.{Journal}
+use Rattle.wc_state.specs.declared.record.What.{What}
+use Rattle.wc_world.specs.World.{World}
+use Rattle.wc_store.specs.Held.{Standing, nothing, damage, a_world}
+use Rattle.wc_store.specs.declared.place.Place.TheVariants.{One}
+use Rattle.wc_runner.specs.declared.error.RunError.TheVariants.{Full}
+use Rattle.wc_runner.specs.declared.runs.RunEnd.{RunEnd}
+use Rattle.wc_runner.specs.declared.runs.RunEnd.TheVariants.{AllEnded, Spent, Resting}
+use Rattle.wc_drill.specs.Draws.{sum_of_squares}
+use Rattle.wc_drill.specs.Texts.{drilled_text}
+use Rattle.wc_drill.specs.Drilled.{Drills, HasDrilled}
+use Rattle.wc_drill.specs.Refusals.{IsHeldUp, IsSpent, IsTooFullFor}
+use Rattle.wc_drill.specs.declared.error.DrillError.{DrillError}
+use Rattle.wc_drill.specs.declared.error.DrillError.TheVariants as drill_error
+use Rattle.wc_plan.specs.declared.reply.Reply.{Reply}
+use Rattle.wc_plan.specs.declared.status.Cause.TheVariants as cause
+use Rattle.wc_plan.specs.declared.status.Status.{Status}
+use Rattle.wc_plan.specs.declared.status.Status.TheVariants as status
+use Rattle.wc_plan.specs.Replies.{refuses, prints}
+use Rattle.wc_act.specs.StoreDeeds.{Images, Hold, HasJournal, is_damaged, is_full}
+
+-- ---- how it ends
+
+-- at this world no process is live; or, with all chains submitted, as many turns were taken as there are, or each live process is held up
+abbrev pub EndsAt : (seed count : ℕ) → World → RunEnd → Type 0
+EndsAt seed count w AllEnded = HasDrilled seed count w
+EndsAt seed count w Spent = IsSpent seed count w
+EndsAt seed count w Resting = IsHeldUp seed count w
+
+-- nothing is written beside the status
+abbrev pub stopped : Status → Reply
+stopped s = record { status = s; text = [] }
+
+-- what was generated, the squares of the numbers drawn, added up, and the number of batches; nothing where a process is live
+abbrev pub has_drilled : (seed count : ℕ) → World → RunEnd → Reply
+has_drilled seed count w AllEnded = prints (drilled_text count (sum_of_squares count seed) w.batches)
+has_drilled seed count w Spent = stopped status.Spent
+has_drilled seed count w Resting = stopped status.Resting
+
+-- The drill has come to its end at this world.
+pub record HasEnded (seed count : ℕ) (w : World) (r : Reply) : Type 0 where
+  pub end : RunEnd
+  pub ends : EndsAt seed count w end
+  pub reply : r ≡ has_drilled seed count w end
+
+-- The drill has come to this world, and the store would be too full with the next chain, or with the turn of a process, by this journal of it.
+pub record FillsUp (seed count : ℕ) (w : World) (journal : Journal) (r : Reply) : Type 0 where
+  pub drills : Drills seed count w
+  pub what : What
+  pub many : ℕ
+  pub limit : ℕ
+  pub refused : IsTooFullFor seed count journal w (Full what many limit)
+  pub reply : r ≡ is_full what many limit
+
+-- The disks hold the world to which the drill has come, by a journal of version 2 and generation 1 on disk one: there it ended, or would be too
+-- full by that journal. Disk two reads as before.
+pub record IsDrilled (seed count : ℕ) (before after : Images) (r : Reply) : Type 0 where
+  pub world : World
+  pub held : Hold after (a_world world)
+  pub rest : after.1 ≡ before.1
+  pub journal : Journal
+  pub kept : HasJournal after journal
+  pub place : kept.place ≡ One
+  pub version : journal.version ≡ 2
+  pub generation : journal.generation ≡ 1
+  pub ends : HasEnded seed count world r ⊎ FillsUp seed count world journal r
+
+-- a store is made, and chains run in it, where there is none
+abbrev pub DrillAt : (seed count : ℕ) → Images → Standing → Images → Reply → Type 0
+DrillAt seed count before nothing after r = IsDrilled seed count before after r
+DrillAt seed count before (damage disk at found) after r = (after ≡ before) × (r ≡ is_damaged disk at found)
+DrillAt seed count before (a_world w) after r = (after ≡ before) × (r ≡ refuses cause.StoreExists)
+
+-- what is replied at some world, by some journal
+abbrev pub MayDrill : (seed count : ℕ) → Reply → Type 0
+MayDrill seed count r = (w : World) × (HasEnded seed count w r ⊎ ((journal : Journal) × FillsUp seed count w journal r))
+
+-- what is acknowledged of a world: each chain has run to its end, and its numbers were written
+abbrev pub IsToldDrilled : (seed count : ℕ) → List ℕ → World → Type 0
+IsToldDrilled seed count text w = HasDrilled seed count w × (text ≡ drilled_text count (sum_of_squares count seed) w.batches)
+
+-- ---- what breaks it off
+
+-- what is told of a drill that has no end, if anything is
+abbrev pub broken_reply : DrillError → Option Reply
+broken_reply drill_error.DiskFault = None
+broken_reply (drill_error.Damaged disk at found) = Some (is_damaged disk at found)
+broken_reply (drill_error.Full what count limit) = Some (is_full what count limit)
+broken_reply drill_error.AlreadyThere = Some (refuses cause.StoreExists)
+broken_reply drill_error.Spent = Some (stopped status.Spent)
+broken_reply drill_error.Resting = Some (stopped status.Resting)
+broken_reply drill_error.OutOfMemory = None

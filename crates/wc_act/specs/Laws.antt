@@ -1,0 +1,35 @@
+-- Laws of deeds and views, without disks.
+use Rattle.std.specs.Prelude.{◌≡◌, true, List, Some}
+use Rattle.wc_value.specs.declared.process.Tree.{Tree}
+use Rattle.wc_report.specs.Trees.{tree_text}
+use Rattle.wc_state.specs.declared.record.ProcessRecord.{ProcessRecord}
+use Rattle.wc_semantics.specs.Tables.{Table}
+use Rattle.wc_world.specs.World.{World, empty}
+use Rattle.wc_world.specs.Accepted.{IsReached}
+use Rattle.wc_world.specs.Records.{find_record, has_ended}
+use Rattle.wc_machine.specs.Agreeing.{Agrees}
+use Rattle.wc_machine.specs.Paths.{kills}
+use Rattle.wc_machine.specs.Resting.{GivesTree, meant}
+use Rattle.wc_machine.specs.Sound.{IsSound}
+use Rattle.wc_runner.specs.Laws.{StaysSound}
+use Rattle.wc_plan.specs.declared.deed.Deed.{Deed}
+use Rattle.wc_plan.specs.declared.reply.Reply.{Reply}
+use Rattle.wc_plan.specs.Replies.{prints}
+use Rattle.wc_act.specs.Crashes.{Keeps}
+use Rattle.wc_act.specs.Rows.{row}
+use Rattle.wc_act.specs.StoreDeeds.{Images}
+use Rattle.wc_act.specs.Views.{ShowsTree}
+
+-- What a deed may make of a world, at any moment and in any images, is sound where that world is, and continues it.
+abbrev pub DeedsKeepSound : Type 0
+DeedsKeepSound = (d : Deed) (w v : World) (images : Images) → IsReached w → (row d).makes w v images → Keeps w v
+
+-- Each world with which a deed may begin a store is sound, and continues the empty one.
+abbrev pub DeedsBeginSound : Type 0
+DeedsBeginSound = (d : Deed) (v : World) → (row d).begins v → StaysSound empty v
+
+-- What `tree` tells of a process of a sound world that has ended is the text of the tree that its definition means, by each table that agrees with
+-- the recorded results, for its recorded inputs and kills and with the fuel that is kept of it.
+abbrev pub ToldTreesAreMeant : Type 0
+ToldTreesAreMeant = (w : World) (p : ProcessRecord) (r : Reply) (table : Table) → IsSound w → find_record p.node w.records ≡ Some p → has_ended p.state ≡ true
+    → Agrees table w p.node → ShowsTree p.node w r → (t : Tree) × (r ≡ prints (tree_text t)) × GivesTree (meant w p table (kills w p.node) p.fuel) t

@@ -1,6 +1,0 @@
-use Rattle.std.proofs.Common.{◌≡◌, ◌++◌, map, drop}
-use Rattle.wc_machine.specs.Submitting.{data_change}
-use Rattle.wc_core.proofs.submitting.put_values.Given as goal
-
-abbrev pub invariant-loop-value : goal.invariant-loop-value
-invariant-loop-value l = l.changes ++ map data_change (drop l.value-index l.value-items) ≡ l.fn.changes ++ map data_change l.value-items

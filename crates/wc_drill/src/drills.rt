@@ -1,0 +1,155 @@
+//! Drills.
+
+ghost use Rattle.std.specs.Prelude.{◌≡◌, ◌≤◌, true, IsTrue, IfOk, IfErr, OnErr};
+ghost use Rattle.wc_world.specs.World.{World as AWorld, empty};
+ghost use Rattle.wc_disk.specs.Images.{LeavesOnly};
+ghost use Rattle.wc_store.specs.Held.{IsHeld, nothing};
+ghost use Rattle.wc_store.specs.Stores.{StandsFor};
+ghost use Rattle.wc_store.specs.declared.place.Place.TheVariants.{One};
+ghost use Rattle.wc_runner.specs.Leaves.{LeavesWorlds, SomeTurns};
+ghost use Rattle.wc_runner.specs.Refusals.{Counts as CountsRun, RefusesRun, is_live_after};
+ghost use Rattle.wc_drill.specs.Library.{library};
+ghost use Rattle.wc_drill.specs.Squares.{square_rows};
+ghost use Rattle.wc_drill.specs.Drilled.{Drills, HasDrilled, outside, turns_of};
+ghost use Rattle.wc_drill.specs.Leaves.{AreDurable, DrilledBeside, DrilledOr, HoldsNow, IsBegun, IsFirst, RefusedLeaves};
+ghost use Rattle.wc_drill.specs.Refusals.{Counts, EndsDrill, IsOfInit, RefusesDrill, RefusesDrilled, of_init};
+ghost use Rattle.wc_drill.specs.Runs.{EndsSo, TakesFewer};
+
+use crate::error::DrillError;
+use crate::runs::run_chains;
+use crate::submissions::submit_chains;
+use crate::{chain_library, square_table};
+use std::alloc::Global;
+use wc_disk::Disk;
+use wc_io::{Failing, MemoryPacer};
+use wc_runner::{RunEnd, RunError};
+use wc_store::{Store, StoreError};
+use wc_syntax::Checked;
+use wc_transport::{Busy, TableTransport};
+use wc_value::Table;
+
+/// What is told of a store that isn't made.
+fn of_init(error: StoreError) -> DrillError
+    requires { IsOfInit error }
+    ensures { result ≡ of_init error }
+{
+    match error {
+        StoreError::DiskFault => DrillError::DiskFault,
+        StoreError::Damaged(disk, at, found) => DrillError::Damaged(disk, at, found),
+        StoreError::AlreadyThere => DrillError::AlreadyThere,
+        StoreError::OutOfMemory => DrillError::OutOfMemory,
+        StoreError::Full(..) => unreachable!(),
+    }
+}
+
+/// What is told of a run of chains that ended so, at a store: how many batches it has, where no process is live.
+fn ended(end: RunEnd, store: &Store) -> Result<u32, DrillError>
+    ensures { EndsDrill end store.now.world.world result }
+{
+    match end {
+        RunEnd::AllEnded => Ok(store.world().batches()),
+        RunEnd::Spent => Err(DrillError::Spent),
+        RunEnd::Resting => Err(DrillError::Resting),
+    }
+}
+
+/// Lets the chains that were submitted take their turns, by the table, from the moment 0 on.
+fn run_all<D: Disk>(
+    alloc: Global,
+    store: &mut Store,
+    one: &mut D,
+    two: &mut D,
+    table: Table,
+    count: u32,
+) -> Result<RunEnd, RunError>
+    requires few { count ≤ 10000 }
+    requires table { table ≡ square_rows 100 }
+    requires live { store.old.live ≡ true }
+    requires stands { IsTrue (D.tells one.old) → IsTrue (D.tells two.old) → StandsFor D.Disk store.old one.old two.old }
+    ensures takes { SomeTurns outside (turns_of count) store.old.world.world store.new.world.world }
+    ensures ends { IfOk result (EndsSo (turns_of count) store.old.world.world store.new.world.world) }
+    ensures early { OnErr result (TakesFewer (turns_of count) store.old.world.world store.new.world.world) }
+    ensures live { store.new.live ≡ is_live_after result }
+    ensures refused { IfErr result (RefusesRun outside store.new) }
+    ensures still { store.new.live ≡ true → IsTrue (D.tells one.old) → IsTrue (D.tells two.old) → StandsFor D.Disk store.new one.new two.new }
+    ensures place { (store.new.place ≡ store.old.place) × (store.new.journal.generation ≡ store.old.journal.generation) × (store.new.journal.version ≡ store.old.journal.version) }
+    ensures any_moment { IsTrue (D.tells one.old) → IsTrue (D.tells two.old)
+        → LeavesWorlds D.Disk store.old.place (SomeTurns outside (turns_of count) store.old.world.world) one.old two.old one.new two.new }
+    ensures tells { (D.tells one.new ≡ D.tells one.old) × (D.tells two.new ≡ D.tells two.old) }
+    ensures cause { CountsRun result (D.faults one.old) (D.faults one.new) (D.faults two.old) (D.faults two.new) (D.failed one.new) (D.failed two.new) }
+{
+    let mut transport = TableTransport::new(alloc, table, Failing::new(alloc), Busy::new(alloc));
+    let mut pacer = MemoryPacer::new(0);
+    let turns = 17 * u64::from(count);
+    run_chains(alloc, store, one, two, &mut transport, &mut pacer, turns)
+}
+
+/// Submits the chains on a new store, and lets them take their turns.
+fn drilled<D: Disk>(
+    alloc: Global,
+    mut store: Store,
+    one: &mut D,
+    two: &mut D,
+    chains: &Checked,
+    table: Table,
+    seed: u32,
+    count: u32,
+) -> Result<u32, DrillError>
+    requires few { count ≤ 10000 }
+    requires library { chains.now ≡ library }
+    requires table { table ≡ square_rows 100 }
+    requires live { store.live ≡ true }
+    requires empty { store.world.world ≡ empty }
+    requires made { IsFirst store }
+    requires stands { IsTrue (D.tells one.old) → IsTrue (D.tells two.old) → StandsFor D.Disk store one.old two.old }
+    ensures done { IfOk result (λ batches. (w : AWorld) × HasDrilled seed count w × (batches ≡ w.batches)
+        × (IsTrue (D.tells one.old) → IsTrue (D.tells two.old) → HoldsNow D.Disk one.new two.new w)) }
+    ensures refused { IfErr result (RefusesDrilled D.Disk (IsTrue (D.tells one.old) × IsTrue (D.tells two.old)) seed count one.new two.new) }
+    ensures durable { IsBegun result → IsTrue (D.tells one.old) → IsTrue (D.tells two.old) → AreDurable D.Disk one.new two.new }
+    ensures any_moment { IsTrue (D.tells one.old) → IsTrue (D.tells two.old) → LeavesWorlds D.Disk One (Drills seed count) one.old two.old one.new two.new }
+    ensures tells { (D.tells one.new ≡ D.tells one.old) × (D.tells two.new ≡ D.tells two.old) }
+    ensures cause { Counts result (D.faults one.old) (D.faults one.new) (D.faults two.old) (D.faults two.new) (D.failed one.new) (D.failed two.new) }
+{
+    match submit_chains(alloc, &mut store, one, two, chains, seed, count) {
+        Ok(()) => {}
+        Err(error) => return Err(DrillError::from(error)),
+    }
+    match run_all(alloc, &mut store, one, two, table, count) {
+        Ok(end) => ended(end, &store),
+        Err(error) => Err(DrillError::from(error)),
+    }
+}
+
+/// Makes a store of generation 1 on disk one, submits so many chains with numbers drawn from the seed, and lets them take their turns. The answer is
+/// how many batches were committed.
+pub fn drill<D: Disk>(
+    alloc: Global,
+    one: &mut D,
+    two: &mut D,
+    seed: u32,
+    count: u32,
+) -> Result<u32, DrillError>
+    requires few { count ≤ 10000 }
+    ensures done { IfOk result (λ batches. (w : AWorld) × HasDrilled seed count w × (batches ≡ w.batches)
+        × (IsTrue (D.tells one.old) → IsTrue (D.tells two.old) → HoldsNow D.Disk one.new two.new w)) }
+    ensures nothing { IsBegun result → IsTrue (D.tells one.old) → IsTrue (D.tells two.old) → IsHeld (D.seen one.old) (D.seen two.old) nothing }
+    ensures refused { IfErr result (RefusesDrill D.Disk (IsTrue (D.tells one.old) × IsTrue (D.tells two.old)) seed count one.old two.old one.new two.new) }
+    ensures durable { IsBegun result → IsTrue (D.tells one.old) → IsTrue (D.tells two.old) → AreDurable D.Disk one.new two.new }
+    ensures unbegun { IsTrue (D.tells one.old) → IsTrue (D.tells two.old) → RefusedLeaves D.Disk result one.old two.old one.new two.new }
+    ensures seen_two { IsTrue (D.tells one.old) → IsTrue (D.tells two.old) → D.seen two.new ≡ D.seen two.old }
+    // Disk two is not written, and each image of disk one is one that a crash at entry might have left, or holds what the drill makes.
+    ensures any_moment_one { IsTrue (D.tells one.old) → IsTrue (D.tells two.old)
+        → LeavesOnly D.Disk one.old one.new (DrilledOr seed count (D.seen one.old) (D.seen two.old) (D.may_leave one.old)) }
+    ensures beside { IsTrue (D.tells one.old) → IsTrue (D.tells two.old)
+        → LeavesOnly D.Disk one.old one.new (DrilledBeside D.Disk seed count one.old two.old two.new) }
+    ensures any_moment_two { IsTrue (D.tells one.old) → IsTrue (D.tells two.old) → LeavesOnly D.Disk two.old two.new (D.may_leave two.old) }
+    ensures tells { (D.tells one.new ≡ D.tells one.old) × (D.tells two.new ≡ D.tells two.old) }
+    ensures cause { Counts result (D.faults one.old) (D.faults one.new) (D.faults two.old) (D.faults two.new) (D.failed one.new) (D.failed two.new) }
+{
+    let chains = chain_library(alloc)?;
+    let table = square_table(alloc)?;
+    match Store::init(alloc, one, two) {
+        Ok(store) => drilled(alloc, store, one, two, &chains, table, seed, count),
+        Err(error) => Err(of_init(error)),
+    }
+}

@@ -1,0 +1,173 @@
+use Rattle.std.proofs.Common.{refl, subst}
+use Rattle.wc_cli.specs.Words.{command_of}
+use Rattle.wc_act.specs.Outside.{turns_of}
+use Rattle.wc_act.specs.Undone.{IsBeforeTurns}
+use Rattle.wc_plan.specs.Plans.{Plans}
+use Rattle.wc_plan.specs.declared.deed.Plan.{Plan}
+use Rattle.wc_plan.specs.declared.deed.Plan.TheVariants as plan
+use Rattle.wc_plan.specs.declared.reply.Reply.{Reply}
+use Rattle.wc_act.proofs.Answered.{plan_counts, plan_no_fault, told_no_fault, act_counts, act_no_refusal, act_ends, act_undone}
+use Rattle.wc_act.proofs.Exchanged.{asked_by, asked_none}
+use Rattle.wc_act.proofs.Moments.{made, made_unasked}
+use Rattle.wc_act.proofs.Unwriting.{none_asked}
+use Rattle.wc_act.proofs.Idle.{plan_idle}
+use Rattle.wc_engine.proofs.top.answer.Goals as goal
+
+-- ---- there is no plan
+
+pub returns-in_err-reply-clause-counts : goal.returns-in_err-reply-clause-counts
+returns-in_err-reply-clause-counts g c =
+    plan_counts Plan c.from_residual.result c.in_err-reply.field-0.0 (g.R.Shelf.faults c.args.shelf.now) (g.R.Shelf.faults c.plan.new.shelf) (g.D.Disk.faults c.args.one.now) (g.D.Disk.faults c.args.two.now)
+    c.args.one.now c.args.two.now (g.R.Shelf.failed c.plan.new.shelf) (g.D.Disk.failed c.args.one.now) (g.D.Disk.failed c.args.two.now)
+    c.from_residual.ensures c.in_err-reply.ensures.counts
+
+pub returns-in_err-reply-clause-unasked : goal.returns-in_err-reply-clause-unasked
+returns-in_err-reply-clause-unasked g c = λ none. (refl, refl, plan_no_fault c.from_residual.result c.in_err-reply.field-0.0 c.from_residual.ensures)
+
+pub returns-in_err-reply-clause-undone : goal.returns-in_err-reply-clause-undone
+returns-in_err-reply-clause-undone g c = λ ends told told_too. none_asked g.D.Disk g.met.D.Disk.only_now c.args.one.now c.args.two.now
+
+pub returns-in_err-reply-clause-made : goal.returns-in_err-reply-clause-made
+returns-in_err-reply-clause-made g c =
+    λ told told_too. made_unasked g.D.Disk g.met.D.Disk.only_now g.met.D.Disk.counts_now (g.R.Shelf.contents c.args.shelf.now) c.args.words.now c.args.one.now c.args.two.now
+
+pub returns-in_err-reply-clause-asked : goal.returns-in_err-reply-clause-asked
+returns-in_err-reply-clause-asked g c = asked_none g.T.Transport (turns_of (command_of c.args.words.now)) c.args.transport.now
+
+-- ---- a reply is told
+
+pub returns-in-Told-clause-owed : goal.returns-in-Told-clause-owed
+returns-in-Told-clause-owed g c = (
+  plan.Told c.in-Told.reply,
+  subst (λ (p : Plan). Plans (g.R.Shelf.contents c.args.shelf.now) (command_of c.args.words.now) p) c.in-Told.is c.in_ok-reply.ensures.plans,
+  (refl, refl),
+)
+
+pub returns-in-Told-clause-unasked : goal.returns-in-Told-clause-unasked
+returns-in-Told-clause-unasked g c =
+    λ none. (
+      refl,
+      refl,
+      told_no_fault (g.R.Shelf.contents c.args.shelf.now) c.args.words.now c.in-Told.reply
+          (subst (λ (p : Plan). Plans (g.R.Shelf.contents c.args.shelf.now) (command_of c.args.words.now) p) c.in-Told.is c.in_ok-reply.ensures.plans),
+    )
+
+pub returns-in-Told-clause-undone : goal.returns-in-Told-clause-undone
+returns-in-Told-clause-undone g c = λ ends told told_too. none_asked g.D.Disk g.met.D.Disk.only_now c.args.one.now c.args.two.now
+
+pub returns-in-Told-clause-made : goal.returns-in-Told-clause-made
+returns-in-Told-clause-made g c =
+    λ told told_too. made_unasked g.D.Disk g.met.D.Disk.only_now g.met.D.Disk.counts_now (g.R.Shelf.contents c.args.shelf.now) c.args.words.now c.args.one.now c.args.two.now
+
+pub returns-in-Told-clause-durable : goal.returns-in-Told-clause-durable
+returns-in-Told-clause-durable g c =
+    λ needs done told told_too.
+    absurd (needs c.in-Told.reply (subst (λ (p : Plan). Plans (g.R.Shelf.contents c.args.shelf.now) (command_of c.args.words.now) p) c.in-Told.is c.in_ok-reply.ensures.plans) done)
+
+pub returns-in-Told-clause-asked : goal.returns-in-Told-clause-asked
+returns-in-Told-clause-asked g c = asked_none g.T.Transport (turns_of (command_of c.args.words.now)) c.args.transport.now
+
+pub returns-in-Told-clause-outside : goal.returns-in-Told-clause-outside
+returns-in-Told-clause-outside g c =
+    λ needs done told told_too.
+    absurd (needs c.in-Told.reply (subst (λ (p : Plan). Plans (g.R.Shelf.contents c.args.shelf.now) (command_of c.args.words.now) p) c.in-Told.is c.in_ok-reply.ensures.plans) done)
+
+-- ---- a deed has no reply
+
+pub returns-in_err-act-in-On-clause-counts : goal.returns-in_err-act-in-On-clause-counts
+returns-in_err-act-in-On-clause-counts g c =
+    act_counts Reply c.from_residual-in_err-act-in-On.result c.in_err-act-in-On.field-0.0 (g.R.Shelf.faults c.args.shelf.now) (g.R.Shelf.faults c.plan.new.shelf)
+    (g.D.Disk.faults c.args.one.now) (g.D.Disk.faults c.act.new.one) (g.D.Disk.faults c.args.two.now) (g.D.Disk.faults c.act.new.two) c.args.one.now c.act.new.one c.args.two.now c.act.new.two
+    (g.R.Shelf.failed c.plan.new.shelf) (g.D.Disk.failed c.act.new.one) (g.D.Disk.failed c.act.new.two)
+    c.from_residual-in_err-act-in-On.ensures c.in_ok-reply.ensures.counts c.in_err-act-in-On.ensures.cause
+
+pub returns-in_err-act-in-On-clause-unasked : goal.returns-in_err-act-in-On-clause-unasked
+returns-in_err-act-in-On-clause-unasked g c =
+    λ none. absurd (none c.in-On.deed (subst (λ (p : Plan). Plans (g.R.Shelf.contents c.args.shelf.now) (command_of c.args.words.now) p) c.in-On.is c.in_ok-reply.ensures.plans))
+
+pub returns-in_err-act-in-On-clause-early : goal.returns-in_err-act-in-On-clause-early
+returns-in_err-act-in-On-clause-early g c =
+    λ cause is none. absurd (act_no_refusal c.from_residual-in_err-act-in-On.result c.in_err-act-in-On.field-0.0 cause c.from_residual-in_err-act-in-On.ensures is)
+
+pub returns-in_err-act-in-On-clause-undone : goal.returns-in_err-act-in-On-clause-undone
+returns-in_err-act-in-On-clause-undone g c =
+    λ ends.
+    let plans = subst (λ (p : Plan). Plans (g.R.Shelf.contents c.args.shelf.now) (command_of c.args.words.now) p) c.in-On.is c.in_ok-reply.ensures.plans in
+    c.in_err-act-in-On.ensures.undone (act_undone (g.R.Shelf.contents c.args.shelf.now) c.args.words.now c.in-On.deed c.from_residual-in_err-act-in-On.result c.in_err-act-in-On.field-0.0
+    c.from_residual-in_err-act-in-On.ensures plans ends)
+
+pub returns-in_err-act-in-On-clause-made : goal.returns-in_err-act-in-On-clause-made
+returns-in_err-act-in-On-clause-made g c =
+    λ told told_too.
+    let plans = subst (λ (p : Plan). Plans (g.R.Shelf.contents c.args.shelf.now) (command_of c.args.words.now) p) c.in-On.is c.in_ok-reply.ensures.plans in
+    made g.D.Disk g.met.D.Disk.only_now g.met.D.Disk.counts_now (g.R.Shelf.contents c.args.shelf.now) c.args.words.now c.in-On.deed c.args.one.now c.args.two.now c.act.new.one c.act.new.two plans
+    (c.act.ensures.kept told told_too)
+
+pub returns-in_err-act-in-On-clause-idle : goal.returns-in_err-act-in-On-clause-idle
+returns-in_err-act-in-On-clause-idle g c =
+    λ none.
+    let plans = subst (λ (p : Plan). Plans (g.R.Shelf.contents c.args.shelf.now) (command_of c.args.words.now) p) c.in-On.is c.in_ok-reply.ensures.plans in
+    c.in_err-act-in-On.ensures.idle (plan_idle (g.R.Shelf.contents c.args.shelf.now) (command_of c.args.words.now) (plan.On c.in-On.deed) plans none)
+
+pub returns-in_err-act-in-On-clause-unbegun : goal.returns-in_err-act-in-On-clause-unbegun
+returns-in_err-act-in-On-clause-unbegun g c =
+    λ ends. c.in_err-act-in-On.ensures.unbegun (act_ends IsBeforeTurns c.from_residual-in_err-act-in-On.result c.in_err-act-in-On.field-0.0 c.from_residual-in_err-act-in-On.ensures ends)
+
+pub returns-in_err-act-in-On-clause-asked : goal.returns-in_err-act-in-On-clause-asked
+returns-in_err-act-in-On-clause-asked g c =
+    let plans = subst (λ (p : Plan). Plans (g.R.Shelf.contents c.args.shelf.now) (command_of c.args.words.now) p) c.in-On.is c.in_ok-reply.ensures.plans in
+    asked_by g.T.Transport (g.R.Shelf.contents c.args.shelf.now) (command_of c.args.words.now) c.in-On.deed c.args.transport.now c.act.new.transport plans c.act.ensures.asked
+    (λ idle. (c.act.ensures.idle idle).0)
+
+-- ---- a deed has its reply
+
+pub returns-in_ok-act-in-On-clause-owed : goal.returns-in_ok-act-in-On-clause-owed
+returns-in_ok-act-in-On-clause-owed g c = (
+  plan.On c.in-On.deed,
+  subst (λ (p : Plan). Plans (g.R.Shelf.contents c.args.shelf.now) (command_of c.args.words.now) p) c.in-On.is c.in_ok-reply.ensures.plans,
+  c.in_ok-act-in-On.ensures.does,
+)
+
+pub returns-in_ok-act-in-On-clause-unasked : goal.returns-in_ok-act-in-On-clause-unasked
+returns-in_ok-act-in-On-clause-unasked g c =
+    λ none. absurd (none c.in-On.deed (subst (λ (p : Plan). Plans (g.R.Shelf.contents c.args.shelf.now) (command_of c.args.words.now) p) c.in-On.is c.in_ok-reply.ensures.plans))
+
+pub returns-in_ok-act-in-On-clause-early : goal.returns-in_ok-act-in-On-clause-early
+returns-in_ok-act-in-On-clause-early g c =
+    λ cause is none.
+    let plans = subst (λ (p : Plan). Plans (g.R.Shelf.contents c.args.shelf.now) (command_of c.args.words.now) p) c.in-On.is c.in_ok-reply.ensures.plans in
+    absurd (none c.in-On.deed plans c.in_ok-act-in-On.field-0 c.in_ok-act-in-On.ensures.does.0 is)
+
+pub returns-in_ok-act-in-On-clause-undone : goal.returns-in_ok-act-in-On-clause-undone
+returns-in_ok-act-in-On-clause-undone g c =
+    λ ends. c.in_ok-act-in-On.ensures.undone (ends c.in-On.deed (subst (λ (p : Plan). Plans (g.R.Shelf.contents c.args.shelf.now) (command_of c.args.words.now) p) c.in-On.is c.in_ok-reply.ensures.plans))
+
+pub returns-in_ok-act-in-On-clause-made : goal.returns-in_ok-act-in-On-clause-made
+returns-in_ok-act-in-On-clause-made g c =
+    λ told told_too.
+    let plans = subst (λ (p : Plan). Plans (g.R.Shelf.contents c.args.shelf.now) (command_of c.args.words.now) p) c.in-On.is c.in_ok-reply.ensures.plans in
+    made g.D.Disk g.met.D.Disk.only_now g.met.D.Disk.counts_now (g.R.Shelf.contents c.args.shelf.now) c.args.words.now c.in-On.deed c.args.one.now c.args.two.now c.act.new.one c.act.new.two plans
+    (c.act.ensures.kept told told_too)
+
+pub returns-in_ok-act-in-On-clause-durable : goal.returns-in_ok-act-in-On-clause-durable
+returns-in_ok-act-in-On-clause-durable g c = λ needs done told told_too. c.in_ok-act-in-On.ensures.durable done told told_too
+
+pub returns-in_ok-act-in-On-clause-idle : goal.returns-in_ok-act-in-On-clause-idle
+returns-in_ok-act-in-On-clause-idle g c =
+    λ none.
+    let plans = subst (λ (p : Plan). Plans (g.R.Shelf.contents c.args.shelf.now) (command_of c.args.words.now) p) c.in-On.is c.in_ok-reply.ensures.plans in
+    c.in_ok-act-in-On.ensures.idle (plan_idle (g.R.Shelf.contents c.args.shelf.now) (command_of c.args.words.now) (plan.On c.in-On.deed) plans none)
+
+pub returns-in_ok-act-in-On-clause-asked : goal.returns-in_ok-act-in-On-clause-asked
+returns-in_ok-act-in-On-clause-asked g c =
+    let plans = subst (λ (p : Plan). Plans (g.R.Shelf.contents c.args.shelf.now) (command_of c.args.words.now) p) c.in-On.is c.in_ok-reply.ensures.plans in
+    asked_by g.T.Transport (g.R.Shelf.contents c.args.shelf.now) (command_of c.args.words.now) c.in-On.deed c.args.transport.now c.act.new.transport plans c.act.ensures.asked
+    (λ idle. (c.act.ensures.idle idle).0)
+
+pub returns-in_ok-act-in-On-clause-outside : goal.returns-in_ok-act-in-On-clause-outside
+returns-in_ok-act-in-On-clause-outside g c =
+    λ needs done told told_too. (
+      c.in-On.deed,
+      subst (λ (p : Plan). Plans (g.R.Shelf.contents c.args.shelf.now) (command_of c.args.words.now) p) c.in-On.is c.in_ok-reply.ensures.plans,
+      c.in_ok-act-in-On.ensures.outside done told told_too,
+    )

@@ -1,0 +1,210 @@
+//! What words ask for, as the shelf's files make it. No disk is in scope.
+
+ghost use Rattle.std.specs.Prelude.{◌≡◌, ◌≤◌, None, Some, IfOk};
+ghost use Rattle.wc_state.specs.Ranges.{AreLimits};
+ghost use Rattle.wc_cli.specs.Words.{command_of};
+ghost use Rattle.wc_plan.specs.Counts.{CountsShelf};
+ghost use Rattle.wc_plan.specs.Plans.{IsReadyPlan, NamesNoFile, Plans, PlansSubmission, chains_of, plan_of_prepared, plan_of_run, seed_of};
+ghost use Rattle.wc_plan.specs.Settings.{SettingsFrom, SettingsReady};
+ghost use Rattle.wc_plan.specs.Submits.{SubmitsReady};
+
+use crate::commands::{Trial, reply_to_check, reply_to_dry};
+use crate::deed::{Asked, Begin, Deed, Plan, RunOptions, Work};
+use crate::error::PlanError;
+use crate::libraries::read_from;
+use crate::reply::refuse;
+use crate::settings::{read_settings_content, submitted_with, usual_settings};
+use crate::status::Cause;
+use crate::submission::{Prepared, prepare};
+use std::alloc::{AllocError, Global};
+use wc_cli::{Command, Given, command_of};
+use wc_config::Settings;
+use wc_io::{Shelf, ShelfError};
+use wc_value::{Text, Words};
+
+/// The settings of a command that names this file of the shelf, or none, or why there are none.
+fn read_settings_from<R: Shelf>(
+    alloc: Global,
+    shelf: &mut R,
+    file: &Option<Text>,
+) -> Result<Result<Settings, Cause>, PlanError>
+    ensures settings { IfOk result (λ s. SettingsFrom (R.contents shelf.old) file.now s) }
+    ensures ready { IfOk result (λ s. SettingsReady s) }
+    ensures counts { CountsShelf result (R.faults shelf.old) (R.faults shelf.new) (R.failed shelf.new) }
+    ensures unasked { file.now ≡ None → shelf.new ≡ shelf.old }
+    ensures kept { R.contents shelf.new ≡ R.contents shelf.old }
+{
+    let Some(file) = file else {
+        return Ok(Ok(usual_settings(alloc)));
+    };
+    match shelf.read(alloc, file) {
+        Ok(content) => Ok(read_settings_content(alloc, file, content)?),
+        Err(ShelfError::OutOfMemory) => Err(PlanError::OutOfMemory),
+        Err(ShelfError::Failed) => Err(PlanError::ReadFault),
+    }
+}
+
+/// A refusal, or that a process is submitted with these settings.
+fn plan_of_prepared(
+    alloc: Global,
+    settings: &Settings,
+    prepared: Prepared,
+) -> Result<Plan, AllocError>
+    requires ready { SubmitsReady prepared }
+    requires limits { AreLimits settings.now.limits }
+    ensures plan { IfOk result (λ p. p ≡ plan_of_prepared settings.now prepared) }
+    ensures ready { IfOk result (λ p. IsReadyPlan p) }
+{
+    match prepared {
+        Prepared::Refused(cause) => Ok(Plan::Told(refuse(alloc, cause)?)),
+        Prepared::Submits(invocation) => {
+            let submission = submitted_with(alloc, settings, invocation)?;
+            Ok(Plan::On(Deed::Work(Work::Event(Asked::Submit(submission)))))
+        }
+    }
+}
+
+/// What the words of `submit` plan with these settings.
+fn plan_submission<R: Shelf>(
+    alloc: Global,
+    shelf: &mut R,
+    file: &Text,
+    name: &Text,
+    given: &[Given],
+    inputs: &Option<Text>,
+    settings: Result<Settings, Cause>,
+) -> Result<Plan, PlanError>
+    requires ready { SettingsReady settings }
+    ensures plans { IfOk result (λ p. PlansSubmission (R.contents shelf.old) file.now name.now given.now inputs.now settings p) }
+    ensures ready { IfOk result (λ p. IsReadyPlan p) }
+    ensures counts { CountsShelf result (R.faults shelf.old) (R.faults shelf.new) (R.failed shelf.new) }
+    ensures kept { R.contents shelf.new ≡ R.contents shelf.old }
+{
+    match settings {
+        Err(cause) => Ok(Plan::Told(refuse(alloc, cause)?)),
+        Ok(settings) => {
+            let prepared = prepare(alloc, shelf, file, name, given, inputs)?;
+            Ok(plan_of_prepared(alloc, &settings, prepared)?)
+        }
+    }
+}
+
+/// A seed in 32 bits; words give none that is greater.
+fn seed_of(seed: u64) -> u32
+    ensures { result ≡ seed_of seed }
+{
+    u32::try_from(seed).unwrap_or(u32::MAX)
+}
+
+/// How many chains a drill may run at most; words give none that are more.
+fn chains_of(count: u32) -> u32
+    ensures value { result ≡ chains_of count }
+    ensures few { result ≤ 10000 }
+{
+    if count < 10_000 { count } else { 10_000 }
+}
+
+/// What the words of `run` plan with these settings.
+fn plan_of_run(
+    alloc: Global,
+    turns: u64,
+    seed: u64,
+    settings: Result<Settings, Cause>,
+) -> Result<Plan, AllocError>
+    requires ready { SettingsReady settings }
+    ensures plan { IfOk result (λ p. p ≡ plan_of_run turns seed settings) }
+    ensures ready { IfOk result (λ p. IsReadyPlan p) }
+{
+    match settings {
+        Err(cause) => Ok(Plan::Told(refuse(alloc, cause)?)),
+        Ok(settings) => Ok(Plan::On(Deed::Work(Work::Run(RunOptions {
+            turns,
+            seed: seed_of(seed),
+            limits: settings.limits,
+        })))),
+    }
+}
+
+/// What a command asks for. Each file that it names is read and understood wholly here, before the next is read.
+fn plan_command<R: Shelf>(alloc: Global, command: Command, shelf: &mut R) -> Result<Plan, PlanError>
+    ensures plans { IfOk result (λ p. Plans (R.contents shelf.old) (Some command) p) }
+    ensures ready { IfOk result (λ p. IsReadyPlan p) }
+    ensures counts { CountsShelf result (R.faults shelf.old) (R.faults shelf.new) (R.failed shelf.new) }
+    ensures unasked { NamesNoFile (Some command) → shelf.new ≡ shelf.old }
+    ensures kept { R.contents shelf.new ≡ R.contents shelf.old }
+{
+    match command {
+        Command::Check { file } => {
+            let read = read_from(alloc, shelf, &file)?;
+            Ok(Plan::Told(reply_to_check(alloc, read)?))
+        }
+        Command::Dry {
+            file,
+            name,
+            given,
+            inputs,
+            table,
+            fuel,
+        } => {
+            let read = read_from(alloc, shelf, &file)?;
+            let trial = Trial {
+                name,
+                given,
+                inputs,
+                table,
+                fuel,
+            };
+            Ok(Plan::Told(reply_to_dry(alloc, shelf, read, &trial)?))
+        }
+        Command::Submit {
+            file,
+            name,
+            given,
+            inputs,
+            settings,
+        } => {
+            let settings = read_settings_from(alloc, shelf, &settings)?;
+            plan_submission(
+                alloc,
+                shelf,
+                &file,
+                &name,
+                given.as_slice(),
+                &inputs,
+                settings,
+            )
+        }
+        Command::Init => Ok(Plan::On(Deed::Begin(Begin::Init))),
+        Command::Run {
+            turns,
+            seed,
+            settings,
+        } => {
+            let settings = read_settings_from(alloc, shelf, &settings)?;
+            Ok(plan_of_run(alloc, turns, seed, settings)?)
+        }
+        Command::Pause { pid } => Ok(Plan::On(Deed::Work(Work::Event(Asked::Pause(pid))))),
+        Command::Play { pid } => Ok(Plan::On(Deed::Work(Work::Event(Asked::Play(pid))))),
+        Command::Kill { pid } => Ok(Plan::On(Deed::Work(Work::Event(Asked::Kill(pid))))),
+        Command::View(view) => Ok(Plan::On(Deed::Work(Work::View(view)))),
+        Command::Pack => Ok(Plan::On(Deed::Work(Work::Pack))),
+        Command::Drill { seed, count } => Ok(Plan::On(Deed::Begin(Begin::Drill {
+            seed,
+            count: chains_of(count),
+        }))),
+    }
+}
+
+/// What words ask for.
+pub fn plan<R: Shelf>(alloc: Global, words: &Words, shelf: &mut R) -> Result<Plan, PlanError>
+    ensures plans { IfOk result (λ p. Plans (R.contents shelf.old) (command_of words.now) p) }
+    ensures ready { IfOk result (λ p. IsReadyPlan p) }
+    ensures counts { CountsShelf result (R.faults shelf.old) (R.faults shelf.new) (R.failed shelf.new) }
+    ensures unasked { NamesNoFile (command_of words.now) → shelf.new ≡ shelf.old }
+    ensures kept { R.contents shelf.new ≡ R.contents shelf.old }
+{
+    match command_of(alloc, words)? {
+        None => Ok(Plan::Told(refuse(alloc, Cause::Words)?)),
+        Some(command) => plan_command(alloc, command, shelf),
+    }
+}

@@ -1,0 +1,178 @@
+//! The world that the batches of a journal make.
+ghost use Rattle.std.specs.Prelude.{◌≡◌, IfOk, IfErr, OnOk};
+ghost use Rattle.wc_journal.specs.Reading.{is_snapshot_place};
+ghost use Rattle.wc_record.specs.Reading.{whole};
+ghost use Rattle.wc_world.specs.Applied.{applied};
+ghost use Rattle.wc_world.specs.Accepted.{IsAccepted, is_in_order};
+ghost use Rattle.wc_store.specs.Held.{is_plain, suits};
+ghost use Rattle.wc_store.specs.Played.{RefusesReading, RefusesChanges, RefusesPayload, IsPlayed, stop_of, Makes, RefusesBatches, RefusesPlaying};
+
+use crate::error::StoreError;
+use std::alloc::Global;
+use wc_journal::Batches;
+use wc_record::{LastLibrary, RecordError, read_changes};
+use wc_world::{Change, Changes, Played, World, WorldError};
+
+/// Why a payload isn't played.
+enum Unplayed {
+    /// Its reading stops at this byte of it.
+    Unread(usize),
+    /// Its changes don't fit.
+    Unfit,
+    /// Memory ran out.
+    OutOfMemory,
+}
+
+/// Why batches aren't played.
+enum Stop {
+    /// A disk that has them is damaged at this offset.
+    At(u64),
+    /// Memory ran out.
+    OutOfMemory,
+}
+
+/// Whether no change is a count or a kept.
+fn is_plain(changes: &[Change]) -> bool
+    ensures { result ≡ is_plain changes.now }
+{
+    for change in changes {
+        if matches!(change, Change::Count(_) | Change::Kept(_)) {
+            return false;
+        }
+    }
+    true
+}
+
+/// Whether the last change is the only count, and those directly before it are the kepts.
+fn is_in_order(changes: &[Change]) -> bool
+    ensures { result ≡ is_in_order changes.now }
+{
+    let mut kept = false;
+    for (place, change) in changes.iter().enumerate() {
+        match change {
+            Change::Count(_) => return place + 1 == changes.len(),
+            Change::Kept(_) => kept = true,
+            _ => {
+                if kept {
+                    return false;
+                }
+            }
+        }
+    }
+    false
+}
+
+/// Whether changes may be a snapshot, or another batch.
+fn suits(snapshot: bool, changes: &[Change]) -> bool
+    ensures { result ≡ suits snapshot changes.now }
+{
+    if snapshot {
+        is_in_order(changes)
+    } else {
+        is_plain(changes)
+    }
+}
+
+/// Reads a payload.
+fn changes_of(alloc: Global, payload: &[u8], last: &mut LastLibrary) -> Result<Changes, Unplayed>
+    ensures ok { IfOk result (λ changes. whole payload.now (Ok changes)) }
+    ensures refused { IfErr result (RefusesReading payload.now) }
+{
+    match read_changes(alloc, payload, last) {
+        Ok(changes) => Ok(changes),
+        Err(RecordError::OutOfMemory) => Err(Unplayed::OutOfMemory),
+        Err(
+            RecordError::Truncated(at)
+            | RecordError::BadTag(at)
+            | RecordError::NotUtf8(at)
+            | RecordError::Unsorted(at)
+            | RecordError::TooDeep(at)
+            | RecordError::Trailing(at)
+            | RecordError::BadLibrary(at),
+        ) => Err(Unplayed::Unread(at)),
+    }
+}
+
+/// What changes make of what was played, where it accepts them.
+fn take(alloc: Global, played: Played, changes: Changes) -> Result<Played, Unplayed>
+    ensures accepted { OnOk result (IsAccepted played changes) }
+    ensures after { IfOk result (λ after. after ≡ applied played changes) }
+    ensures refused { IfErr result (RefusesChanges played changes) }
+{
+    match Played::play(alloc, played, changes) {
+        Ok(after) => Ok(after),
+        Err(WorldError::OutOfMemory) => Err(Unplayed::OutOfMemory),
+        Err(_) => Err(Unplayed::Unfit),
+    }
+}
+
+/// What one payload makes of what was played.
+fn play_one(
+    alloc: Global,
+    played: Played,
+    snapshot: bool,
+    payload: &[u8],
+    last: &mut LastLibrary,
+) -> Result<Played, Unplayed>
+    ensures ok { IfOk result (λ after. IsPlayed snapshot payload.now played after) }
+    ensures refused { IfErr result (RefusesPayload snapshot payload.now played) }
+{
+    let changes = changes_of(alloc, payload, last)?;
+    if !suits(snapshot, changes.as_slice()) {
+        return Err(Unplayed::Unfit);
+    }
+    take(alloc, played, changes)
+}
+
+/// Whether the batch of this number is a snapshot.
+fn is_snapshot(generation: u64, number: usize) -> bool
+    ensures { result ≡ is_snapshot_place generation number }
+{
+    number == 0 && generation >= 2
+}
+
+/// Where a disk is damaged that has a payload at this offset which isn't played.
+fn stop_of(at: u64, unplayed: Unplayed) -> Stop
+    ensures { result ≡ stop_of at unplayed }
+{
+    match unplayed {
+        Unplayed::Unread(within) => Stop::At(at.saturating_add(within as u64)),
+        Unplayed::Unfit => Stop::At(at),
+        Unplayed::OutOfMemory => Stop::OutOfMemory,
+    }
+}
+
+/// What all batches make of the empty world.
+fn play_all(alloc: Global, generation: u64, batches: &Batches) -> Result<Played, Stop>
+    ensures ok { IfOk result (λ played. Makes generation batches.now.placed played) }
+    ensures refused { IfErr result (RefusesBatches generation batches.now.placed) }
+{
+    let mut played = Played::new(alloc);
+    let mut last = LastLibrary::none();
+    for number in 0..batches.len() {
+        let (at, payload) = batches.payload(number);
+        let snapshot = is_snapshot(generation, number);
+        match play_one(alloc, played, snapshot, payload, &mut last) {
+            Ok(after) => played = after,
+            Err(unplayed) => return Err(stop_of(at, unplayed)),
+        }
+    }
+    Ok(played)
+}
+
+/// The world that the batches of the disk of this number make of the empty one.
+pub fn play(
+    alloc: Global,
+    number: u8,
+    generation: u64,
+    batches: &Batches,
+) -> Result<World, StoreError>
+    ensures ok { IfOk result (λ world. Makes generation batches.now.placed world.world) }
+    ensures refused { IfErr result (RefusesPlaying number batches.now.image generation batches.now.placed) }
+{
+    match play_all(alloc, generation, batches) {
+        Ok(played) => Ok(World::of(alloc, played)?),
+        Err(Stop::At(at)) => Err(StoreError::Damaged(number, at, batches.found_at(at))),
+        Err(Stop::OutOfMemory) => Err(StoreError::OutOfMemory),
+    }
+}

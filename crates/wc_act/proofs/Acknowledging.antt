@@ -25,7 +25,7 @@ use Rattle.wc_plan.specs.declared.status.Cause.TheVariants as cause
 use Rattle.wc_plan.specs.declared.status.Status.{Status}
 use Rattle.wc_plan.specs.declared.status.Status.TheVariants as status
 use Rattle.wc_act.specs.Crashes.{AreDurable, Stands}
-use Rattle.wc_act.specs.Owed.{visit, OwedPlan, IsOwed, NeedDisks}
+use Rattle.wc_act.specs.Owed.{visit, Done, OwedPlan, IsOwed, NeedDisks}
 use Rattle.wc_plan.specs.Plans.{Plans, IsReadyDeed, IsReadyWork}
 use Rattle.wc_plan.specs.Replies.{refuses, OwesStatus, Writes}
 use Rattle.wc_act.specs.Statuses.{IsDoneOrFull}
@@ -34,6 +34,7 @@ use Rattle.wc_act.specs.Drills.{EndsAt, HasEnded, IsToldDrilled, has_drilled}
 use Rattle.wc_act.specs.Rows.{HasHappened, row, work_row}
 use Rattle.wc_act.specs.StoreDeeds.{Images, Hold, is_damaged, is_full}
 use Rattle.wc_plan.proofs.Planned.{plan_ready}
+use Rattle.wc_act.proofs.Visiting.{of_told}
 use Rattle.wc_act.proofs.Happened.{has_happened}
 use Rattle.wc_act.proofs.Exits.{durable_same}
 
@@ -112,7 +113,7 @@ module _ {D : Type 0} (g : disk.Ghosts D) (law : HeldIsReached) (told : Option (
   of_plan (plan.Told t) plans owed =
       absurd (needs t plans (subst (λ (x : Reply). IsDoneOrFull x.status) owed.0 (subst IsDoneOrFull (sym ok) tt)))
   of_plan (plan.On d) plans owed =
-      let done = owed.1 tells tells_too in
+      let done = of_told (visit g one two one_new two_new) (Done (row d) r) owed tells tells_too in
       let a = row_acknowledged law d (plan_ready told (command_of words) d plans) (g.seen one, g.seen two) done.0 (g.seen one_new, g.seen two_new) r done.1 ok done.2 in
       record {
         deed = d;

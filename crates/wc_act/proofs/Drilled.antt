@@ -7,7 +7,8 @@ use Rattle.wc_journal.specs.declared.journal.Journal.{Journal}
 use Rattle.wc_world.specs.World.{World, empty}
 use Rattle.wc_store.specs.Held.{IsHeld, nothing, damage, a_world}
 use Rattle.wc_store.specs.declared.place.Place.TheVariants.{One}
-use Rattle.wc_store.proofs.Opened.{of_seen}
+use Rattle.wc_store.specs.Sights.{OfImages}
+use Rattle.wc_store.specs.Stores.{HoldsAWorld}
 use Rattle.wc_runner.specs.Leaves.{SomeTurns}
 use Rattle.wc_runner.specs.Trips as trips
 use Rattle.wc_runner.specs.declared.runs.RunEnd.TheVariants.{AllEnded, Spent, Resting}
@@ -15,7 +16,7 @@ use Rattle.wc_drill.specs.Draws.{sum_of_squares}
 use Rattle.wc_drill.specs.Texts.{drilled_text}
 use Rattle.wc_drill.specs.Drilled as drilled
 use Rattle.wc_drill.specs.Drilled.{Drills, HasDrilled, outside, turns_of}
-use Rattle.wc_drill.specs.Leaves.{DrilledBeside, HoldsOnOne, HoldsNow, IsBegun, IsOfDrill, RefusedLeaves, AreDurable as AreNow}
+use Rattle.wc_drill.specs.Leaves.{DrilledBeside, IsBegun, IsFilled, IsOfDrill, RefusedLeaves, AreDurable as AreNow}
 use Rattle.wc_drill.specs.Refusals.{RefusesDrill}
 use Rattle.wc_drill.specs.Sound.{DrillsAreSound}
 use Rattle.wc_drill.specs.declared.error.DrillError.{DrillError}
@@ -28,15 +29,16 @@ use Rattle.wc_plan.specs.declared.reply.Reply.{Reply}
 use Rattle.wc_plan.specs.declared.status.Cause.TheVariants as cause
 use Rattle.wc_plan.specs.declared.status.Status.TheVariants as status
 use Rattle.wc_act.specs.Crashes.{AreDurable, ComesOfNothing, Kept, LeavesKept}
-use Rattle.wc_act.specs.Drills.{HasEnded, FillsUp, IsDrilled, broken_reply, stopped}
-use Rattle.wc_act.specs.Owed.{visit, OwedDeed}
+use Rattle.wc_act.specs.Drills.{HasEnded, FillsUp, broken_reply, stopped}
+use Rattle.wc_act.specs.Owed.{visit, Done, OwedDeed}
 use Rattle.wc_plan.specs.Replies.{refuses, prints}
 use Rattle.wc_act.specs.Statuses.{IsDoneOrFull}
-use Rattle.wc_act.specs.Rows.{Stays}
-use Rattle.wc_act.specs.StoreDeeds.{is_damaged, is_full}
+use Rattle.wc_act.specs.Rows.{Stays, row}
+use Rattle.wc_act.specs.StoreDeeds.{Images, is_damaged, is_full}
 use Rattle.wc_act.specs.Undone.{EndsWith, IsBeforeTurns, LeavesUnwritten}
 use Rattle.wc_act.proofs.Doing.{some_is}
 use Rattle.wc_act.proofs.Unwriting.{images_again}
+use Rattle.wc_act.proofs.Visiting.{are_read, visit_as}
 
 -- ---- what is begun
 
@@ -65,89 +67,70 @@ comes_of_drill law seed count one two a b h = record {
 -- ---- what is told
 
 module _ {D : Type 0} (g : disk.Ghosts D) (seed count : ℕ) (one two one_new two_new : D) where
-  abbrev Told : Type 0
-  Told = IsTrue (g.tells one) × IsTrue (g.tells two)
-
   abbrev Owes : Reply → Type 0
   Owes r = OwedDeed (visit g one two one_new two_new) (deed.Begin (begin.Drill seed count)) r
 
-  module _ (seen_two : IsTrue (g.tells one) → IsTrue (g.tells two) → g.seen two_new ≡ g.seen two) where
-    -- it came to its end
-    drilled_at : (w : World) (journal : Journal) (r : Reply) → IsTrue (g.tells one) → IsTrue (g.tells two) → HoldsOnOne g one_new two_new w journal
-        → HasEnded seed count w r ⊎ FillsUp seed count w journal r → IsDrilled seed count (g.seen one, g.seen two) (g.seen one_new, g.seen two_new) r
-    drilled_at w journal r told told_too holds ends = record {
-      world = w;
-      held = holds.held;
-      rest = seen_two told told_too;
-      journal = journal;
-      kept = record { place = One; batches = holds.batches; chooses = holds.chooses; end = holds.end };
-      place = refl;
-      version = holds.version;
-      generation = holds.generation;
-      ends = ends;
-    }
+  -- it came to its end, or found the store full
+  filled : (w : World) (journal : Journal) (r : Reply) → IsFilled g one two one_new two_new w journal → HasEnded seed count w r ⊎ FillsUp seed count w journal r → Owes r
+  filled w journal r fills ends = record {
+    before = (fills.first, fills.second);
+    after = (fills.made, fills.second);
+    told = λ told told_too.
+        let was = fills.told told told_too in
+        let is = fills.told_new told told_too in
+        ((λ i. (was.0 i, was.1 i)), (λ i. (is.0 i, is.1 i)));
+    are = (
+      nothing,
+      fills.bare,
+      record {
+        world = w;
+        held = fills.holds.held;
+        rest = refl;
+        journal = journal;
+        kept = record { place = One; batches = fills.holds.batches; chooses = fills.holds.chooses; end = fills.holds.end };
+        place = refl;
+        version = fills.holds.version;
+        generation = fills.holds.generation;
+        ends = ends;
+      },
+    );
+  }
 
-    ended_owed : (none : IsTrue (g.tells one) → IsTrue (g.tells two) → IsHeld (g.seen one) (g.seen two) nothing) (w : World) (r : Reply) → HasEnded seed count w r
-        → (IsTrue (g.tells one) → IsTrue (g.tells two) → HoldsNow g one_new two_new w) → Owes r
-    ended_owed none w r ended holds = (
-      inl (w, inl ended),
-      λ told told_too.
-          let h = holds told told_too in
-          (nothing, none told told_too, drilled_at w h.0 r told told_too h.1 (inl ended)),
-    )
+  pub has_drilled : (batches : ℕ) (r : Reply)
+      → ((w : World) × HasDrilled seed count w × (batches ≡ w.batches) × ((journal : Journal) × IsFilled g one two one_new two_new w journal))
+      → r ≡ prints (drilled_text count (sum_of_squares count seed) batches) → Owes r
+  has_drilled batches r done reply =
+      filled done.0 done.3.0 r done.3.1
+      (inl (record { end = AllEnded; ends = done.1; reply = reply ∙ ap (λ (n : ℕ). prints (drilled_text count (sum_of_squares count seed) n)) done.2 }))
 
-    pub has_drilled : (batches : ℕ) (r : Reply) → (IsTrue (g.tells one) → IsTrue (g.tells two) → IsHeld (g.seen one) (g.seen two) nothing)
-        → ((w : World) × HasDrilled seed count w × (batches ≡ w.batches) × (IsTrue (g.tells one) → IsTrue (g.tells two) → HoldsNow g one_new two_new w))
-        → r ≡ prints (drilled_text count (sum_of_squares count seed) batches) → Owes r
-    has_drilled batches r none done reply =
-        ended_owed none done.0 r
-        (record { end = AllEnded; ends = done.1; reply = reply ∙ ap (λ (n : ℕ). prints (drilled_text count (sum_of_squares count seed) n)) done.2 })
-        done.3
+  -- or wasn't begun
+  unbegun : (r : Reply) (P : List ℕ → List ℕ → Type 0) → OfImages g one two P
+      → (IsTrue (g.tells one) → IsTrue (g.tells two) → (g.seen one_new ≡ g.seen one) × (g.seen two_new ≡ g.seen two))
+      → ((before after : Images) → (after ≡ before) × P before.0 before.1 → Done (row (deed.Begin (begin.Drill seed count))) r before after) → Owes r
+  unbegun r P images same done =
+      visit_as (visit g one two one_new two_new) (λ before after. (after ≡ before) × P before.0 before.1) (Done (row (deed.Begin (begin.Drill seed count))) r) done
+      (are_read g one two one_new two_new P images same)
 
-    -- or was broken off
-    pub refused_drill : {E : Type 0} (e : DrillError) (result : Result Reply E) → RefusesDrill g Told seed count one two one_new two_new e
-        → (IsBegun {T = ℕ} (Err e) → IsTrue (g.tells one) → IsTrue (g.tells two) → IsHeld (g.seen one) (g.seen two) nothing)
-        → (IsTrue (g.tells one) → IsTrue (g.tells two) → RefusedLeaves {T = ℕ} g (Err e) one two one_new two_new)
-        → IfOk result (λ r. broken_reply e ≡ Some r) → IfOk result Owes
-    refused_drill e (Err x) refused none leaves reply = reply
-    refused_drill error.DiskFault (Ok r) refused none leaves reply = absurd (cc)
-    refused_drill (error.Damaged disk at found) (Ok r) refused none leaves reply =
-        let is : r ≡ is_damaged disk at found = some_is r (is_damaged disk at found) (sym reply) in (
-          inr (inr ((refused.first, refused.second), disk, at, found, refused.are, is)),
-          λ told told_too.
-              let held : IsHeld (g.seen one) (g.seen two) (damage disk at found) = of_seen g one two (λ a b. IsHeld a b (damage disk at found)) refused told told_too in
-              (damage disk at found, held, ((λ i. ((leaves told told_too).1 i, seen_two told told_too i)), is)),
-        )
-    refused_drill (error.Full what many limit) (Ok r) refused none leaves reply =
-        let fills : FillsUp seed count refused.world refused.journal r = record {
-          drills = refused.drills;
-          what = what;
-          many = many;
-          limit = limit;
-          refused = refused.refused;
-          reply = some_is r (is_full what many limit) (sym reply);
-        } in (
-          inl (refused.world, inr (refused.journal, fills)),
-          λ told told_too. (
-            nothing,
-            none tt told told_too,
-            drilled_at refused.world refused.journal r told told_too (refused.holds (told, told_too)) (inr fills),
-          ),
-        )
-    refused_drill error.AlreadyThere (Ok r) refused none leaves reply =
-        let is : r ≡ refuses cause.StoreExists = some_is r (refuses cause.StoreExists) (sym reply) in (
-          inr (inl is),
-          λ told told_too.
-              let h = refused (told, told_too) in
-              (a_world h.0, h.1, ((λ i. ((leaves told told_too).1 i, seen_two told told_too i)), is)),
-        )
-    refused_drill error.Spent (Ok r) refused none leaves reply =
-        ended_owed (none tt) refused.0 r (record { end = Spent; ends = refused.1; reply = some_is r (stopped status.Spent) (sym reply) })
-        (λ told told_too. refused.2 (told, told_too))
-    refused_drill error.Resting (Ok r) refused none leaves reply =
-        ended_owed (none tt) refused.0 r (record { end = Resting; ends = refused.1; reply = some_is r (stopped status.Resting) (sym reply) })
-        (λ told told_too. refused.2 (told, told_too))
-    refused_drill error.OutOfMemory (Ok r) refused none leaves reply = absurd (cc)
+  pub refused_drill : {E : Type 0} (e : DrillError) (result : Result Reply E) → RefusesDrill g seed count one two one_new two_new e
+      → (IsTrue (g.tells one) → IsTrue (g.tells two) → g.seen two_new ≡ g.seen two)
+      → (IsTrue (g.tells one) → IsTrue (g.tells two) → RefusedLeaves {T = ℕ} g (Err e) one two one_new two_new)
+      → IfOk result (λ r. broken_reply e ≡ Some r) → IfOk result Owes
+  refused_drill e (Err x) refused seen_two leaves reply = reply
+  refused_drill error.DiskFault (Ok r) refused seen_two leaves reply = absurd (cc)
+  refused_drill (error.Damaged number at found) (Ok r) refused seen_two leaves reply =
+      unbegun r (λ a b. IsHeld a b (damage number at found)) refused (λ told told_too. ((leaves told told_too).1, seen_two told told_too))
+      (λ before after h. (damage number at found, h.1, (h.0, sym (some_is (is_damaged number at found) r reply))))
+  refused_drill (error.Full what many limit) (Ok r) refused seen_two leaves reply =
+      filled refused.world refused.journal r refused.holds
+      (inr (record { drills = refused.drills; what = what; many = many; limit = limit; refused = refused.refused; reply = sym (some_is (is_full what many limit) r reply) }))
+  refused_drill error.AlreadyThere (Ok r) refused seen_two leaves reply =
+      unbegun r HoldsAWorld refused (λ told told_too. ((leaves told told_too).1, seen_two told told_too))
+      (λ before after h. (a_world h.1.0, h.1.1, (h.0, sym (some_is (refuses cause.StoreExists) r reply))))
+  refused_drill error.Spent (Ok r) refused seen_two leaves reply =
+      filled refused.0 refused.2.0 r refused.2.1 (inl (record { end = Spent; ends = refused.1; reply = sym (some_is (stopped status.Spent) r reply) }))
+  refused_drill error.Resting (Ok r) refused seen_two leaves reply =
+      filled refused.0 refused.2.0 r refused.2.1 (inl (record { end = Resting; ends = refused.1; reply = sym (some_is (stopped status.Resting) r reply) }))
+  refused_drill error.OutOfMemory (Ok r) refused seen_two leaves reply = absurd (cc)
 
   -- ---- what stands
 

@@ -1,5 +1,5 @@
 -- What an event makes of a store.
-use Rattle.std.proofs.Common.{◌≡◌, inl, inr, ◌++◌, ◌≤◌, ◌+◌, ℕ, suc, true, false, List, [], ◌∷◌, length, map, Result, Ok, Err, Option, Some, None, IfOk, IsTrue, refl, sym, ap, subst, ◌∙◌, arith, lit≤}
+use Rattle.std.proofs.Common.{◌≡◌, ◌⊎◌, inl, inr, ◌++◌, ◌≤◌, ◌+◌, ℕ, suc, true, false, List, [], ◌∷◌, length, map, Result, Ok, Err, Option, Some, None, IfOk, IsTrue, refl, sym, ap, subst, ◌∙◌, arith, lit≤}
 use Rattle.std.specs.Prelude.{◌≢◌, ◌==◌, All, IsSome}
 use Rattle.std.specs.List.{AllByRecursion}
 use Rattle.std.proofs.lemmas.Bool.{eq-eqb, eqb-true}
@@ -29,8 +29,8 @@ use Rattle.wc_store.specs.Refusals.{byte_limit, committed_bytes, RefusesCommit, 
 use Rattle.wc_store.specs.declared.error.StoreError.{StoreError}
 use Rattle.wc_store.specs.declared.error.StoreError.TheVariants as error
 use Rattle.wc_store.specs.declared.store.Store.{Store}
-use Rattle.wc_store.specs.Held.{is_plain, IsHeld, a_world}
-use Rattle.wc_store.specs.Stores.{StandsFor, other}
+use Rattle.wc_store.specs.Held.{is_plain, a_world}
+use Rattle.wc_store.specs.Stores.{StandsFor, HasImages}
 use Rattle.wc_machine.specs.Machine.{Event, pause, play, kill, submits as submits_by}
 use Rattle.wc_core.specs.Refusals.{RefusesMark}
 use Rattle.wc_machine.proofs.Submitted.{data_node, new_nodes, submission_gives}
@@ -44,13 +44,16 @@ use Rattle.wc_plan.specs.declared.status.Cause.TheVariants as cause
 use Rattle.wc_plan.specs.declared.submission.Submission.{Submission}
 use Rattle.wc_act.specs.Crashes.{AreDurable, Keeps}
 use Rattle.wc_act.specs.Entries.{IsStorable}
-use Rattle.wc_act.specs.Events.{Changes, RefusesAsked, IsRefusedFor, IsMadeBy, TellsAlone, Enters, IsLine, line_of, limits_of, process_of}
+use Rattle.wc_act.specs.Events.{Changes, RefusesAsked, IsRefusedFor, IsMadeBy, OverlongIn, TellsAlone, TellsFull, IsLine, line_of, limits_of, process_of}
 use Rattle.wc_plan.specs.Replies.{prints, refuses}
-use Rattle.wc_act.specs.StoreDeeds.{Hold, greatest_limits, is_full}
+use Rattle.wc_act.specs.StoreDeeds.{Images, Hold, greatest_limits, is_full}
 use Rattle.wc_act.specs.Opened.{IsTold, process_reply, store_reply, turn_reply}
+use Rattle.wc_act.specs.Owed.{visit, DoneOn, OfVisit}
+use Rattle.wc_act.specs.Rows.{event_row}
 use Rattle.wc_plan.specs.Plans.{IsReadyAsked}
 use Rattle.wc_plan.specs.Submits.{IsReady, IsWithinLimits}
-use Rattle.wc_act.proofs.Doing.{journal_held, goes_on_journal, some_is}
+use Rattle.wc_act.proofs.Doing.{some_is}
+use Rattle.wc_act.proofs.Visiting.{AreOfStores, AreStill, are_still, goes_on_journal, journal_of_images, visit_as}
 
 -- ---- limits
 
@@ -215,66 +218,75 @@ idle_alone a w cs line text r leads none is same reply = inl (subst (Changes w a
 
 -- ---- what was done
 
-module _ {D : Type 0} (g : disk.Ghosts D) where
-  pub has_entered : (a : Asked) (store new : Store) (cs : List Change) (one two one_new two_new : D) (r : Reply) → IsStorable a store.world.world cs
-      → StandsFor g new one_new two_new → new.world.world ≡ applied store.world.world cs
+module _ (a : Asked) (store : Store) where
+  pub has_entered : (new : Store) (cs : List Change) (r : Reply) → IsStorable a store.world.world cs → new.world.world ≡ applied store.world.world cs
       → (length (applied store.world.world cs).nodes ≤ (limits_of a).max_nodes) × (committed_bytes store.journal cs ≤ byte_limit store.journal.version (limits_of a).max_bytes)
       → new.journal.end + 1 ≡ committed_bytes store.journal cs
       → (new.place ≡ store.place) × (new.journal.generation ≡ store.journal.generation) × (new.journal.version ≡ store.journal.version)
-      → StandsFor g store one two → other store.place one_new two_new ≡ other store.place one two → r ≡ prints (line_of a store.world.world)
-      → Enters a (g.seen one, g.seen two) store.world.world (g.seen one_new, g.seen two_new) r
-  has_entered a store new cs one two one_new two_new r storable stands same fits longer place before untouched reply = inl (record {
-    changes = cs;
-    submits = storable.leads;
-    some = storable.some;
-    held = subst (λ (w : World). Hold (g.seen one_new, g.seen two_new) (a_world w)) same stands.held;
-    fits = record {
-      nodes = fits.0;
-      journal = new.journal;
-      kept = journal_held g new one_new two_new stands;
-      bytes = subst (λ (n : ℕ). new.journal.end + 1 ≤ byte_limit n (limits_of a).max_bytes) (sym place.2)
-          (subst (λ (n : ℕ). n ≤ byte_limit store.journal.version (limits_of a).max_bytes) (sym longer) fits.1);
-    };
-    journal = store.journal;
-    next = new.journal;
-    goes = goes_on_journal g store new one two one_new two_new before stands place untouched;
-    longer = longer;
-    reply = reply;
-  })
+      → r ≡ prints (line_of a store.world.world)
+      → (before after : Images) → AreOfStores store new before after → DoneOn (event_row a) store.world.world r before after
+  has_entered new cs r storable same fits longer place reply before after are = (
+    are.was.held,
+    inl (record {
+      changes = cs;
+      submits = storable.leads;
+      some = storable.some;
+      held = subst (λ (w : World). Hold after (a_world w)) same are.is.held;
+      fits = record {
+        nodes = fits.0;
+        journal = new.journal;
+        kept = journal_of_images new after are.is;
+        bytes = subst (λ (n : ℕ). new.journal.end + 1 ≤ byte_limit n (limits_of a).max_bytes) (sym place.2)
+            (subst (λ (n : ℕ). n ≤ byte_limit store.journal.version (limits_of a).max_bytes) (sym longer) fits.1);
+      };
+      journal = store.journal;
+      next = new.journal;
+      goes = goes_on_journal store new before after are place;
+      longer = longer;
+      reply = reply;
+    }),
+  )
 
   -- nothing is stored
-  pub stays_alone : (a : Asked) (store : Store) (one two : D) (r : Reply) → StandsFor g store one two → TellsAlone a store.world.world r
-      → Enters a (g.seen one, g.seen two) store.world.world (g.seen one, g.seen two) r
-  stays_alone a store one two r stands tells = inr (record { tells = inl tells; held = stands.held; still = refl })
+  unstored : (r : Reply) (before after : Images) → AreStill store before after → TellsAlone a store.world.world r ⊎ TellsFull (OverlongIn a before store.world.world) r
+      → DoneOn (event_row a) store.world.world r before after
+  unstored r before after (same, is) tells =
+      (is.held, inr (record { tells = tells; held = subst (λ (images : Images). Hold images (a_world store.world.world)) (sym same) is.held; still = same }))
 
-  overlong : (a : Asked) (store : Store) (cs : List Change) (what : What) (count limit : ℕ) (one two one_new two_new : D) (r : Reply) → StandsFor g store one two
-      → IsStorable a store.world.world cs
-      → RefusesCommit store.journal (limits_of a) store.world.world cs (error.Full what count limit) → one_new ≡ one → two_new ≡ two → is_full what count limit ≡ r → Enters a (g.seen one, g.seen two) store.world.world (g.seen one_new, g.seen two_new) r
-  overlong a store cs what count limit one two one_new two_new r stands storable refused same same_too reply = inr (record {
-    tells = inr (
-      what,
-      count,
-      limit,
-      (store.journal, journal_held g store one two stands, record { changes = cs; submits = storable.leads; some = storable.some; room = storable.room; refused = refused }),
-      sym reply,
-    );
-    held = subst (λ (x : D). IsHeld (g.seen one_new) (g.seen x) (a_world store.world.world)) (sym same_too)
-        (subst (λ (x : D). IsHeld (g.seen x) (g.seen two) (a_world store.world.world)) (sym same) stands.held);
-    still = λ i. (g.seen (same i), g.seen (same_too i));
-  })
+  pub stays_alone : (r : Reply) → TellsAlone a store.world.world r → (before after : Images) → AreStill store before after → DoneOn (event_row a) store.world.world r before after
+  stays_alone r tells before after still = unstored r before after still (inl tells)
 
+  overlong : (cs : List Change) (what : What) (count limit : ℕ) (r : Reply) → IsStorable a store.world.world cs
+      → RefusesCommit store.journal (limits_of a) store.world.world cs (error.Full what count limit) → is_full what count limit ≡ r
+      → (before after : Images) → AreStill store before after → DoneOn (event_row a) store.world.world r before after
+  overlong cs what count limit r storable refused reply before after still =
+      unstored r before after still (inr (
+        what,
+        count,
+        limit,
+        (
+          store.journal,
+          journal_of_images store before still.1,
+          record { changes = cs; submits = storable.leads; some = storable.some; room = storable.room; refused = refused },
+        ),
+        sym reply,
+      ))
+
+module _ {D : Type 0} (g : disk.Ghosts D) where
   pub refused_entry : {E : Type 0} (a : Asked) (store : Store) (cs : List Change) (e : StoreError) (one two one_new two_new : D) (result : Result Reply E)
-      → (IsTrue (g.tells one) → IsTrue (g.tells two) → StandsFor g store one two) → IsStorable a store.world.world cs
+      → (IsTrue (g.tells one) → IsTrue (g.tells two) → StandsFor g store one two) → HasImages store → IsStorable a store.world.world cs
       → RefusesCommit store.journal (limits_of a) store.world.world cs e → IsUnchanged {T = Unit {0}} (Err e) one one_new → IsUnchanged {T = Unit {0}} (Err e) two two_new
       → IfOk result (λ r. store_reply e ≡ Some r)
-      → IfOk result (λ r. IsTrue (g.tells one) → IsTrue (g.tells two) → Enters a (g.seen one, g.seen two) store.world.world (g.seen one_new, g.seen two_new) r)
-  refused_entry a store cs e one two one_new two_new (Err x) stands storable refused same same_too reply = reply
-  refused_entry a store cs error.DiskFault one two one_new two_new (Ok r) stands storable refused same same_too reply = absurd (cc)
-  refused_entry a store cs (error.Damaged disk at found) one two one_new two_new (Ok r) stands storable refused same same_too reply = absurd refused
-  refused_entry a store cs (error.Full what count limit) one two one_new two_new (Ok r) stands storable refused same same_too reply =
-      λ told told_too. overlong a store cs what count limit one two one_new two_new r (stands told told_too) storable refused same same_too (some_is (is_full what count limit) r reply)
-  refused_entry a store cs error.AlreadyThere one two one_new two_new (Ok r) stands storable refused same same_too reply = absurd refused
-  refused_entry a store cs error.OutOfMemory one two one_new two_new (Ok r) stands storable refused same same_too reply = absurd (cc)
+      → IfOk result (λ r. OfVisit (visit g one two one_new two_new) (DoneOn (event_row a) store.world.world r))
+  refused_entry a store cs e one two one_new two_new (Err x) stands images storable refused same same_too reply = reply
+  refused_entry a store cs error.DiskFault one two one_new two_new (Ok r) stands images storable refused same same_too reply = absurd (cc)
+  refused_entry a store cs (error.Damaged disk at found) one two one_new two_new (Ok r) stands images storable refused same same_too reply = absurd refused
+  refused_entry a store cs (error.Full what count limit) one two one_new two_new (Ok r) stands images storable refused same same_too reply =
+      visit_as (visit g one two one_new two_new) (AreStill store) (DoneOn (event_row a) store.world.world r)
+      (overlong a store cs what count limit r storable refused (some_is (is_full what count limit) r reply))
+      (are_still g one two one_new two_new store stands images same same_too)
+  refused_entry a store cs error.AlreadyThere one two one_new two_new (Ok r) stands images storable refused same same_too reply = absurd refused
+  refused_entry a store cs error.OutOfMemory one two one_new two_new (Ok r) stands images storable refused same same_too reply = absurd (cc)
 
   -- a store that isn't as a disk failed stands for its disks
   pub refused_durable : {E : Type 0} (T : Type 0) (e : StoreError) (new : Store) (A B : Type 0) (one_new two_new : D) (result : Result Reply E) → IfOk result (λ r. store_reply e ≡ Some r)

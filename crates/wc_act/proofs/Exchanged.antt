@@ -35,7 +35,7 @@ use Rattle.wc_plan.specs.Replies.{OwesStatus}
 use Rattle.wc_act.specs.Statuses.{IsDoneOrFull}
 use Rattle.wc_act.specs.Runs.{status_of, has_run}
 use Rattle.wc_act.specs.StoreDeeds.{Images, is_full}
-use Rattle.wc_act.proofs.Doing.{journal_held}
+use Rattle.wc_act.proofs.Visiting.{journal_of_images, seen_images}
 use Rattle.wc_act.proofs.Idle.{plan_idle}
 
 -- ---- how often the transport is asked
@@ -176,7 +176,7 @@ module _ {D : Type 0} (g : disk.Ghosts D) (e : Exchange) (o : RunOptions) (w : W
       let fills : FillsOutside e o w new.world.world (g.seen one, g.seen two) what count limit = record {
         fewer = fewer;
         journal = new.journal;
-        kept = journal_held g new one two stands;
+        kept = journal_of_images new (g.seen one, g.seen two) (seen_images g new one two stands);
         broken = broken;
         pid = refused.pid;
         refused = refused.refused;

@@ -1,3 +1,4 @@
+pub mod Visiting
 pub mod Doing
 pub mod Asking
 pub mod Entries

@@ -17,6 +17,7 @@ use Rattle.wc_plan.proofs.Once.{one_plan}
 use Rattle.wc_act.specs.Owed.{Visit, Done, OwedPlan, IsCertain, IsOwed}
 use Rattle.wc_act.specs.Rows.{row, work_row}
 use Rattle.wc_act.specs.StoreDeeds.{Images}
+use Rattle.wc_act.proofs.Visiting.{of_told}
 use Rattle.wc_act.proofs.OnceStored.{one_init, one_on, one_pack, one_entry}
 use Rattle.wc_act.proofs.Viewing.{one_view}
 
@@ -27,7 +28,7 @@ work_once law (work.Event a) c before after r s world p q = one_entry law a befo
 work_once law (work.Run o) c before after r s world p q = absurd c
 work_once law work.Pack c before after r s world p q = one_pack before after r s world p q
 
-row_once : HeldIsOne → (d : Deed) → (row d).certain → (before after : Images) (r s : Reply) → Done (row d) before after r → Done (row d) before after s → r ≡ s
+row_once : HeldIsOne → (d : Deed) → (row d).certain → (before after : Images) (r s : Reply) → Done (row d) r before after → Done (row d) s before after → r ≡ s
 row_once law (deed.Begin begin.Init) c before after r s p q = one_init law before after r s p q
 row_once law (deed.Begin (begin.Drill seed count)) c before after r s p q = absurd c
 row_once law (deed.Work w) c before after r s p q = one_on law (work_row w).does before after r s (work_once law w c before after r s) p q
@@ -35,7 +36,8 @@ row_once law (deed.Work w) c before after r s p q = one_on law (work_row w).does
 one_owed : HeldIsOne → (v : Visit) (p : Plan) (r s : Reply) → ((d : Deed) → p ≡ plan.On d → (row d).certain × IsTrue v.tells_one × IsTrue v.tells_two)
     → OwedPlan v p r → OwedPlan v p s → r ≡ s
 one_owed law v (plan.Told t) r s of p q = p.0 ∙ sym q.0
-one_owed law v (plan.On d) r s of p q = let c = of d refl in row_once law d c.0 v.before v.after r s (p.1 c.1 c.2) (q.1 c.1 c.2)
+one_owed law v (plan.On d) r s of p q =
+    let c = of d refl in row_once law d c.0 v.before v.after r s (of_told v (Done (row d) r) p c.1 c.2) (of_told v (Done (row d) s) q c.1 c.2)
 
 pub owed_once : HeldIsOne → (told : Option (List ℕ → Option (List ℕ))) (v : Visit) (words : List (List ℕ)) (r s : Reply) → IsCertain told v.tells_one v.tells_two words
     → IsOwed told v words r → IsOwed told v words s → r ≡ s

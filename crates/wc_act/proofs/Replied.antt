@@ -16,7 +16,7 @@ use Rattle.wc_act.proofs.Shaping.{row_replied}
 
 plan_replied : (told : Option (List ℕ → Option (List ℕ))) (command : Option Command) (v : Visit) (p : Plan) (r : Reply) → Plans told command p → OwedPlan v p r → IsReplied r.status
 plan_replied told command v (plan.Told t) r plans owed = subst (λ (x : Reply). IsReplied x.status) (sym owed.0) (is_replied t.status (told_replied told command t plans))
-plan_replied told command v (plan.On d) r plans owed = row_replied d r owed.0
+plan_replied told command v (plan.On d) r plans owed = row_replied d r owed.before owed.after owed.are
 
 -- a reply that is owed has a status of a reply
 pub owed_replied : (told : Option (List ℕ → Option (List ℕ))) (v : Visit) (words : List (List ℕ)) (r : Reply) → IsOwed told v words r → IsReplied r.status

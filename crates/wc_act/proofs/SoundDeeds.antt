@@ -1,6 +1,5 @@
 -- What deeds make of sound worlds, and what is told of them.
-use Rattle.std.proofs.Common.{◌≡◌, ◌≤◌, ◌+◌, inl, inr, ⊎_elim, ℕ, length, Option, Some, None, true, refl, sym, ap, subst, ◌∙◌, arith}
-use Rattle.std.specs.Prelude.{◌≢◌}
+use Rattle.std.proofs.Common.{◌≡◌, ◌≤◌, ◌+◌, inl, inr, ⊎_elim, length, Option, Some, None, true, sym, subst, arith}
 use Rattle.wc_value.specs.declared.process.Tree.{Tree}
 use Rattle.wc_report.specs.Trees.{tree_text}
 use Rattle.wc_state.specs.declared.record.ProcessRecord.{ProcessRecord}

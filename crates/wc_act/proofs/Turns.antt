@@ -1,11 +1,10 @@
 -- What turns make of a store.
 use Rattle.std.proofs.Common.{◌≡◌, ◌⊎◌, inl, inr, ℕ, subst}
-use Rattle.wc_disk.specs.declared.disk.Disk as disk
 use Rattle.wc_state.specs.declared.record.Limits.{Limits}
 use Rattle.wc_state.specs.declared.record.What.{What}
 use Rattle.wc_world.specs.World.{World}
 use Rattle.wc_store.specs.declared.store.Store.{Store}
-use Rattle.wc_store.specs.Stores.{StandsFor}
+use Rattle.wc_store.specs.Stores.{IsOfImages}
 use Rattle.wc_runner.specs.declared.error.RunError.TheVariants.{Full}
 use Rattle.wc_runner.specs.declared.runs.RunEnd.{RunEnd}
 use Rattle.wc_runner.specs.declared.runs.RunEnd.TheVariants.{AllEnded, Spent, Resting}
@@ -15,11 +14,13 @@ use Rattle.wc_runner.specs.Runs.{TakesTurns, TakesFewer, FitsAfter}
 use Rattle.wc_plan.specs.declared.deed.RunOptions.{RunOptions}
 use Rattle.wc_plan.specs.declared.reply.Reply.{Reply}
 use Rattle.wc_plan.specs.Replies.{IsReplied}
-use Rattle.wc_act.specs.Runs.{status_of, widest, has_run, EndsSo, FillsAt, Runs, TakesFewer as FewerTaken}
+use Rattle.wc_act.specs.Runs.{status_of, widest, FillsAt, HasRun, TakesFewer as FewerTaken}
+use Rattle.wc_act.specs.Owed.{DoneOn}
+use Rattle.wc_act.specs.Rows.{run_row}
 use Rattle.wc_act.specs.Undone.{IsBeforeTurns}
-use Rattle.wc_act.proofs.Doing.{journal_held}
+use Rattle.wc_act.proofs.Visiting.{AreOfStores, goes_on_journal, journal_of_images}
 use Rattle.wc_act.proofs.Widening.{refuses_step, takes_fewer}
-use Rattle.wc_act.specs.StoreDeeds.{GoesOn, Fits, is_full}
+use Rattle.wc_act.specs.StoreDeeds.{Images, Fits, is_full}
 
 pub run_replied : (e : RunEnd) → IsReplied (status_of e)
 run_replied AllEnded = tt
@@ -32,45 +33,31 @@ run_written AllEnded h = h
 run_written Spent h = h
 run_written Resting h = h
 
-module _ {D : Type 0} (g : disk.Ghosts D) where
-  -- a store within the limits
-  within : (limits : Limits) (w : World) (new : Store) (one two : D) → StandsFor g new one two → FitsAfter limits w new
-      → (new.world.world ≡ w) ⊎ Fits limits (g.seen one, g.seen two) new.world.world
-  within limits w new one two stands (inl same) = inl same
-  within limits w new one two stands (inr fits) =
-      inr (record { nodes = fits.0; journal = new.journal; kept = journal_held g new one two stands; bytes = fits.1 })
+-- a store within the limits
+within : (limits : Limits) (w : World) (new : Store) (after : Images) → IsOfImages new after.0 after.1 → FitsAfter limits w new
+    → (new.world.world ≡ w) ⊎ Fits limits after new.world.world
+within limits w new after is (inl same) = inl same
+within limits w new after is (inr fits) = inr (record { nodes = fits.0; journal = new.journal; kept = journal_of_images new after is; bytes = fits.1 })
 
-  module _ (p : RunOptions) (store new : Store) (one two one_new two_new : D) (r : Reply) where
-    -- a run came to its end
-    pub has_come : (end : RunEnd) → StandsFor g new one_new two_new → TakesTurns (widest p.limits) p.turns store.world.world new.world.world
-        → FitsAfter p.limits store.world.world new → GoesOn (g.seen one, g.seen two) (g.seen one_new, g.seen two_new) store.journal new.journal
-        → EndsSo p.limits p.turns store.world.world new.world.world end → r ≡ has_run end store.world.world new.world.world
-        → Runs p (g.seen one, g.seen two) store.world.world (g.seen one_new, g.seen two_new) r
-    has_come end stands takes fits goes ends reply = record {
-      later = new.world.world;
-      takes = takes;
-      held = stands.held;
-      fits = within p.limits store.world.world new one_new two_new stands fits;
-      journal = store.journal;
-      next = new.journal;
-      goes = goes;
-      ends = inl (record { end = end; ends = ends; reply = reply });
-    }
-
-    -- or found the store full
-    pub has_filled : StandsFor g new one_new two_new → TakesTurns (widest p.limits) p.turns store.world.world new.world.world
-        → FitsAfter p.limits store.world.world new → GoesOn (g.seen one, g.seen two) (g.seen one_new, g.seen two_new) store.journal new.journal
-        → FillsAt p store.world.world new.world.world new.journal r → Runs p (g.seen one, g.seen two) store.world.world (g.seen one_new, g.seen two_new) r
-    has_filled stands takes fits goes full = record {
-      later = new.world.world;
-      takes = takes;
-      held = stands.held;
-      fits = within p.limits store.world.world new one_new two_new stands fits;
-      journal = store.journal;
-      next = new.journal;
-      goes = goes;
-      ends = inr full;
-    }
+-- a run came to its end, or found the store full
+pub has_come : (p : RunOptions) (store new : Store) (r : Reply) → TakesTurns (widest p.limits) p.turns store.world.world new.world.world
+    → FitsAfter p.limits store.world.world new
+    → (new.place ≡ store.place) × (new.journal.generation ≡ store.journal.generation) × (new.journal.version ≡ store.journal.version)
+    → HasRun p store.world.world new.world.world r ⊎ FillsAt p store.world.world new.world.world new.journal r
+    → (before after : Images) → AreOfStores store new before after → DoneOn (run_row p) store.world.world r before after
+has_come p store new r takes fits place ends before after are = (
+  are.was.held,
+  record {
+    later = new.world.world;
+    takes = takes;
+    held = are.is.held;
+    fits = within p.limits store.world.world new after are.is fits;
+    journal = store.journal;
+    next = new.journal;
+    goes = goes_on_journal store new before after are place;
+    ends = ends;
+  },
+)
 
 -- why a run found the store full
 pub fills_at : (o : Outside) (p : RunOptions) (w : World) (store : Store) (begun now : ℕ) (what : What) (count limit : ℕ) (r : Reply) → o.limits ≡ p.limits

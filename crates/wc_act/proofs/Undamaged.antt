@@ -23,7 +23,7 @@ use Rattle.wc_plan.specs.declared.status.Status.TheVariants as status
 use Rattle.wc_act.specs.Crashes.{HoldsSound}
 use Rattle.wc_act.specs.Drills.{has_drilled}
 use Rattle.wc_act.specs.Events.{TellsAlone}
-use Rattle.wc_act.specs.Owed.{Visit, OwedPlan}
+use Rattle.wc_act.specs.Owed.{Visit, Done, OwedPlan}
 use Rattle.wc_plan.specs.Plans.{Plans}
 use Rattle.wc_plan.specs.Replies.{OwesStatus}
 use Rattle.wc_act.specs.Rows.{row, work_row}
@@ -31,6 +31,7 @@ use Rattle.wc_act.specs.Runs.{has_run}
 use Rattle.wc_act.specs.StoreDeeds.{Images, Hold}
 use Rattle.wc_plan.proofs.Replied.{told_replied, IsDoneOrRefused}
 use Rattle.wc_act.proofs.Viewing.{IsFaultless, view_faultless}
+use Rattle.wc_act.proofs.Visiting.{of_told}
 
 -- the reply tells neither damage nor an unsound world
 abbrev pub TellsWhole : Reply → Type 0
@@ -119,7 +120,7 @@ pub owed_tells : HeldIsOne → (told : Option (List ℕ → Option (List ℕ))) 
     → IsTrue v.tells_one → IsTrue v.tells_two → Plans told command p → OwedPlan v p r → TellsWhole r
 owed_tells law told command v (plan.Told t) r sound tells tells_too plans owed = subst TellsWhole (sym owed.0) (told_whole t.status (told_replied told command t plans))
 owed_tells law told command v (plan.On d) r sound tells tells_too plans owed =
-    let done = owed.1 tells tells_too in row_tells law v.before v.after r sound d done.0 done.1 done.2
+    let done = of_told v (Done (row d) r) owed tells tells_too in row_tells law v.before v.after r sound d done.0 done.1 done.2
 
 -- a call that ends as this tells no damage, and no unsound world
 pub ends_whole : (owed ended : Status) → OwesStatus owed ended → IsFaultless owed → (disk at : ℕ) (found : Option ℕ) → ended ≡ status.Damaged disk at found → ⊥

@@ -73,10 +73,6 @@ DrillAt seed count before nothing after r = IsDrilled seed count before after r
 DrillAt seed count before (damage disk at found) after r = (after ≡ before) × (r ≡ is_damaged disk at found)
 DrillAt seed count before (a_world w) after r = (after ≡ before) × (r ≡ refuses cause.StoreExists)
 
--- what is replied at some world, by some journal
-abbrev pub MayDrill : (seed count : ℕ) → Reply → Type 0
-MayDrill seed count r = (w : World) × (HasEnded seed count w r ⊎ ((journal : Journal) × FillsUp seed count w journal r))
-
 -- what is acknowledged of a world: each chain has run to its end, and its numbers were written
 abbrev pub IsToldDrilled : (seed count : ℕ) → List ℕ → World → Type 0
 IsToldDrilled seed count text w = HasDrilled seed count w × (text ≡ drilled_text count (sum_of_squares count seed) w.batches)

@@ -161,9 +161,3 @@ pub record IsUnstored (a : Asked) (before : Images) (w : World) (after : Images)
 -- an event that is asked for
 abbrev pub Enters : Asked → Images → World → Images → Reply → Type 0
 Enters a before w after r = IsEntered a before w after r ⊎ IsUnstored a before w after r
-
--- what is replied at a world, by some journal
-abbrev pub MayEnter : Asked → Reply → Type 0
-MayEnter a r = (w : World) × (
-    ((cs : List Change) × Changes w a cs × (r ≡ prints (line_of a w)))
-    ⊎ (TellsAlone a w r ⊎ TellsFull (λ what count limit. (journal : Journal) × IsOverlong a journal w what count limit) r))

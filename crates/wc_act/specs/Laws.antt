@@ -1,5 +1,5 @@
 -- Laws of deeds and views, without disks.
-use Rattle.std.specs.Prelude.{◌≡◌, true, List, Some}
+use Rattle.std.specs.Prelude.{◌≡◌, true, Some}
 use Rattle.wc_value.specs.declared.process.Tree.{Tree}
 use Rattle.wc_report.specs.Trees.{tree_text}
 use Rattle.wc_state.specs.declared.record.ProcessRecord.{ProcessRecord}

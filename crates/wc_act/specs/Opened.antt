@@ -1,14 +1,13 @@
 -- What a store is opened as, and what is told of its refusals.
-use Rattle.std.specs.Prelude.{◌≡◌, ◌⊎◌, ℕ, true, IsSome, Option, Some, None, Result, Err}
+use Rattle.std.specs.Prelude.{◌≡◌, ℕ, true, IsSome, IsTrue, Option, Some, None, Result, Err}
 use Rattle.wc_disk.specs.declared.disk.Disk as disk
-use Rattle.wc_journal.specs.declared.error.Found.{Found}
 use Rattle.wc_machine.specs.declared.error.TurnError.{TurnError}
 use Rattle.wc_machine.specs.declared.error.TurnError.TheVariants as turn_error
 use Rattle.wc_store.specs.declared.error.StoreError.{StoreError}
 use Rattle.wc_store.specs.declared.error.StoreError.TheVariants as store_error
 use Rattle.wc_store.specs.Held.{Standing, nothing, damage, a_world}
 use Rattle.wc_store.specs.declared.store.Store.{Store}
-use Rattle.wc_store.specs.Stores.{StandsFor}
+use Rattle.wc_store.specs.Stores.{StandsFor, HasImages}
 use Rattle.wc_plan.specs.declared.reply.Reply.{Reply}
 use Rattle.wc_plan.specs.declared.status.Cause.{Cause}
 use Rattle.wc_plan.specs.declared.status.Cause.TheVariants as cause
@@ -17,6 +16,7 @@ use Rattle.wc_act.specs.declared.opened.Opened.TheVariants as opened
 use Rattle.wc_act.specs.declared.error.ActError.{ActError}
 use Rattle.wc_act.specs.declared.error.ActError.TheVariants.{DiskFault}
 use Rattle.wc_plan.specs.Replies.{refuses}
+use Rattle.wc_act.specs.Owed.{visit, OfVisit}
 use Rattle.wc_act.specs.Statuses.{IsDoneOrFull, IsRefused}
 use Rattle.wc_act.specs.StoreDeeds.{Images, Hold, is_damaged, is_full}
 
@@ -61,14 +61,6 @@ IsTold pid turn_error.UnknownName = ⊥
 IsTold pid (turn_error.BadInputs port) = ⊥
 IsTold pid turn_error.OutOfMemory = Unit {0}
 
--- damage is told that some images hold
-abbrev pub TellsDamage : Reply → Type 0
-TellsDamage r = (images : Images) × (disk : ℕ) × (at : ℕ) × (found : Found) × Hold images (damage disk at found) × (r ≡ is_damaged disk at found)
-
--- there is no store, or a disk is damaged
-abbrev pub NoWorld : Reply → Type 0
-NoWorld r = (r ≡ refuses cause.NoStore) ⊎ TellsDamage r
-
 -- what is told where the disks hold no world
 abbrev pub TellsAt : Standing → Reply → Type 0
 TellsAt nothing r = r ≡ refuses cause.NoStore
@@ -88,9 +80,11 @@ pub record HasOpened {D : Type 0} (g : disk.Ghosts D) (store : Store) (one two o
   pub seen_one : g.seen one_new ≡ g.seen one
   pub seen_two : g.seen two_new ≡ g.seen two
 
+-- What is told is told of images that hold no world, and a store stands for the disks, where they tell their bytes, and is one of some two images.
 abbrev pub Opens : {D : Type 0} → disk.Ghosts D → (one two one_new two_new : D) → Opened → Type 0
-Opens g one two one_new two_new (opened.Told r) = HasNoWorld (g.seen one, g.seen two) (g.seen one_new, g.seen two_new) r
-Opens g one two one_new two_new (opened.Held store) = HasOpened g store one two one_new two_new
+Opens g one two one_new two_new (opened.Told r) = OfVisit (visit g one two one_new two_new) (λ before after. HasNoWorld before after r)
+Opens g one two one_new two_new (opened.Held store) =
+    (IsTrue (g.tells one) → IsTrue (g.tells two) → HasOpened g store one two one_new two_new) × HasImages store
 
 -- a store that was opened is live
 abbrev pub IsHeldLive : Opened → Type 0
@@ -101,11 +95,6 @@ IsHeldLive (opened.Held store) = store.live ≡ true
 abbrev pub IsToldReplied : Opened → Type 0
 IsToldReplied (opened.Told r) = IsRefused r.status
 IsToldReplied (opened.Held store) = Unit {0}
-
--- what is told is that there is no store, or damage
-abbrev pub IsToldNoWorld : Opened → Type 0
-IsToldNoWorld (opened.Told r) = NoWorld r
-IsToldNoWorld (opened.Held store) = Unit {0}
 
 -- what is told where no store was opened says neither that the work was done nor that the store is too full
 abbrev pub IsToldUndone : Opened → Type 0

@@ -1,7 +1,8 @@
 -- What is owed for words: a status and a text, by what they plan.
 use Rattle.std.specs.Prelude.{◌≡◌, ℕ, Bool, IsSome, IsTrue, List, Option}
 use Rattle.wc_disk.specs.declared.disk.Disk as disk
-use Rattle.wc_store.specs.Held.{Standing}
+use Rattle.wc_world.specs.World.{World}
+use Rattle.wc_store.specs.Held.{Standing, a_world}
 use Rattle.wc_cli.specs.Words.{command_of}
 use Rattle.wc_plan.specs.declared.deed.Deed.{Deed}
 use Rattle.wc_plan.specs.declared.deed.Plan.{Plan}
@@ -12,7 +13,7 @@ use Rattle.wc_plan.specs.declared.status.Status.{Status}
 use Rattle.wc_plan.specs.declared.status.Status.TheVariants as status
 use Rattle.wc_plan.specs.Plans.{Plans}
 use Rattle.wc_act.specs.Statuses.{IsDoneOrFull}
-use Rattle.wc_act.specs.Rows.{Row, row}
+use Rattle.wc_act.specs.Rows.{Row, WorkRow, row}
 use Rattle.wc_act.specs.StoreDeeds.{Images, Hold}
 
 -- What a call sees of the disks: whether they tell their bytes, and what they read as at entry and at exit.
@@ -30,17 +31,24 @@ visit g one two one_new two_new = record {
   after = (g.seen one_new, g.seen two_new);
 }
 
--- the command may reply so in any case; where both disks tell their bytes, this was done
-abbrev pub Does : (Reply → Type 0) → (Images → Images → Reply → Type 0) → Visit → Reply → Type 0
-Does may done v reply = may reply × (IsTrue v.tells_one → IsTrue v.tells_two → done v.before v.after reply)
+-- Images at entry and at exit are as P says: those that the disks read as, where both tell their bytes.
+pub record OfVisit (v : Visit) (P : (before after : Images) → Type 0) : Type 0 where
+  pub before : Images
+  pub after : Images
+  pub told : IsTrue v.tells_one → IsTrue v.tells_two → (before ≡ v.before) × (after ≡ v.after)
+  pub are : P before after
+
+-- what is done on a store, by the world that the disks hold at entry
+abbrev pub DoneOn : WorkRow → World → Reply → (before after : Images) → Type 0
+DoneOn k w reply before after = Hold before (a_world w) × k.does before w after reply
 
 -- what a deed has done, by what the disks hold at entry
-abbrev pub Done : Row → Images → Images → Reply → Type 0
-Done k before after reply = (s : Standing) × Hold before s × k.does before s after reply
+abbrev pub Done : Row → Reply → (before after : Images) → Type 0
+Done k reply before after = (s : Standing) × Hold before s × k.does before s after reply
 
 -- for a deed, by its row
 abbrev pub OwedDeed : Visit → Deed → Reply → Type 0
-OwedDeed v d reply = Does (row d).may (Done (row d)) v reply
+OwedDeed v d reply = OfVisit v (Done (row d) reply)
 
 -- for a plan; where a reply is told, the disks read as before
 abbrev pub OwedPlan : Visit → Plan → Reply → Type 0
@@ -71,7 +79,7 @@ IsCertain told tells_one tells_two words = IsSome told × OfEach told words (λ 
 
 -- no deed that the words plan may be refused for this cause
 abbrev pub IsNoDeeds : Option (List ℕ → Option (List ℕ)) → List (List ℕ) → Cause → Type 0
-IsNoDeeds told words c = OfEach told words (λ k. (r : Reply) → k.may r → r.status ≡ status.Refused c → ⊥)
+IsNoDeeds told words c = OfEach told words (λ k. (r : Reply) (before after : Images) → Done k r before after → r.status ≡ status.Refused c → ⊥)
 
 -- the words plan no reply by which something was done with no disk
 abbrev pub NeedDisks : Option (List ℕ → Option (List ℕ)) → List (List ℕ) → Type 0

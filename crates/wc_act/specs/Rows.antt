@@ -1,13 +1,9 @@
 -- What each deed promises: one row each.
-use Rattle.std.specs.Prelude.{◌≡◌, ◌⊎◌, ◌+◌, ℕ, false, true, List}
-use Rattle.wc_state.specs.declared.record.What.{What}
+use Rattle.std.specs.Prelude.{◌≡◌, ◌⊎◌, ℕ, false, true, List}
 use Rattle.wc_world.specs.World.{World, empty}
 use Rattle.wc_runner.specs.Runs.{TakesTurns}
 use Rattle.wc_store.specs.Held.{Standing}
-use Rattle.wc_store.specs.Prepared.{HasGeneration}
-use Rattle.wc_store.specs.Refusals.{RefusesPack}
-use Rattle.wc_store.specs.declared.error.StoreError.TheVariants.{Full}
-use Rattle.wc_report.specs.Lines.{initialised_text, submitted_text, paused_text, playing_text, killed_text, packed_text}
+use Rattle.wc_report.specs.Lines.{submitted_text, paused_text, playing_text, killed_text}
 use Rattle.wc_plan.specs.declared.deed.Asked.{Asked}
 use Rattle.wc_plan.specs.declared.deed.Asked.TheVariants as asked
 use Rattle.wc_plan.specs.declared.deed.Begin.{Begin}
@@ -19,18 +15,15 @@ use Rattle.wc_plan.specs.declared.deed.RunOptions.{RunOptions}
 use Rattle.wc_plan.specs.declared.deed.Work.{Work}
 use Rattle.wc_plan.specs.declared.deed.Work.TheVariants as work
 use Rattle.wc_plan.specs.declared.reply.Reply.{Reply}
-use Rattle.wc_plan.specs.declared.status.Cause.TheVariants as cause
 use Rattle.wc_plan.specs.declared.status.Status.{Status}
 use Rattle.wc_drill.specs.Drilled.{Drills}
 use Rattle.wc_act.specs.Acknowledged.{HasProcess, HasMark, IsKilled}
-use Rattle.wc_act.specs.Drills.{DrillAt, IsToldDrilled, MayDrill}
-use Rattle.wc_act.specs.Events.{MayHappen, MayEnter, Enters}
-use Rattle.wc_act.specs.Opened.{NoWorld, TellsDamage}
-use Rattle.wc_plan.specs.Replies.{refuses, prints}
-use Rattle.wc_act.specs.Runs.{widest, MayRun, Runs}
-use Rattle.wc_act.specs.StoreDeeds.{Fits, Images, is_full, InitAt, AtStore, Packs}
+use Rattle.wc_act.specs.Drills.{DrillAt, IsToldDrilled}
+use Rattle.wc_act.specs.Events.{MayHappen, Enters}
+use Rattle.wc_act.specs.Runs.{widest, Runs}
+use Rattle.wc_act.specs.StoreDeeds.{Fits, Images, InitAt, AtStore, Packs}
 use Rattle.wc_act.specs.Undone.{IsBeforeStoring, IsBeforeTurns, IsBeforePacking}
-use Rattle.wc_act.specs.Views.{Shows, ShowsStill}
+use Rattle.wc_act.specs.Views.{ShowsStill}
 
 -- ---- what is done on a store that is there
 
@@ -39,8 +32,6 @@ pub record WorkRow : Type 1 where
   pub makes : World → World → Images → Type 0
   -- what it has done, from what the disks read as at entry to what they read as at exit, and its reply
   pub does : Images → World → Images → Reply → Type 0
-  -- its reply, where a disk doesn't tell its bytes
-  pub may : Reply → Type 0
   -- one reply at most is owed for what the disks read as at entry and at exit
   pub certain : Type 0
   -- the statuses with which nothing was written
@@ -56,7 +47,6 @@ abbrev pub view_row : View → WorkRow
 view_row v = record {
   makes = Stays;
   does = ShowsStill v;
-  may = λ r. (w : World) × Shows v w r;
   certain = Unit {0};
   undone = λ s. Unit {0};
   acknowledges = λ text w. Unit {0};
@@ -74,7 +64,6 @@ abbrev pub event_row : Asked → WorkRow
 event_row a = record {
   makes = MayHappen a;
   does = Enters a;
-  may = MayEnter a;
   certain = Unit {0};
   undone = IsBeforeStoring;
   acknowledges = HasHappened a;
@@ -90,23 +79,15 @@ abbrev pub run_row : RunOptions → WorkRow
 run_row o = record {
   makes = TakesSome o;
   does = Runs o;
-  may = MayRun o;
   certain = ⊥;
   undone = IsBeforeTurns;
   acknowledges = λ text w. Unit {0};
 }
 
--- the next generation of a world's journal, or it would be too great, or else the snapshot too long
-abbrev pub MayPack : Reply → Type 0
-MayPack r = (generation : ℕ) × (w : World) × (
-    (HasGeneration generation w × (r ≡ prints (packed_text (generation + 1))))
-    ⊎ ((what : What) × (count : ℕ) × (limit : ℕ) × RefusesPack generation w (Full what count limit) × (r ≡ is_full what count limit)))
-
 abbrev pub pack_row : WorkRow
 pack_row = record {
   makes = Stays;
   does = Packs;
-  may = MayPack;
   certain = Unit {0};
   undone = IsBeforePacking;
   acknowledges = λ text w. Unit {0};
@@ -126,7 +107,6 @@ pub record Row : Type 1 where
   pub makes : World → World → Images → Type 0
   -- what it has done, by what the disks hold at entry
   pub does : Images → Standing → Images → Reply → Type 0
-  pub may : Reply → Type 0
   pub certain : Type 0
   pub undone : Status → Type 0
   pub acknowledges : List ℕ → World → Type 0
@@ -141,7 +121,6 @@ drill_row seed count = record {
   begins = Drills seed count;
   makes = Stays;
   does = DrillAt seed count;
-  may = λ r. MayDrill seed count r ⊎ ((r ≡ refuses cause.StoreExists) ⊎ TellsDamage r);
   certain = ⊥;
   undone = IsBeforeTurns;
   acknowledges = IsToldDrilled seed count;
@@ -152,7 +131,6 @@ begin_row begin.Init = record {
   begins = IsEmpty;
   makes = Stays;
   does = InitAt;
-  may = λ r. (r ≡ prints initialised_text) ⊎ ((r ≡ refuses cause.StoreExists) ⊎ TellsDamage r);
   certain = Unit {0};
   undone = IsBeforeStoring;
   acknowledges = λ text w. Unit {0};
@@ -165,7 +143,6 @@ on_store k = record {
   begins = λ v. ⊥;
   makes = k.makes;
   does = λ before. AtStore before (k.does before);
-  may = λ r. NoWorld r ⊎ k.may r;
   certain = k.certain;
   undone = k.undone;
   acknowledges = k.acknowledges;

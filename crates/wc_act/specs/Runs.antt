@@ -88,7 +88,3 @@ pub record Runs (o : RunOptions) (before : Images) (w : World) (after : Images) 
   pub next : Journal
   pub goes : GoesOn before after journal next
   pub ends : HasRun o w later r ⊎ FillsAt o w later next r
-
--- what is replied at a world: turns and rests led to another one, where the run came to its end, or the store would be too full by some journal
-abbrev pub MayRun : RunOptions → Reply → Type 0
-MayRun o r = (w : World) × (v : World) × TakesTurns (widest o.limits) o.turns w v × (HasRun o w v r ⊎ ((journal : Journal) × FillsAt o w v journal r))

@@ -1,11 +1,11 @@
 //! What a deed does with two disks, a transport and a clock. No shelf is in scope.
 
 ghost use Rattle.std.specs.Prelude.{◌≡◌, true, IsTrue, IfOk};
-ghost use Rattle.wc_store.specs.Stores.{StandsFor};
+ghost use Rattle.wc_store.specs.Stores.{HasImages, StandsFor};
 ghost use Rattle.wc_act.specs.Counts.{CountsDisks};
 ghost use Rattle.wc_act.specs.Crashes.{AreDurable, HoldsKeeping, LeavesKept, LeavesPairs};
 ghost use Rattle.wc_act.specs.Outside.{exchange, ActsOutside, AsksByTurns, WorksOutside, IsIdle, IsNoRun};
-ghost use Rattle.wc_act.specs.Owed.{visit, OwedDeed};
+ghost use Rattle.wc_act.specs.Owed.{visit, DoneOn, OfVisit, OwedDeed};
 ghost use Rattle.wc_plan.specs.Plans.{IsReadyDeed, IsReadyWork};
 ghost use Rattle.wc_act.specs.Statuses.{IsDoneOrFull};
 ghost use Rattle.wc_act.specs.Rows.{row, work_row};
@@ -41,9 +41,8 @@ fn worked<D: Disk, T: Transport, P: Pacer>(
     requires ready { IsReadyWork work }
     requires live { store.old.live ≡ true }
     requires stands { IsTrue (D.tells one.old) → IsTrue (D.tells two.old) → StandsFor D.Disk store.old one.old two.old }
-    ensures does { IfOk result (λ r. IsTrue (D.tells one.old) → IsTrue (D.tells two.old)
-        → (work_row work).does (D.seen one.old, D.seen two.old) store.old.world.world (D.seen one.new, D.seen two.new) r) }
-    ensures may { IfOk result (λ r. (work_row work).may r) }
+    requires images { HasImages store.old }
+    ensures does { IfOk result (λ r. OfVisit (visit D.Disk one.old two.old one.new two.new) (DoneOn (work_row work) store.old.world.world r)) }
     ensures kept { IsTrue (D.tells one.old) → IsTrue (D.tells two.old) → LeavesPairs D.Disk one.old two.old one.new two.new (HoldsKeeping (work_row work).makes store.old.world.world) }
     ensures durable { IfOk result (λ r. IsTrue (D.tells one.old) → IsTrue (D.tells two.old) → AreDurable D.Disk one.new two.new) }
     ensures tells { (D.tells one.new ≡ D.tells one.old) × (D.tells two.new ≡ D.tells two.old) }

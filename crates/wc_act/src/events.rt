@@ -3,12 +3,13 @@
 ghost use Rattle.std.specs.Prelude.{◌≡◌, ◌≢◌, ◌≤◌, [], true, None, Some, IsSome, IsTrue, IfOk, IfErr, IfSome};
 ghost use Rattle.wc_machine.specs.Submitting.{submitted_number};
 ghost use Rattle.wc_state.specs.Ranges.{AreLimits};
-ghost use Rattle.wc_store.specs.Stores.{StandsFor};
+ghost use Rattle.wc_store.specs.Stores.{HasImages, StandsFor};
 ghost use Rattle.wc_act.specs.Counts.{CountsDisks};
 ghost use Rattle.wc_act.specs.Crashes.{AreDurable, LeavesPairs, HoldsKeeping};
 ghost use Rattle.wc_act.specs.Entries.{IsEntryOf, IsStorable};
 ghost use Rattle.wc_act.specs.Events.{Changes, IsLine, RefusesAsked, limits_of, line_of, process_of};
 ghost use Rattle.wc_act.specs.Opened.{IsTold, turn_reply};
+ghost use Rattle.wc_act.specs.Owed.{visit, DoneOn, OfVisit};
 ghost use Rattle.wc_plan.specs.Plans.{IsReadyAsked};
 ghost use Rattle.wc_act.specs.Rows.{event_row};
 ghost use Rattle.wc_act.specs.StoreDeeds.{greatest_limits};
@@ -241,9 +242,8 @@ pub(crate) fn event_reply<D: Disk>(
     requires ready { IsReadyAsked asked }
     requires live { store.old.live ≡ true }
     requires stands { IsTrue (D.tells one.old) → IsTrue (D.tells two.old) → StandsFor D.Disk store.old one.old two.old }
-    ensures does { IfOk result (λ r. IsTrue (D.tells one.old) → IsTrue (D.tells two.old)
-        → (event_row asked).does (D.seen one.old, D.seen two.old) store.old.world.world (D.seen one.new, D.seen two.new) r) }
-    ensures may { IfOk result (λ r. (event_row asked).may r) }
+    requires images { HasImages store.old }
+    ensures does { IfOk result (λ r. OfVisit (visit D.Disk one.old two.old one.new two.new) (DoneOn (event_row asked) store.old.world.world r)) }
     ensures kept { IsTrue (D.tells one.old) → IsTrue (D.tells two.old) → LeavesPairs D.Disk one.old two.old one.new two.new (HoldsKeeping (event_row asked).makes store.old.world.world) }
     ensures durable { IfOk result (λ r. IsTrue (D.tells one.old) → IsTrue (D.tells two.old) → AreDurable D.Disk one.new two.new) }
     ensures tells { (D.tells one.new ≡ D.tells one.old) × (D.tells two.new ≡ D.tells two.old) }

@@ -3,7 +3,7 @@
 ghost use Rattle.std.specs.Prelude.{◌≡◌, ◌↔◌, Some, IsTrue, IsErrOf, IfOk};
 ghost use Rattle.wc_disk.specs.Images.{LeavesOnly};
 ghost use Rattle.wc_act.specs.Counts.{CountsDisks};
-ghost use Rattle.wc_act.specs.Opened.{store_reply, Opens, IsHeldLive, IsToldNoWorld, IsToldReplied, TellsFault, IsToldUndone};
+ghost use Rattle.wc_act.specs.Opened.{store_reply, Opens, IsHeldLive, IsToldReplied, TellsFault, IsToldUndone};
 ghost use Rattle.wc_act.specs.Statuses.{IsRefused};
 ghost use Rattle.wc_act.specs.StoreDeeds.{byte_of, is_damaged, is_full};
 ghost use Rattle.wc_act.specs.Undone.{LeavesUnwritten};
@@ -79,10 +79,9 @@ pub(crate) fn open_store<D: Disk>(
     one: &mut D,
     two: &mut D,
 ) -> Result<Opened, ActError>
-    ensures opens { IfOk result (λ o. IsTrue (D.tells one.old) → IsTrue (D.tells two.old) → Opens D.Disk one.old two.old one.new two.new o) }
+    ensures opens { IfOk result (λ o. Opens D.Disk one.old two.old one.new two.new o) }
     ensures live { IfOk result (λ o. IsHeldLive o) }
     ensures replied { IfOk result (λ o. IsToldReplied o) }
-    ensures told { IfOk result (λ o. IsToldNoWorld o) }
     ensures any_moment_one { LeavesOnly D.Disk one.old one.new (D.may_leave one.old) }
     ensures any_moment_two { LeavesOnly D.Disk two.old two.new (D.may_leave two.old) }
     ensures undone { IfOk result (λ o. IsToldUndone o) }

@@ -1,9 +1,10 @@
 //! How a store is written anew.
 
 ghost use Rattle.std.specs.Prelude.{◌≡◌, true, IsTrue, IfOk};
-ghost use Rattle.wc_store.specs.Stores.{StandsFor};
+ghost use Rattle.wc_store.specs.Stores.{HasImages, StandsFor};
 ghost use Rattle.wc_act.specs.Counts.{CountsDisks};
 ghost use Rattle.wc_act.specs.Crashes.{AreDurable, LeavesPairs, HoldsKeeping};
+ghost use Rattle.wc_act.specs.Owed.{visit, DoneOn, OfVisit};
 ghost use Rattle.wc_act.specs.Rows.{pack_row};
 ghost use Rattle.wc_act.specs.Undone.{EndsWith};
 
@@ -25,9 +26,8 @@ pub(crate) fn pack_reply<D: Disk>(
 ) -> Result<Reply, ActError>
     requires live { store.old.live ≡ true }
     requires stands { IsTrue (D.tells one.old) → IsTrue (D.tells two.old) → StandsFor D.Disk store.old one.old two.old }
-    ensures does { IfOk result (λ r. IsTrue (D.tells one.old) → IsTrue (D.tells two.old)
-        → pack_row.does (D.seen one.old, D.seen two.old) store.old.world.world (D.seen one.new, D.seen two.new) r) }
-    ensures may { IfOk result (λ r. pack_row.may r) }
+    requires images { HasImages store.old }
+    ensures does { IfOk result (λ r. OfVisit (visit D.Disk one.old two.old one.new two.new) (DoneOn pack_row store.old.world.world r)) }
     ensures kept { IsTrue (D.tells one.old) → IsTrue (D.tells two.old) → LeavesPairs D.Disk one.old two.old one.new two.new (HoldsKeeping pack_row.makes store.old.world.world) }
     ensures durable { IfOk result (λ r. IsTrue (D.tells one.old) → IsTrue (D.tells two.old) → AreDurable D.Disk one.new two.new) }
     ensures tells { (D.tells one.new ≡ D.tells one.old) × (D.tells two.new ≡ D.tells two.old) }

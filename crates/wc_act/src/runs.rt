@@ -2,11 +2,12 @@
 
 ghost use Rattle.std.specs.Prelude.{◌≡◌, ◌-◌, true, IsTrue, IfOk};
 ghost use Rattle.wc_state.specs.Ranges.{AreLimits};
-ghost use Rattle.wc_store.specs.Stores.{StandsFor};
+ghost use Rattle.wc_store.specs.Stores.{HasImages, StandsFor};
 ghost use Rattle.wc_runner.specs.Asked.{IsAskedFor};
 ghost use Rattle.wc_act.specs.Counts.{CountsDisks};
 ghost use Rattle.wc_act.specs.Crashes.{AreDurable, LeavesPairs, HoldsKeeping};
 ghost use Rattle.wc_act.specs.Outside.{exchange, RunsOutside};
+ghost use Rattle.wc_act.specs.Owed.{visit, DoneOn, OfVisit};
 ghost use Rattle.wc_act.specs.Rows.{run_row};
 ghost use Rattle.wc_act.specs.Runs.{status_of, has_run};
 ghost use Rattle.wc_act.specs.Undone.{EndsWith, IsBeforeTurns};
@@ -61,9 +62,8 @@ pub(crate) fn run_reply<D: Disk, T: Transport, P: Pacer>(
     requires limits { AreLimits options.limits }
     requires live { store.old.live ≡ true }
     requires stands { IsTrue (D.tells one.old) → IsTrue (D.tells two.old) → StandsFor D.Disk store.old one.old two.old }
-    ensures does { IfOk result (λ r. IsTrue (D.tells one.old) → IsTrue (D.tells two.old)
-        → (run_row options).does (D.seen one.old, D.seen two.old) store.old.world.world (D.seen one.new, D.seen two.new) r) }
-    ensures may { IfOk result (λ r. (run_row options).may r) }
+    requires images { HasImages store.old }
+    ensures does { IfOk result (λ r. OfVisit (visit D.Disk one.old two.old one.new two.new) (DoneOn (run_row options) store.old.world.world r)) }
     ensures kept { IsTrue (D.tells one.old) → IsTrue (D.tells two.old) → LeavesPairs D.Disk one.old two.old one.new two.new (HoldsKeeping (run_row options).makes store.old.world.world) }
     ensures durable { IfOk result (λ r. IsTrue (D.tells one.old) → IsTrue (D.tells two.old) → AreDurable D.Disk one.new two.new) }
     ensures tells { (D.tells one.new ≡ D.tells one.old) × (D.tells two.new ≡ D.tells two.old) }

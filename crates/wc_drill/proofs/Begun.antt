@@ -1,24 +1,27 @@
 -- A store that is made, and what is left on the disks from then on.
-use Rattle.std.proofs.Common.{◌≡◌, ◌⊎◌, inl, inr, ⊎_elim, ◌≤◌, ℕ, List, Result, Ok, Err, sym, ap, subst, ◌∙◌, arith}
+use Rattle.std.proofs.Common.{◌≡◌, ◌⊎◌, inl, inr, ⊎_elim, ◌≤◌, ℕ, Bool, true, false, List, Result, Ok, Err, refl, sym, ap, subst, ◌∙◌, arith}
 use Rattle.std.specs.Prelude.{IfErr, IsTrue}
+use Rattle.std.proofs.lemmas.Bool.{false≢true}
 use Rattle.wc_disk.specs.declared.disk.Disk as disk
 use Rattle.wc_disk.specs.Images.{LeavesOnly}
 use Rattle.wc_disk.specs.Steps.{Only}
 use Rattle.wc_disk.proofs.Runs.{no_call, both_runs, weaker_run}
-use Rattle.wc_world.specs.World.{empty}
+use Rattle.wc_journal.specs.declared.journal.Journal.{Journal}
+use Rattle.wc_world.specs.World.{World, empty}
 use Rattle.wc_runner.specs.Leaves.{HoldsSome, LeavesWorlds, of_world}
 use Rattle.wc_store.specs.Held.{IsHeld, Standing, nothing, a_world}
 use Rattle.wc_store.specs.Refusals.{RefusesInit, IsDamageOf}
 use Rattle.wc_store.specs.Refusals.{Counts as CountsStore, IsUnchanged as IsUnchangedStore}
 use Rattle.wc_store.specs.declared.store.Store.{Store}
-use Rattle.wc_store.specs.Stores.{AreImages, BeginsFrom, InitLeaves, InOnePart, InTwoParts}
+use Rattle.wc_store.specs.Sights.{OfImages}
+use Rattle.wc_store.specs.Stores.{AreImages, BeginsFrom, HoldsAWorld, InitLeaves, InOnePart, InTwoParts, IsMadeOf}
 use Rattle.wc_store.specs.declared.error.StoreError.{StoreError}
 use Rattle.wc_store.specs.declared.error.StoreError.TheVariants as store_error
 use Rattle.wc_store.specs.declared.place.Place.TheVariants.{One}
 use Rattle.wc_drill.specs.declared.error.DrillError.{DrillError}
 use Rattle.wc_drill.specs.declared.error.DrillError.TheVariants as drill
 use Rattle.wc_drill.specs.Drilled.{Drills}
-use Rattle.wc_drill.specs.Leaves.{DrilledBeside, DrilledOr, IsBegun, IsOfDrill, RefusedLeaves}
+use Rattle.wc_drill.specs.Leaves.{IsHeldAfter, DrilledBeside, DrilledOr, HoldsOnOne, IsBegun, IsFilled, IsOfDrill, RefusedLeaves}
 use Rattle.wc_drill.specs.Refusals.{Counts, IsOfInit, RefusesDrill, RefusesDrilled, of_init}
 use Rattle.wc_drill.proofs.Joined.{of_some}
 use Rattle.wc_drill.specs.Drilled as drilled
@@ -104,12 +107,6 @@ module _ {D : Type 0} (g : disk.Ghosts D) (at_now : (d : D) (image : List ℕ) �
           held = inr (h.0, h.2, subst (λ (rest : List ℕ). IsHeld a rest (a_world h.0)) (sym (rest_is b now)) h.3.held);
         }))
 
-    pub made_two : LeavesOnly g two two_mid (g.may_leave two) → LeavesOnly g two two_new (g.may_leave two)
-    made_two first = subst (λ (d : D). LeavesOnly g two d (g.may_leave two)) (sym leaves.untouched) first
-
-    pub seen_still : g.seen two_mid ≡ g.seen two → g.seen two_new ≡ g.seen two
-    seen_still same = ap g.seen leaves.untouched ∙ same
-
   -- ---- beside what disk two reads as
 
   pub beside_read : (one two one_new two_new : D) → IsTrue (g.tells two_new) → g.seen two_new ≡ g.seen two → LeavesOnly g one one_new (DrilledBeside g seed count one two two_new)
@@ -152,13 +149,59 @@ counts_since result one one_mid one_new two two_mid two_new failed_one failed_tw
     subst (λ (m : ℕ). Counts result one one_new m two_new failed_one failed_two) same.1
     (subst (λ (m : ℕ). Counts result m one_new two_mid two_new failed_one failed_two) same.0 h)
 
-module _ {D : Type 0} (g : disk.Ghosts D) (told : Type 0) (seed count : ℕ) (one two one_new two_new : D) where
-  pub init_refused : (e : StoreError) → RefusesInit told (IsHeld (g.seen one) (g.seen two)) e → IsDamageOf g one two e → RefusesDrill g told seed count one two one_new two_new (of_init e)
-  init_refused store_error.DiskFault h is = tt
-  init_refused (store_error.Damaged disk at found) h is = is
-  init_refused (store_error.Full what most limit) h is = tt
-  init_refused store_error.AlreadyThere h is = h
-  init_refused store_error.OutOfMemory h is = tt
+-- ---- what a drill comes to
+
+-- what is so of this image where both disks tell, and of some image in any case, is so of one image, which is this one where both tell
+of_told : (a b : Bool) (image : List ℕ) (P : List ℕ → Type 0) → (IsTrue a → IsTrue b → P image) → ((made : List ℕ) × P made)
+    → (made : List ℕ) × (IsTrue a → IsTrue b → made ≡ image) × P made
+of_told true true image P told some = (image, (λ is is_too. refl), told refl refl)
+of_told true false image P told some = (some.0, (λ is is_too. absurd (false≢true is_too)), some.1)
+of_told false b image P told some = (some.0, (λ is is_too. absurd (false≢true is)), some.1)
+
+-- where two disks tell, they tell after a call that leaves it so
+pub told_mid : {D : Type 0} (g : disk.Ghosts D) (one two one_mid two_mid : D) → (g.tells one_mid ≡ g.tells one) × (g.tells two_mid ≡ g.tells two)
+    → IsTrue (g.tells one) → IsTrue (g.tells two) → IsTrue (g.tells one_mid) × IsTrue (g.tells two_mid)
+told_mid g one two one_mid two_mid tells told told_too =
+    (subst (λ (b : Bool). IsTrue b) (sym tells.0) told, subst (λ (b : Bool). IsTrue b) (sym tells.1) told_too)
+
+-- a store is made, and drilled
+module _ {D : Type 0} (g : disk.Ghosts D) (seed count : ℕ) (one two one_mid two_mid one_new two_new : D)
+    (tells : (g.tells one_mid ≡ g.tells one) × (g.tells two_mid ≡ g.tells two)) (same : g.seen two_mid ≡ g.seen two)
+    (leaves : IsTrue (g.tells one_mid) → IsTrue (g.tells two_mid) → LeavesWorlds g One (Drills seed count) one_mid two_mid one_new two_new) where
+  untouched : IsTrue (g.tells one) → IsTrue (g.tells two) → two_new ≡ two_mid
+  untouched told told_too = let t = told_mid g one two one_mid two_mid tells told told_too in (leaves t.0 t.1).untouched
+
+  pub seen_still : IsTrue (g.tells one) → IsTrue (g.tells two) → g.seen two_new ≡ g.seen two
+  seen_still told told_too = ap g.seen (untouched told told_too) ∙ same
+
+  pub made_two : LeavesOnly g two two_mid (g.may_leave two) → IsTrue (g.tells one) → IsTrue (g.tells two) → LeavesOnly g two two_new (g.may_leave two)
+  made_two first told told_too = subst (λ (d : D). LeavesOnly g two d (g.may_leave two)) (sym (untouched told told_too)) first
+
+  pub filled : (store : Store) → OfImages g one two (IsMadeOf store) → (w : World) (journal : Journal)
+      → IsHeldAfter g (IsTrue (g.tells one_mid) × IsTrue (g.tells two_mid)) store one_new two_new w journal → IsFilled g one two one_new two_new w journal
+  filled store o w journal comes =
+      let made = of_told (g.tells one) (g.tells two) (g.seen one_new) (λ (image : List ℕ). HoldsOnOne image o.second w journal)
+      (λ told told_too. subst (λ (rest : List ℕ). HoldsOnOne (g.seen one_new) rest w journal) (seen_still told told_too ∙ sym (o.told_two told_too))
+      (comes.seen (told_mid g one two one_mid two_mid tells told told_too)))
+      (comes.beside o.are.1.0 o.second o.are.1.1) in
+      record {
+        first = o.first;
+        second = o.second;
+        made = made.0;
+        told = λ told told_too. (o.told_one told, o.told_two told_too);
+        told_new = λ told told_too. (made.1 told told_too, o.told_two told_too ∙ sym (seen_still told told_too));
+        bare = o.are.0;
+        holds = made.2;
+      }
+
+module _ {D : Type 0} (g : disk.Ghosts D) (seed count : ℕ) (one two one_new two_new : D) where
+  pub init_refused : (e : StoreError) → IsDamageOf g one two e → (e ≡ store_error.AlreadyThere → OfImages g one two HoldsAWorld)
+      → RefusesDrill g seed count one two one_new two_new (of_init e)
+  init_refused store_error.DiskFault is there = tt
+  init_refused (store_error.Damaged disk at found) is there = is
+  init_refused (store_error.Full what most limit) is there = tt
+  init_refused store_error.AlreadyThere is there = there refl
+  init_refused store_error.OutOfMemory is there = tt
 
   pub init_unbegun : (A : Type 0) (e : StoreError) → InitLeaves g (Err e) one two one_new two_new
       → IsUnchangedStore {T = Store} (Err e) (g.seen one) (g.seen one_new) → RefusedLeaves {T = A} g (Err (of_init e)) one two one_new two_new
@@ -168,22 +211,26 @@ module _ {D : Type 0} (g : disk.Ghosts D) (told : Type 0) (seed count : ℕ) (on
   init_unbegun A store_error.AlreadyThere leaves same = (leaves, same)
   init_unbegun A store_error.OutOfMemory leaves same = tt
 
-  pub drilled_refused : (e : DrillError) → RefusesDrilled g told seed count one_new two_new e → RefusesDrill g told seed count one two one_new two_new e
-  drilled_refused drill.DiskFault h = tt
-  drilled_refused (drill.Damaged disk at found) h = absurd h
-  drilled_refused (drill.Full what most limit) h = h
-  drilled_refused drill.AlreadyThere h = absurd h
-  drilled_refused drill.Spent h = h
-  drilled_refused drill.Resting h = h
-  drilled_refused drill.OutOfMemory h = tt
+  -- however a world is held that the images hold too
+  module _ (Holds : World → Journal → Type 0) where
+    pub drilled_refused : ((w : World) (journal : Journal) → Holds w journal → IsFilled g one two one_new two_new w journal) → (e : DrillError)
+        → RefusesDrilled Holds seed count e → RefusesDrill g seed count one two one_new two_new e
+    drilled_refused fills drill.DiskFault h = tt
+    drilled_refused fills (drill.Damaged disk at found) h = absurd h
+    drilled_refused fills (drill.Full what most limit) h =
+        record { world = h.world; drills = h.drills; journal = h.journal; holds = fills h.world h.journal h.holds; refused = h.refused }
+    drilled_refused fills drill.AlreadyThere h = absurd h
+    drilled_refused fills drill.Spent h = (h.0, h.1, (h.2.0, fills h.0 h.2.0 h.2.1))
+    drilled_refused fills drill.Resting h = (h.0, h.1, (h.2.0, fills h.0 h.2.0 h.2.1))
+    drilled_refused fills drill.OutOfMemory h = tt
 
-  pub drilled_unbegun : {A : Type 0} (result : Result A DrillError) → IfErr result (RefusesDrilled g told seed count one_new two_new)
-      → RefusedLeaves g result one two one_new two_new
-  drilled_unbegun (Ok a) h = tt
-  drilled_unbegun (Err drill.DiskFault) h = tt
-  drilled_unbegun (Err (drill.Damaged disk at found)) h = absurd h
-  drilled_unbegun (Err (drill.Full what most limit)) h = tt
-  drilled_unbegun (Err drill.AlreadyThere) h = absurd h
-  drilled_unbegun (Err drill.Spent) h = tt
-  drilled_unbegun (Err drill.Resting) h = tt
-  drilled_unbegun (Err drill.OutOfMemory) h = tt
+    pub drilled_unbegun : {A : Type 0} (result : Result A DrillError) → IfErr result (RefusesDrilled Holds seed count)
+        → RefusedLeaves g result one two one_new two_new
+    drilled_unbegun (Ok a) h = tt
+    drilled_unbegun (Err drill.DiskFault) h = tt
+    drilled_unbegun (Err (drill.Damaged disk at found)) h = absurd h
+    drilled_unbegun (Err (drill.Full what most limit)) h = tt
+    drilled_unbegun (Err drill.AlreadyThere) h = absurd h
+    drilled_unbegun (Err drill.Spent) h = tt
+    drilled_unbegun (Err drill.Resting) h = tt
+    drilled_unbegun (Err drill.OutOfMemory) h = tt

@@ -1,7 +1,8 @@
 -- A drill as a whole: what its submissions and its run make and leave on a new store.
-use Rattle.std.proofs.Common.{◌≡◌, inl, inr, ℕ, true, Result, Err, refl, sym, subst, arith}
+use Rattle.std.proofs.Common.{◌≡◌, inl, inr, ℕ, true, List, Result, Err, refl, sym, subst, arith}
 use Rattle.std.specs.Prelude.{IfOk, IfErr}
 use Rattle.wc_disk.specs.declared.disk.Disk as disk
+use Rattle.wc_journal.specs.declared.journal.Journal.{Journal}
 use Rattle.wc_journal.specs.Reading.{batches_of, journal_of}
 use Rattle.wc_world.specs.World.{World, empty}
 use Rattle.wc_runner.specs.Leaves.{LeavesWorlds, SomeTurns, of_world}
@@ -15,13 +16,13 @@ use Rattle.wc_runner.specs.declared.runs.RunEnd.{RunEnd}
 use Rattle.wc_runner.specs.declared.runs.RunEnd.TheVariants as end
 use Rattle.wc_store.specs.Choices.{chosen, on}
 use Rattle.wc_store.specs.Places.{its, number_of}
-use Rattle.wc_store.specs.Stores.{StandsFor}
+use Rattle.wc_store.specs.Stores.{other, IsOfImages, LeadsTo, StandsFor}
 use Rattle.wc_store.specs.declared.place.Place.{Place}
 use Rattle.wc_store.specs.declared.place.Place.TheVariants.{One}
 use Rattle.wc_store.specs.declared.store.Store.{Store}
 use Rattle.wc_drill.specs.declared.error.DrillError.{DrillError}
 use Rattle.wc_drill.specs.Drilled.{Drills, HasDrilled, Submitted, outside, turns_of}
-use Rattle.wc_drill.specs.Leaves.{AreDurable, HoldsOnOne, HoldsNow, IsBegun, IsFirst}
+use Rattle.wc_drill.specs.Leaves.{AreDurable, IsHeldAfter, HoldsOnOne, IsBegun, IsFirst}
 use Rattle.wc_drill.specs.Refusals.{Counts, EndsDrill, RefusesChains, RefusesDrilled, of_run}
 use Rattle.wc_drill.specs.Runs.{EndsSo, TakesFewer}
 use Rattle.wc_drill.specs.Submissions.{SubmittedSome}
@@ -39,80 +40,89 @@ of_turns seed count u v s t = record { chains = count; some = omega arith; begun
 
 -- ---- a new store
 
--- what the disks of a store on disk one hold
-holds_by : {D : Type 0} (g : disk.Ghosts D) (store : Store) (one two : D) → IsFirst store → StandsFor g store one two → HoldsOnOne g one two store.world.world store.journal
-holds_by {D} g store one two made s = record {
-  durable_one = s.durable_one;
-  durable_two = s.durable_two;
-  held = s.held;
-  batches = batches_of (journal_of (g.seen (its store.place one two)));
-  chooses = subst (λ (p : Place). chosen (g.seen one) (g.seen two)
-      ≡ on (number_of p) store.journal.version store.journal.generation (batches_of (journal_of (g.seen (its store.place one two))))) made.0 s.chooses;
-  end = s.settled.stands.end;
+-- what two images hold that hold a store on disk one
+holds_of : (store : Store) (one two : List ℕ) → IsFirst store → IsOfImages store one two → HoldsOnOne one two store.world.world store.journal
+holds_of store one two made o = record {
+  held = o.held;
+  batches = o.batches;
+  chooses = subst (λ (p : Place). chosen one two ≡ on (number_of p) store.journal.version store.journal.generation o.batches) made.0 o.chooses;
+  end = o.end;
   generation = made.1;
   version = made.2;
 }
 
-module _ {D : Type 0} (g : disk.Ghosts D) (seed count : ℕ) where
-  -- the submissions broke off
-  module _ (told : Type 0) (w : World) (bare : w ≡ empty) (store : Store) (one two : D) (made : IsFirst store) (some : SubmittedSome seed count w store.world.world)
-      (stands : store.live ≡ true → told → StandsFor g store one two) where
-    pub chains_refused : (e : RunError) → store.live ≡ is_live_after {T = Unit {0}} (Err e) → RefusesChains seed count w store e
-        → RefusesDrilled g told seed count one two (of_run e)
-    chains_refused run.DiskFault live refused = tt
-    chains_refused (run.Full what most limit) live refused = record {
-      world = store.world.world;
-      drills = of_some seed count store.world.world (subst (λ (x : World). SubmittedSome seed count x store.world.world) bare some);
-      journal = store.journal;
-      holds = λ t. holds_by g store one two made (stands live t);
-      refused = inl (
-        refused.chain,
-        refused.before,
-        subst (λ (x : World). Submitted seed refused.chain x store.world.world) bare refused.submitted,
-        refused.refused,
+-- what a store on disk one comes to by those that it leads to
+pub comes_to : {D : Type 0} (g : disk.Ghosts D) (told : Type 0) (old store : Store) (one two : D) → IsFirst old → IsFirst store → LeadsTo old store
+    → (told → StandsFor g store one two) → IsHeldAfter g told old one two store.world.world store.journal
+comes_to g told old store one two made still leads stands = record {
+  seen = λ t.
+      let s = stands t in
+      holds_of store (g.seen one) (g.seen two) still
+      (record { batches = batches_of (journal_of (g.seen (its store.place one two))); chooses = s.chooses; held = s.held; end = s.settled.stands.end });
+  beside = λ first second o.
+      let led = leads first second o in (
+        led.one_new,
+        subst (λ (rest : List ℕ). HoldsOnOne led.one_new rest store.world.world store.journal)
+            (subst (λ (p : Place). other p led.one_new led.two_new ≡ other p first second) made.0 led.rest)
+            (holds_of store led.one_new led.two_new still led.are),
       );
-    }
-    chains_refused run.OutOfMemory live refused = tt
+}
+
+-- what is answered once each process has ended
+abbrev pub IsDone : (Holds : World → Journal → Type 0) → (seed count : ℕ) → ℕ → Type 0
+IsDone Holds seed count batches = (w : World) × HasDrilled seed count w × (batches ≡ w.batches) × ((journal : Journal) × Holds w journal)
+
+-- a store is left, whose world is held so by its journal where it is live
+module _ (seed count : ℕ) (Holds : World → Journal → Type 0) (store : Store) (holds : store.live ≡ true → Holds store.world.world store.journal) where
+  -- the submissions broke off
+  pub chains_refused : (w : World) → w ≡ empty → SubmittedSome seed count w store.world.world → (e : RunError)
+      → store.live ≡ is_live_after {T = Unit {0}} (Err e) → RefusesChains seed count w store e → RefusesDrilled Holds seed count (of_run e)
+  chains_refused w bare some run.DiskFault live refused = tt
+  chains_refused w bare some (run.Full what most limit) live refused = record {
+    world = store.world.world;
+    drills = of_some seed count store.world.world (subst (λ (x : World). SubmittedSome seed count x store.world.world) bare some);
+    journal = store.journal;
+    holds = holds live;
+    refused = inl (
+      refused.chain,
+      refused.before,
+      subst (λ (x : World). Submitted seed refused.chain x store.world.world) bare refused.submitted,
+      refused.refused,
+    );
+  }
+  chains_refused w bare some run.OutOfMemory live refused = tt
 
   -- all were submitted, and turns were taken
-  module _ (told : Type 0) (begun : World) (submitted : Submitted seed count empty begun) (store : Store) (one two : D) (made : IsFirst store)
-      (takes : SomeTurns outside (turns_of count) begun store.world.world) (stands : store.live ≡ true → told → StandsFor g store one two) where
+  module _ (begun : World) (submitted : Submitted seed count empty begun) (takes : SomeTurns outside (turns_of count) begun store.world.world) where
     -- the run broke off
     pub run_refused : (e : RunError) → store.live ≡ is_live_after {T = Unit {0}} (Err e) → TakesFewer (turns_of count) begun store.world.world
-        → RefusesRun outside store e → RefusesDrilled g told seed count one two (of_run e)
+        → RefusesRun outside store e → RefusesDrilled Holds seed count (of_run e)
     run_refused run.DiskFault live fewer refused = tt
     run_refused (run.Full what most limit) live fewer refused = record {
       world = store.world.world;
       drills = of_turns seed count begun store.world.world submitted takes;
       journal = store.journal;
-      holds = λ t. holds_by g store one two made (stands live t);
+      holds = holds live;
       refused = inr (record { begun = begun; submitted = submitted; fewer = fewer; pid = refused.pid; refused = refused.refused });
     }
     run_refused run.OutOfMemory live fewer refused = tt
 
     -- the run came to an end
-    module _ (live : store.live ≡ true) where
-      holds : told → HoldsNow g one two store.world.world
-      holds t = (store.journal, holds_by g store one two made (stands live t))
+    pub run_done : store.live ≡ true → (e : RunEnd) (result : Result ℕ DrillError) → EndsSo (turns_of count) begun store.world.world e
+        → EndsDrill e store.world.world result → IfOk result (IsDone Holds seed count)
+    run_done live end.AllEnded result ends is =
+        subst (λ (r : Result ℕ DrillError). IfOk r (IsDone Holds seed count)) (sym is)
+        (store.world.world, record { begun = begun; submitted = submitted; takes = takes.0; ended = ends }, refl, (store.journal, holds live))
+    run_done live end.Spent result ends is = subst (λ (r : Result ℕ DrillError). IfOk r (IsDone Holds seed count)) (sym is) tt
+    run_done live end.Resting result ends is = subst (λ (r : Result ℕ DrillError). IfOk r (IsDone Holds seed count)) (sym is) tt
 
-      abbrev pub Done : ℕ → Type 0
-      Done batches = (w : World) × HasDrilled seed count w × (batches ≡ w.batches) × (told → HoldsNow g one two w)
-
-      pub run_done : (e : RunEnd) (result : Result ℕ DrillError) → EndsSo (turns_of count) begun store.world.world e → EndsDrill e store.world.world result
-          → IfOk result Done
-      run_done end.AllEnded result ends is =
-          subst (λ (r : Result ℕ DrillError). IfOk r Done) (sym is)
-          (store.world.world, record { begun = begun; submitted = submitted; takes = takes.0; ended = ends }, refl, holds)
-      run_done end.Spent result ends is = subst (λ (r : Result ℕ DrillError). IfOk r Done) (sym is) tt
-      run_done end.Resting result ends is = subst (λ (r : Result ℕ DrillError). IfOk r Done) (sym is) tt
-
-      pub run_ended : (e : RunEnd) (result : Result ℕ DrillError) → EndsSo (turns_of count) begun store.world.world e → EndsDrill e store.world.world result
-          → IfErr result (RefusesDrilled g told seed count one two)
-      run_ended end.AllEnded result ends is = subst (λ (r : Result ℕ DrillError). IfErr r (RefusesDrilled g told seed count one two)) (sym is) tt
-      run_ended end.Spent result ends is = subst (λ (r : Result ℕ DrillError). IfErr r (RefusesDrilled g told seed count one two)) (sym is)
-          (store.world.world, record { begun = begun; submitted = submitted; takes = ends.2; live = ends.0; goes = ends.1 }, holds)
-      run_ended end.Resting result ends is = subst (λ (r : Result ℕ DrillError). IfErr r (RefusesDrilled g told seed count one two)) (sym is)
-          (store.world.world, record { begun = begun; submitted = submitted; takes = takes.0; live = ends.0; held_up = ends.1 }, holds)
+    pub run_ended : store.live ≡ true → (e : RunEnd) (result : Result ℕ DrillError) → EndsSo (turns_of count) begun store.world.world e
+        → EndsDrill e store.world.world result → IfErr result (RefusesDrilled Holds seed count)
+    run_ended live end.AllEnded result ends is = subst (λ (r : Result ℕ DrillError). IfErr r (RefusesDrilled Holds seed count)) (sym is) tt
+    run_ended live end.Spent result ends is = subst (λ (r : Result ℕ DrillError). IfErr r (RefusesDrilled Holds seed count)) (sym is)
+        (store.world.world, record { begun = begun; submitted = submitted; takes = ends.2; live = ends.0; goes = ends.1 }, (store.journal, holds live))
+    run_ended live end.Resting result ends is = subst (λ (r : Result ℕ DrillError). IfErr r (RefusesDrilled Holds seed count)) (sym is)
+        (store.world.world, record { begun = begun; submitted = submitted; takes = takes.0; live = ends.0; held_up = ends.1 }, (store.journal, holds live))
 
 -- ---- what stands in the end
 

@@ -1,5 +1,5 @@
 -- A new store on which all chains were submitted, and then turns were taken.
-use Rattle.std.proofs.Common.{◌≡◌, ℕ, Bool, true, Result, Ok, Err, sym, subst, ◌∙◌}
+use Rattle.std.proofs.Common.{◌≡◌, ℕ, Bool, true, Result, Err, sym, subst, ◌∙◌}
 use Rattle.std.specs.Prelude.{IfErr, IfOk, IsTrue}
 use Rattle.wc_disk.specs.declared.disk.Disk as disk
 use Rattle.wc_world.specs.World.{World, empty}
@@ -8,17 +8,18 @@ use Rattle.wc_runner.specs.Refusals.{RefusesRun, is_live_after}
 use Rattle.wc_runner.specs.Refusals.{Counts as CountsRun}
 use Rattle.wc_runner.specs.declared.error.RunError.{RunError}
 use Rattle.wc_runner.specs.declared.runs.RunEnd.{RunEnd}
-use Rattle.wc_store.specs.Stores.{StandsFor}
+use Rattle.wc_store.specs.Stores.{LeadsTo, StandsFor}
 use Rattle.wc_store.specs.declared.place.Place.{Place}
 use Rattle.wc_store.specs.declared.place.Place.TheVariants.{One}
 use Rattle.wc_store.specs.declared.store.Store.{Store}
+use Rattle.wc_store.proofs.Led.{leads_on}
 use Rattle.wc_drill.specs.declared.error.DrillError.{DrillError}
-use Rattle.wc_drill.specs.Drilled.{Drills, HasDrilled, Submitted, outside, turns_of}
-use Rattle.wc_drill.specs.Leaves.{AreDurable, HoldsNow, IsBegun, IsFirst}
+use Rattle.wc_drill.specs.Drilled.{Drills, Submitted, outside, turns_of}
+use Rattle.wc_drill.specs.Leaves.{AreDurable, IsHeldAfter, IsBegun, IsFirst}
 use Rattle.wc_drill.specs.Refusals.{Counts, EndsDrill, RefusesChains, RefusesDrilled, of_run}
 use Rattle.wc_drill.specs.Runs.{EndsSo, TakesFewer}
 use Rattle.wc_drill.specs.Submissions.{SubmittedSome}
-use Rattle.wc_drill.proofs.Joined.{chains_leave, chains_refused, counts_broken, counts_ended, durable, live_begun, run_done, run_ended, run_leaves, run_refused}
+use Rattle.wc_drill.proofs.Joined.{IsDone, chains_leave, chains_refused, comes_to, counts_broken, counts_ended, durable, live_begun, run_done, run_ended, run_leaves, run_refused}
 
 -- a store is on the disk of another, in its generation and version
 abbrev IsPlacedAs : Store → Store → Type 0
@@ -42,11 +43,12 @@ module _ {D : Type 0} (g : disk.Ghosts D) (seed count : ℕ) (old : Store) (one 
 
   module _ (s : Store) (one_s two_s : D) (placed : IsPlacedAs old s) (e : RunError) (d : DrillError) (told_as : d ≡ of_run e) (live : s.live ≡ is_live_after {T = Unit {0}} (Err e))
       (still : s.live ≡ true → IsTrue (g.tells one) → IsTrue (g.tells two) → StandsFor g s one_s two_s) where
-    pub broken_refused : SubmittedSome seed count old.world.world s.world.world → RefusesChains seed count old.world.world s e
-        → RefusesDrilled g Told seed count one_s two_s d
-    broken_refused some refused =
-        subst (RefusesDrilled g Told seed count one_s two_s) (sym told_as)
-        (chains_refused g seed count Told old.world.world bare s one_s two_s (still_first old s made placed) some (λ l t. still l t.0 t.1) e live refused)
+    pub broken_refused : LeadsTo old s → SubmittedSome seed count old.world.world s.world.world → RefusesChains seed count old.world.world s e
+        → RefusesDrilled (IsHeldAfter g Told old one_s two_s) seed count d
+    broken_refused leads some refused =
+        subst (RefusesDrilled (IsHeldAfter g Told old one_s two_s) seed count) (sym told_as)
+        (chains_refused seed count (IsHeldAfter g Told old one_s two_s) s
+        (λ l. comes_to g Told old s one_s two_s made (still_first old s made placed) leads (λ t. still l t.0 t.1)) old.world.world bare some e live refused)
 
     pub broken_durable : IsBegun {T = ℕ} (Err d) → IsTrue (g.tells one) → IsTrue (g.tells two) → AreDurable g one_s two_s
     broken_durable begun told told_too =
@@ -84,6 +86,9 @@ module _ {D : Type 0} (g : disk.Ghosts D) (seed count : ℕ) (old : Store) (one 
     stands : s.live ≡ true → Told → StandsFor g s one_s two_s
     stands live told = still live (told_one told.0) (told_two told.1)
 
+    comes : LeadsTo old mid → LeadsTo mid s → s.live ≡ true → IsHeldAfter g Told old one_s two_s s.world.world s.journal
+    comes leads leads_then live = comes_to g Told old s one_s two_s made first (leads_on old mid s placed.0 leads leads_then) (stands live)
+
     counted : (T : Type 0) (r : Result T RunError) → CountsRun r (g.faults one_mid) (g.faults one_s) (g.faults two_mid) (g.faults two_s) (g.failed one_s) (g.failed two_s)
         → CountsRun r (g.faults one) (g.faults one_s) (g.faults two) (g.faults two_s) (g.failed one_s) (g.failed two_s)
     counted T r h =
@@ -104,10 +109,11 @@ module _ {D : Type 0} (g : disk.Ghosts D) (seed count : ℕ) (old : Store) (one 
 
     -- the run broke off
     module _ (e : RunError) (d : DrillError) (told_as : d ≡ of_run e) (live : s.live ≡ is_live_after {T = Unit {0}} (Err e)) where
-      pub stopped_refused : TakesFewer (turns_of count) mid.world.world s.world.world → RefusesRun outside s e → RefusesDrilled g Told seed count one_s two_s d
-      stopped_refused fewer refused =
-          subst (RefusesDrilled g Told seed count one_s two_s) (sym told_as)
-          (run_refused g seed count Told mid.world.world submitted s one_s two_s first takes stands e live fewer refused)
+      pub stopped_refused : LeadsTo old mid → LeadsTo mid s → TakesFewer (turns_of count) mid.world.world s.world.world → RefusesRun outside s e
+          → RefusesDrilled (IsHeldAfter g Told old one_s two_s) seed count d
+      stopped_refused leads leads_then fewer refused =
+          subst (RefusesDrilled (IsHeldAfter g Told old one_s two_s) seed count) (sym told_as)
+          (run_refused seed count (IsHeldAfter g Told old one_s two_s) s (comes leads leads_then) mid.world.world submitted takes e live fewer refused)
 
       pub stopped_durable : IsBegun {T = ℕ} (Err d) → IsTrue (g.tells one) → IsTrue (g.tells two) → AreDurable g one_s two_s
       stopped_durable begun told told_too =
@@ -122,17 +128,13 @@ module _ {D : Type 0} (g : disk.Ghosts D) (seed count : ℕ) (old : Store) (one 
     -- it came to its end
     module _ (live : s.live ≡ true) (end : RunEnd) (result : Result ℕ DrillError) (ends : EndsSo (turns_of count) mid.world.world s.world.world end)
         (is : EndsDrill end s.world.world result) where
-      pub ended_done : IfOk result (λ batches. (w : World) × HasDrilled seed count w × (batches ≡ w.batches)
-          × (IsTrue (g.tells one) → IsTrue (g.tells two) → HoldsNow g one_s two_s w))
-      ended_done = at result (run_done g seed count Told mid.world.world submitted s one_s two_s first takes stands live end result ends is)
-        where
-          at : (r : Result ℕ DrillError) → IfOk r (λ batches. (w : World) × HasDrilled seed count w × (batches ≡ w.batches) × (Told → HoldsNow g one_s two_s w))
-              → IfOk r (λ batches. (w : World) × HasDrilled seed count w × (batches ≡ w.batches) × (IsTrue (g.tells one) → IsTrue (g.tells two) → HoldsNow g one_s two_s w))
-          at (Ok batches) h = (h.0, h.1, h.2, λ told told_too. h.3 (told, told_too))
-          at (Err d) h = tt
+      pub ended_done : LeadsTo old mid → LeadsTo mid s → IfOk result (IsDone (IsHeldAfter g Told old one_s two_s) seed count)
+      ended_done leads leads_then =
+          run_done seed count (IsHeldAfter g Told old one_s two_s) s (comes leads leads_then) mid.world.world submitted takes live end result ends is
 
-      pub ended_refused : IfErr result (RefusesDrilled g Told seed count one_s two_s)
-      ended_refused = run_ended g seed count Told mid.world.world submitted s one_s two_s first takes stands live end result ends is
+      pub ended_refused : LeadsTo old mid → LeadsTo mid s → IfErr result (RefusesDrilled (IsHeldAfter g Told old one_s two_s) seed count)
+      ended_refused leads leads_then =
+          run_ended seed count (IsHeldAfter g Told old one_s two_s) s (comes leads leads_then) mid.world.world submitted takes live end result ends is
 
       pub ended_durable : IsTrue (g.tells one) → IsTrue (g.tells two) → AreDurable g one_s two_s
       ended_durable told told_too = durable g s one_s two_s (stands live (told, told_too))

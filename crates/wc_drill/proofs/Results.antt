@@ -1,5 +1,5 @@
 -- What is known of results.
-use Rattle.std.proofs.Common.{◌≡◌, Bool, Result, Ok, Err, refl, subst}
+use Rattle.std.proofs.Common.{Result, Ok, Err, refl}
 use Rattle.std.specs.Prelude.{IfErr, IfOk, OnErr, OnOk}
 use Rattle.wc_runner.specs.Refusals.{IsUnchanged}
 use Rattle.wc_runner.specs.declared.error.RunError.{RunError}
@@ -25,7 +25,3 @@ pub unchanged : {S : Type 0} (e : RunError) (s : S) → IsUnchanged {T = Unit {0
 unchanged DiskFault s = tt
 unchanged (Full what most limit) s = refl
 unchanged OutOfMemory s = refl
-
--- what is known where two disks tell is known where they told before
-pub as_told : (P : Bool → Bool → Type 0) (a b a_now b_now : Bool) → (a_now ≡ a) × (b_now ≡ b) → P a_now b_now → P a b
-as_told P a b a_now b_now same h = subst (λ (y : Bool). P a y) same.1 (subst (λ (x : Bool). P x b_now) same.0 h)

@@ -6,7 +6,8 @@ use Rattle.wc_disk.specs.Noise.{after_draws}
 use Rattle.wc_world.specs.World.{World}
 use Rattle.wc_store.specs.declared.place.Place.{Place}
 use Rattle.wc_store.specs.declared.store.Store.{Store}
-use Rattle.wc_store.specs.Stores.{StandsFor}
+use Rattle.wc_store.specs.Stores.{LeadsTo, StandsFor}
+use Rattle.wc_store.proofs.Led.{leads_on, leads_same}
 use Rattle.wc_runner.specs.declared.error.RunError.{RunError}
 use Rattle.wc_runner.specs.declared.error.RunError.TheVariants.{DiskFault, Full, OutOfMemory}
 use Rattle.wc_runner.specs.Leaves.{LeavesWorlds, of_world}
@@ -19,7 +20,7 @@ use Rattle.wc_drill.specs.Submissions.{IsOrSubmitted, RefusesChain, SubmittedSom
 use Rattle.wc_drill.proofs.Chains.{chain_by}
 
 -- So many chains are submitted of so many, from one store and its disks to others; the generator stands behind their draws, no disk has
--- failed, and the store stands for its disks.
+-- failed, the store stands for its disks, and the first store leads to it.
 pub record UnderWay {D : Type 0} (g : disk.Ghosts D) (seed count : ℕ) (old : Store) (one two : D) (n x : ℕ) (store : Store) (one_now two_now : D) : Type 0 where
   pub few : n ≤ count
   pub draws : x ≡ after_draws (2 * n) seed
@@ -29,6 +30,7 @@ pub record UnderWay {D : Type 0} (g : disk.Ghosts D) (seed count : ℕ) (old : S
   pub tells : (g.tells one_now ≡ g.tells one) × (g.tells two_now ≡ g.tells two)
   pub faults : (g.faults one_now ≡ g.faults one) × (g.faults two_now ≡ g.faults two)
   pub stands : IsTrue (g.tells one) → IsTrue (g.tells two) → StandsFor g store one_now two_now
+  pub images : LeadsTo old store
   pub any_moment : IsTrue (g.tells one) → IsTrue (g.tells two) → LeavesWorlds g old.place (SubmittedSome seed count old.world.world) one two one_now two_now
 
 -- one chain more
@@ -47,6 +49,7 @@ module _ {D : Type 0} (g : disk.Ghosts D) (seed count : ℕ) (old : Store) (one 
     tells = (refl, refl);
     faults = (refl, refl);
     stands = stands;
+    images = leads_same old;
     any_moment = λ first second.
         stands_leaves g old (of_world (SubmittedSome seed count old.world.world)) one two only_now (stands first second) (0, omega arith, none old.world.world);
   }
@@ -88,12 +91,12 @@ module _ {D : Type 0} (g : disk.Ghosts D) (seed count : ℕ) (old : Store) (one 
     stands_still chain told told_too = chain (told_one told) (told_two told_too)
 
     pub goes_on : (y : ℕ) → n < count → y ≡ after_draws (2 * (n + 1)) seed → IsSubmitted first second s.world.world v.world.world → v.live ≡ true
-        → (IsTrue (g.tells one_s) → IsTrue (g.tells two_s) → StandsFor g v one_v two_v)
+        → (IsTrue (g.tells one_s) → IsTrue (g.tells two_s) → StandsFor g v one_v two_v) → LeadsTo s v
         → (v.place ≡ s.place) × (v.journal.generation ≡ s.journal.generation) × (v.journal.version ≡ s.journal.version)
         → (IsTrue (g.tells one_s) → IsTrue (g.tells two_s) → LeavesWorlds g s.place (IsOrSubmitted first second s.world.world) one_s two_s one_v two_v)
         → (g.tells one_v ≡ g.tells one_s) × (g.tells two_v ≡ g.tells two_s) → (g.faults one_v ≡ g.faults one_s) × (g.faults two_v ≡ g.faults two_s)
         → UnderWay g seed count old one two (n + 1) y v one_v two_v
-    goes_on y less next more live stands placed leaves tells faults = record {
+    goes_on y less next more live stands leads placed leaves tells faults = record {
       few = omega (arith, less);
       draws = next;
       submitted = more_submitted v.world.world more;
@@ -102,6 +105,7 @@ module _ {D : Type 0} (g : disk.Ghosts D) (seed count : ℕ) (old : Store) (one 
       tells = (tells.0 ∙ u.tells.0, tells.1 ∙ u.tells.1);
       faults = (faults.0 ∙ u.faults.0, faults.1 ∙ u.faults.1);
       stands = stands_still stands;
+      images = leads_on old s v u.place.0 u.images leads;
       any_moment = leaves_more less leaves;
     }
 

@@ -1,5 +1,5 @@
 -- What a drill leaves on its disks.
-use Rattle.std.specs.Prelude.{◌≡◌, ◌⊎◌, ℕ, List, Result, Ok, Err}
+use Rattle.std.specs.Prelude.{◌≡◌, ◌⊎◌, ℕ, IsTrue, List, Result, Ok, Err}
 use Rattle.wc_disk.specs.declared.disk.Disk as disk
 use Rattle.wc_disk.specs.Steps.{Only}
 use Rattle.wc_journal.specs.Reading.{Placed, end_of}
@@ -8,7 +8,7 @@ use Rattle.wc_world.specs.World.{World}
 use Rattle.wc_store.specs.Choices.{chosen, on}
 use Rattle.wc_store.specs.Held.{IsHeld, nothing, a_world}
 use Rattle.wc_store.specs.Places.{number_of}
-use Rattle.wc_store.specs.Stores.{InOnePart, InTwoParts, AreImages}
+use Rattle.wc_store.specs.Stores.{InOnePart, InTwoParts, AreImages, IsOfImages}
 use Rattle.wc_store.specs.declared.place.Place.TheVariants.{One}
 use Rattle.wc_store.specs.declared.store.Store.{Store}
 use Rattle.wc_drill.specs.declared.error.DrillError.{DrillError}
@@ -39,20 +39,31 @@ pub record AreDurable {D : Type 0} (g : disk.Ghosts D) (one two : D) : Type 0 wh
 abbrev pub IsFirst : Store → Type 0
 IsFirst store = (store.place ≡ One) × (store.journal.generation ≡ 1) × (store.journal.version ≡ 2)
 
--- Nothing is pending on either disk, and they hold this world, by this journal on disk one, which is of generation 1 and version 2.
-pub record HoldsOnOne {D : Type 0} (g : disk.Ghosts D) (one two : D) (w : World) (journal : Journal) : Type 0 where
-  pub durable_one : Only (g.seen one) (g.may_leave one)
-  pub durable_two : Only (g.seen two) (g.may_leave two)
-  pub held : IsHeld (g.seen one) (g.seen two) (a_world w)
+-- The two images hold this world, by this journal on disk one, which is of generation 1 and version 2.
+pub record HoldsOnOne (one two : List ℕ) (w : World) (journal : Journal) : Type 0 where
+  pub held : IsHeld one two (a_world w)
   pub batches : Placed
-  pub chooses : chosen (g.seen one) (g.seen two) ≡ on (number_of One) journal.version journal.generation batches
+  pub chooses : chosen one two ≡ on (number_of One) journal.version journal.generation batches
   pub end : journal.end ≡ end_of batches
   pub generation : journal.generation ≡ 1
   pub version : journal.version ≡ 2
 
--- by some such journal
-abbrev pub HoldsNow : {D : Type 0} → disk.Ghosts D → (one two : D) → World → Type 0
-HoldsNow g one two w = (journal : Journal) × HoldsOnOne g one two w journal
+-- The disks read as two images that hold this world so, where they tell their bytes; and whatever two images hold the store, with another image of
+-- disk one they do.
+pub record IsHeldAfter {D : Type 0} (g : disk.Ghosts D) (told : Type 0) (store : Store) (one_new two_new : D) (w : World) (journal : Journal) : Type 0 where
+  pub seen : told → HoldsOnOne (g.seen one_new) (g.seen two_new) w journal
+  pub beside : (one two : List ℕ) → IsOfImages store one two → (made : List ℕ) × HoldsOnOne made two w journal
+
+-- Two images hold nothing, and with another image of disk one they hold this world so: those that the disks read as at entry and at exit, where
+-- they tell their bytes.
+pub record IsFilled {D : Type 0} (g : disk.Ghosts D) (one two one_new two_new : D) (w : World) (journal : Journal) : Type 0 where
+  pub first : List ℕ
+  pub second : List ℕ
+  pub made : List ℕ
+  pub told : IsTrue (g.tells one) → IsTrue (g.tells two) → (first ≡ g.seen one) × (second ≡ g.seen two)
+  pub told_new : IsTrue (g.tells one) → IsTrue (g.tells two) → (made ≡ g.seen one_new) × (second ≡ g.seen two_new)
+  pub bare : IsHeld first second nothing
+  pub holds : HoldsOnOne made second w journal
 
 -- a store was made
 abbrev pub IsBegun : {T : Type 0} → Result T DrillError → Type 0

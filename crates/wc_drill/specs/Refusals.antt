@@ -5,8 +5,9 @@ use Rattle.wc_disk.specs.declared.disk.Disk as disk
 use Rattle.wc_journal.specs.declared.journal.Journal.{Journal}
 use Rattle.wc_world.specs.World.{World, empty}
 use Rattle.wc_core.specs.Standing.{is_any_live, is_resting}
-use Rattle.wc_store.specs.Held.{IsHeld, damage, a_world}
+use Rattle.wc_store.specs.Held.{IsHeld, damage}
 use Rattle.wc_store.specs.Sights.{OfImages}
+use Rattle.wc_store.specs.Stores.{HoldsAWorld}
 use Rattle.wc_store.specs.declared.store.Store.{Store}
 use Rattle.wc_store.specs.declared.error.StoreError.{StoreError}
 use Rattle.wc_store.specs.declared.error.StoreError.TheVariants as store_error
@@ -20,7 +21,7 @@ use Rattle.wc_drill.specs.Draws.{first_number, second_number}
 use Rattle.wc_drill.specs.declared.error.DrillError.{DrillError}
 use Rattle.wc_drill.specs.declared.error.DrillError.TheVariants.{DiskFault, Damaged, Full, AlreadyThere, Spent, Resting, OutOfMemory}
 use Rattle.wc_drill.specs.Drilled.{Submitted, Drills, outside, turns_of}
-use Rattle.wc_drill.specs.Leaves.{HoldsOnOne, HoldsNow}
+use Rattle.wc_drill.specs.Leaves.{IsFilled}
 use Rattle.wc_drill.specs.Runs.{TakesFewer, TakesJust}
 use Rattle.wc_drill.specs.Submissions.{RefusesChain}
 
@@ -77,12 +78,12 @@ IsTooFullFor seed count journal w e =
     ((chain : ℕ) × (chain < count) × Submitted seed chain empty w × RefusesChain (first_number chain seed) (second_number chain seed) journal w e)
     ⊎ IsFullAtTurn seed count journal w e
 
--- The disks hold a world that the drill makes, and which is too full for what comes next, by the journal that keeps it.
-pub record IsDrillFull {D : Type 0} (g : disk.Ghosts D) (told : Type 0) (seed count : ℕ) (one two : D) (e : RunError) : Type 0 where
+-- A world that the drill makes is too full for what comes next, by the journal that keeps it.
+pub record IsDrillFull (Holds : World → Journal → Type 0) (seed count : ℕ) (e : RunError) : Type 0 where
   pub world : World
   pub drills : Drills seed count world
   pub journal : Journal
-  pub holds : told → HoldsOnOne g one two world journal
+  pub holds : Holds world journal
   pub refused : IsTooFullFor seed count journal world e
 
 -- ---- a run that doesn't come to its end
@@ -105,26 +106,22 @@ pub record IsHeldUp (seed count : ℕ) (v : World) : Type 0 where
 
 -- ---- all of them
 
--- of a store that was made
-abbrev pub RefusesDrilled : {D : Type 0} → disk.Ghosts D → Type 0 → (seed count : ℕ) → (one_new two_new : D) → DrillError → Type 0
-RefusesDrilled g told seed count one_new two_new DiskFault = Unit {0}
-RefusesDrilled g told seed count one_new two_new (Damaged number at found) = ⊥
-RefusesDrilled g told seed count one_new two_new (Full what many limit) = IsDrillFull g told seed count one_new two_new (run.Full what many limit)
-RefusesDrilled g told seed count one_new two_new AlreadyThere = ⊥
-RefusesDrilled g told seed count one_new two_new Spent = (v : World) × IsSpent seed count v × (told → HoldsNow g one_new two_new v)
-RefusesDrilled g told seed count one_new two_new Resting = (v : World) × IsHeldUp seed count v × (told → HoldsNow g one_new two_new v)
-RefusesDrilled g told seed count one_new two_new OutOfMemory = Unit {0}
+-- of a store that was made, with how a world is held by a journal. Faults and want of memory may come at any time.
+abbrev pub RefusesDrilled : (Holds : World → Journal → Type 0) → (seed count : ℕ) → DrillError → Type 0
+RefusesDrilled Holds seed count DiskFault = Unit {0}
+RefusesDrilled Holds seed count (Damaged number at found) = ⊥
+RefusesDrilled Holds seed count (Full what many limit) = IsDrillFull Holds seed count (run.Full what many limit)
+RefusesDrilled Holds seed count AlreadyThere = ⊥
+RefusesDrilled Holds seed count Spent = (v : World) × IsSpent seed count v × ((journal : Journal) × Holds v journal)
+RefusesDrilled Holds seed count Resting = (v : World) × IsHeldUp seed count v × ((journal : Journal) × Holds v journal)
+RefusesDrilled Holds seed count OutOfMemory = Unit {0}
 
--- Where the disks tell their bytes, a store that is there holds a world. Damage is what some two images hold: those that the disks read as, where
--- they tell their bytes. Faults and want of memory may come at any time.
-abbrev pub RefusesDrill : {D : Type 0} → disk.Ghosts D → Type 0 → (seed count : ℕ) → (one two one_new two_new : D) → DrillError → Type 0
-RefusesDrill g told seed count one two one_new two_new DiskFault = Unit {0}
-RefusesDrill g told seed count one two one_new two_new (Damaged number at found) = OfImages g one two (λ a b. IsHeld a b (damage number at found))
-RefusesDrill g told seed count one two one_new two_new (Full what many limit) = IsDrillFull g told seed count one_new two_new (run.Full what many limit)
-RefusesDrill g told seed count one two one_new two_new AlreadyThere = told → (w : World) × IsHeld (g.seen one) (g.seen two) (a_world w)
-RefusesDrill g told seed count one two one_new two_new Spent = (v : World) × IsSpent seed count v × (told → HoldsNow g one_new two_new v)
-RefusesDrill g told seed count one two one_new two_new Resting = (v : World) × IsHeldUp seed count v × (told → HoldsNow g one_new two_new v)
-RefusesDrill g told seed count one two one_new two_new OutOfMemory = Unit {0}
+-- Damage is what some two images hold, and a store is there in some two: those that the disks read as, where they tell their bytes. Else a store was
+-- made.
+abbrev pub RefusesDrill : {D : Type 0} → disk.Ghosts D → (seed count : ℕ) → (one two one_new two_new : D) → DrillError → Type 0
+RefusesDrill g seed count one two one_new two_new (Damaged number at found) = OfImages g one two (λ a b. IsHeld a b (damage number at found))
+RefusesDrill g seed count one two one_new two_new AlreadyThere = OfImages g one two HoldsAWorld
+RefusesDrill g seed count one two one_new two_new e = RefusesDrilled (IsFilled g one two one_new two_new) seed count e
 
 -- `DiskFault` comes only where the count of one of the disks rose by one, its last call failed and the other count stayed,
 -- and each other answer leaves both counts

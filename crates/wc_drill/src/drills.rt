@@ -4,14 +4,15 @@ ghost use Rattle.std.specs.Prelude.{◌≡◌, ◌≤◌, true, IsTrue, IfOk, If
 ghost use Rattle.wc_world.specs.World.{World as AWorld, empty};
 ghost use Rattle.wc_disk.specs.Images.{LeavesOnly};
 ghost use Rattle.wc_store.specs.Held.{IsHeld, nothing};
-ghost use Rattle.wc_store.specs.Stores.{StandsFor};
+ghost use Rattle.wc_journal.specs.declared.journal.Journal.{Journal as AJournal};
+ghost use Rattle.wc_store.specs.Stores.{LeadsTo, StandsFor};
 ghost use Rattle.wc_store.specs.declared.place.Place.TheVariants.{One};
 ghost use Rattle.wc_runner.specs.Leaves.{LeavesWorlds, SomeTurns};
 ghost use Rattle.wc_runner.specs.Refusals.{Counts as CountsRun, RefusesRun, is_live_after};
 ghost use Rattle.wc_drill.specs.Library.{library};
 ghost use Rattle.wc_drill.specs.Squares.{square_rows};
 ghost use Rattle.wc_drill.specs.Drilled.{Drills, HasDrilled, outside, turns_of};
-ghost use Rattle.wc_drill.specs.Leaves.{AreDurable, DrilledBeside, DrilledOr, HoldsNow, IsBegun, IsFirst, RefusedLeaves};
+ghost use Rattle.wc_drill.specs.Leaves.{AreDurable, DrilledBeside, DrilledOr, IsBegun, IsFilled, IsFirst, IsHeldAfter, RefusedLeaves};
 ghost use Rattle.wc_drill.specs.Refusals.{Counts, EndsDrill, IsOfInit, RefusesDrill, RefusesDrilled, of_init};
 ghost use Rattle.wc_drill.specs.Runs.{EndsSo, TakesFewer};
 
@@ -72,6 +73,7 @@ fn run_all<D: Disk>(
     ensures live { store.new.live ≡ is_live_after result }
     ensures refused { IfErr result (RefusesRun outside store.new) }
     ensures still { store.new.live ≡ true → IsTrue (D.tells one.old) → IsTrue (D.tells two.old) → StandsFor D.Disk store.new one.new two.new }
+    ensures images { LeadsTo store.old store.new }
     ensures place { (store.new.place ≡ store.old.place) × (store.new.journal.generation ≡ store.old.journal.generation) × (store.new.journal.version ≡ store.old.journal.version) }
     ensures any_moment { IsTrue (D.tells one.old) → IsTrue (D.tells two.old)
         → LeavesWorlds D.Disk store.old.place (SomeTurns outside (turns_of count) store.old.world.world) one.old two.old one.new two.new }
@@ -103,8 +105,8 @@ fn drilled<D: Disk>(
     requires made { IsFirst store }
     requires stands { IsTrue (D.tells one.old) → IsTrue (D.tells two.old) → StandsFor D.Disk store one.old two.old }
     ensures done { IfOk result (λ batches. (w : AWorld) × HasDrilled seed count w × (batches ≡ w.batches)
-        × (IsTrue (D.tells one.old) → IsTrue (D.tells two.old) → HoldsNow D.Disk one.new two.new w)) }
-    ensures refused { IfErr result (RefusesDrilled D.Disk (IsTrue (D.tells one.old) × IsTrue (D.tells two.old)) seed count one.new two.new) }
+        × ((journal : AJournal) × IsHeldAfter D.Disk (IsTrue (D.tells one.old) × IsTrue (D.tells two.old)) store one.new two.new w journal)) }
+    ensures refused { IfErr result (RefusesDrilled (IsHeldAfter D.Disk (IsTrue (D.tells one.old) × IsTrue (D.tells two.old)) store one.new two.new) seed count) }
     ensures durable { IsBegun result → IsTrue (D.tells one.old) → IsTrue (D.tells two.old) → AreDurable D.Disk one.new two.new }
     ensures any_moment { IsTrue (D.tells one.old) → IsTrue (D.tells two.old) → LeavesWorlds D.Disk One (Drills seed count) one.old two.old one.new two.new }
     ensures tells { (D.tells one.new ≡ D.tells one.old) × (D.tells two.new ≡ D.tells two.old) }
@@ -131,9 +133,9 @@ pub fn drill<D: Disk>(
 ) -> Result<u32, DrillError>
     requires few { count ≤ 10000 }
     ensures done { IfOk result (λ batches. (w : AWorld) × HasDrilled seed count w × (batches ≡ w.batches)
-        × (IsTrue (D.tells one.old) → IsTrue (D.tells two.old) → HoldsNow D.Disk one.new two.new w)) }
+        × ((journal : AJournal) × IsFilled D.Disk one.old two.old one.new two.new w journal)) }
     ensures nothing { IsBegun result → IsTrue (D.tells one.old) → IsTrue (D.tells two.old) → IsHeld (D.seen one.old) (D.seen two.old) nothing }
-    ensures refused { IfErr result (RefusesDrill D.Disk (IsTrue (D.tells one.old) × IsTrue (D.tells two.old)) seed count one.old two.old one.new two.new) }
+    ensures refused { IfErr result (RefusesDrill D.Disk seed count one.old two.old one.new two.new) }
     ensures durable { IsBegun result → IsTrue (D.tells one.old) → IsTrue (D.tells two.old) → AreDurable D.Disk one.new two.new }
     ensures unbegun { IsTrue (D.tells one.old) → IsTrue (D.tells two.old) → RefusedLeaves D.Disk result one.old two.old one.new two.new }
     ensures seen_two { IsTrue (D.tells one.old) → IsTrue (D.tells two.old) → D.seen two.new ≡ D.seen two.old }

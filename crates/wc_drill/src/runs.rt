@@ -1,7 +1,7 @@
 //! The run of a drill.
 
 ghost use Rattle.std.specs.Prelude.{◌≡◌, Some, true, IsTrue, IfOk, IfErr, OnErr};
-ghost use Rattle.wc_store.specs.Stores.{StandsFor};
+ghost use Rattle.wc_store.specs.Stores.{LeadsTo, StandsFor};
 ghost use Rattle.wc_runner.specs.Leaves.{LeavesWorlds, SomeTurns};
 ghost use Rattle.wc_runner.specs.Refusals.{Counts, RefusesRun, is_live_after};
 ghost use Rattle.wc_drill.specs.Squares.{square_rows};
@@ -35,6 +35,7 @@ pub(crate) fn run_chains<D: Disk, T: Transport, P: Pacer>(
     ensures live { store.new.live ≡ is_live_after result }
     ensures refused { IfErr result (RefusesRun outside store.new) }
     ensures still { store.new.live ≡ true → IsTrue (D.tells one.old) → IsTrue (D.tells two.old) → StandsFor D.Disk store.new one.new two.new }
+    ensures images { LeadsTo store.old store.new }
     ensures place { (store.new.place ≡ store.old.place) × (store.new.journal.generation ≡ store.old.journal.generation) × (store.new.journal.version ≡ store.old.journal.version) }
     // At each moment the disks hold what at most as many turns and rests as are given make.
     ensures any_moment { IsTrue (D.tells one.old) → IsTrue (D.tells two.old)

@@ -5,7 +5,7 @@ ghost use Rattle.wc_state.specs.Ranges.{AreLimits};
 ghost use Rattle.wc_world.specs.Accepted.{IsAccepted};
 ghost use Rattle.wc_world.specs.Applied.{applied};
 ghost use Rattle.wc_store.specs.Held.{is_plain};
-ghost use Rattle.wc_store.specs.Stores.{CommitLeaves, StandsFor};
+ghost use Rattle.wc_store.specs.Stores.{CommitLeaves, LeadsTo, StandsFor};
 ghost use Rattle.wc_runner.specs.Leaves.{LeavesWorlds};
 ghost use Rattle.wc_runner.specs.Refusals.{Counts, IsUnchanged, RefusesStored, is_live_after};
 ghost use Rattle.wc_runner.specs.Turns.{IsOfCommit, IsRoomOrMemory, of_store, of_turn};
@@ -113,6 +113,7 @@ fn committed<D: Disk>(
     ensures untouched_one { IsUnchanged result one.old one.new }
     ensures untouched_two { IsUnchanged result two.old two.new }
     ensures still { store.new.live ≡ true → IsTrue (D.tells one.old) → IsTrue (D.tells two.old) → StandsFor D.Disk store.new one.new two.new }
+    ensures images { LeadsTo store.old store.new }
     ensures place { (store.new.place ≡ store.old.place) × (store.new.journal.generation ≡ store.old.journal.generation) × (store.new.journal.version ≡ store.old.journal.version) }
     ensures any_moment { IsTrue (D.tells one.old) → IsTrue (D.tells two.old)
         → CommitLeaves D.Disk store.old usual_limits changes one.old two.old one.new two.new }
@@ -147,6 +148,7 @@ fn submit_chain<D: Disk>(
     ensures untouched_one { IsUnchanged result one.old one.new }
     ensures untouched_two { IsUnchanged result two.old two.new }
     ensures still { store.new.live ≡ true → IsTrue (D.tells one.old) → IsTrue (D.tells two.old) → StandsFor D.Disk store.new one.new two.new }
+    ensures images { LeadsTo store.old store.new }
     ensures place { (store.new.place ≡ store.old.place) × (store.new.journal.generation ≡ store.old.journal.generation) × (store.new.journal.version ≡ store.old.journal.version) }
     // At each moment the disks hold the world before or the one after.
     ensures any_moment { IsTrue (D.tells one.old) → IsTrue (D.tells two.old)
@@ -178,6 +180,7 @@ pub(crate) fn submit_chains<D: Disk>(
     ensures live { store.new.live ≡ is_live_after result }
     ensures refused { IfErr result (RefusesChains seed count store.old.world.world store.new) }
     ensures still { store.new.live ≡ true → IsTrue (D.tells one.old) → IsTrue (D.tells two.old) → StandsFor D.Disk store.new one.new two.new }
+    ensures images { LeadsTo store.old store.new }
     ensures place { (store.new.place ≡ store.old.place) × (store.new.journal.generation ≡ store.old.journal.generation) × (store.new.journal.version ≡ store.old.journal.version) }
     // At each moment the disks hold what the first submissions make.
     ensures any_moment { IsTrue (D.tells one.old) → IsTrue (D.tells two.old)

@@ -1,5 +1,5 @@
 -- The exit codes that turns in a sound world bring are those of results that were brought.
-use Rattle.std.proofs.Common.{◌≡◌, ◌≢◌, ◌⊎◌, inl, inr, ⊎_elim, ℕ, ℤ, ◌+◌, Bool, true, false, List, [], ◌∷◌, Option, Some, None, refl, sym, ap, subst, ◌∙◌, arith}
+use Rattle.std.proofs.Common.{◌≡◌, ◌≢◌, ◌⊎◌, inl, inr, ⊎_elim, ℕ, ℤ, ◌+◌, Bool, true, false, List, [], Option, Some, None, refl, sym, ap, subst, ◌∙◌, arith}
 use Rattle.std.specs.Prelude.{◌==◌, IfSome, codes, option_map, option_and_then}
 use Rattle.std.proofs.lemmas.Bool.{cases_eq, cond-false, ne_eqb}
 use Rattle.wc_value.specs.Ascending.{lookup}
@@ -7,7 +7,7 @@ use Rattle.wc_value.specs.Spelling.{depth}
 use Rattle.wc_value.specs.declared.process.JobResult.{JobResult}
 use Rattle.wc_value.specs.declared.process.ProcessState.TheVariants as state
 use Rattle.wc_value.specs.declared.process.Request.{Request}
-use Rattle.wc_value.specs.declared.value.Value.{Value, out-Value, out-roll-Value}
+use Rattle.wc_value.specs.declared.value.Value.{out-Value, out-roll-Value}
 use Rattle.wc_value.specs.declared.value.Value.TheOpen.{Value-F}
 use Rattle.wc_value.specs.declared.value.Value.TheVariants as value
 use Rattle.wc_value.specs.declared.value.Value.TheVariants.{rolls-Folder}
@@ -33,7 +33,6 @@ use Rattle.wc_records.specs.declared.change.NewProcess.{NewProcess}
 use Rattle.wc_records.specs.declared.change.SetProcess.{SetProcess}
 use Rattle.wc_world.specs.declared.change.Change.{Change}
 use Rattle.wc_world.specs.World.{Known, World}
-use Rattle.wc_world.specs.Accepted.{IsReached}
 use Rattle.wc_world.specs.Applied.{applied, begun, keep, made, set}
 use Rattle.wc_world.specs.Consistent.{Stands}
 use Rattle.wc_world.specs.Fits.{is_of_kind, part_fits}

@@ -16,7 +16,7 @@ use Rattle.wc_store.specs.Choices.{Choice, chosen}
 use Rattle.wc_store.specs.Places.{its}
 use Rattle.wc_store.specs.Held.{Standing, a_world, IsHeld}
 use Rattle.wc_store.specs.Stores.{other, ChoosesAs, HoldsAs, HoldsBy, HoldsEither, IsLonger, StandsFor, CommitLeaves}
-use Rattle.wc_runner.specs.Leaves.{HoldsSome, LeavesHeld, LeavesNow, IsTurnWithin, IsOrTurnOf, of_world}
+use Rattle.wc_runner.specs.Leaves.{HoldsSome, LeavesHeld, LeavesNow, IsOrTurnOf, of_world}
 use Rattle.wc_runner.specs.Outside.{Outside}
 use Rattle.wc_runner.specs.Runs.{FitsIn, TakesWithin}
 use Rattle.wc_runner.specs.Trips.{Turns, one_more}

@@ -1,5 +1,5 @@
 -- Where nothing failed, no process gets a pause mark and none has failed more often.
-use Rattle.std.proofs.Common.{◌≡◌, ℕ, ◌+◌, Bool, true, false, List, [], ◌∷◌, Option, Some, None, refl, sym, subst, ◌∙◌, arith}
+use Rattle.std.proofs.Common.{◌≡◌, ℕ, ◌+◌, true, false, List, [], Option, Some, None, refl, sym, subst, ◌∙◌, arith}
 use Rattle.std.specs.Prelude.{IfSome}
 use Rattle.wc_semantics.specs.Outcomes.{excepted, calculated, parsed}
 use Rattle.wc_state.specs.declared.record.JobPart.{JobPart}

@@ -1,5 +1,5 @@
 -- A run under way, a trail to where it is, and what it left on the disks at each moment.
-use Rattle.std.proofs.Common.{◌≡◌, inl, inr, ℕ, ◌+◌, ◌<◌, Bool, List, Ok, Err, refl, sym, subst, arith}
+use Rattle.std.proofs.Common.{inl, inr, ℕ, ◌+◌, ◌<◌, Bool, List, Ok, Err, refl, sym, subst, arith}
 use Rattle.std.specs.Prelude.{IsTrue}
 use Rattle.wc_io.specs.declared.pacer.Pacer as pacer
 use Rattle.wc_disk.specs.declared.disk.Disk as disk
@@ -11,7 +11,7 @@ use Rattle.wc_world.specs.World.{World}
 use Rattle.wc_machine.specs.Asking.{Need, nothing, performs}
 use Rattle.wc_store.specs.declared.place.Place.{Place}
 use Rattle.wc_store.specs.declared.store.Store.{Store}
-use Rattle.wc_store.specs.Stores.{StandsFor}
+use Rattle.wc_store.specs.Stores.{LeadsTo, StandsFor}
 use Rattle.wc_runner.specs.Asked.{AsksOnce, IsAsked, WhatItNeeds}
 use Rattle.wc_runner.specs.Leaves.{IsOrTurnOf, LeavesHeld}
 use Rattle.wc_runner.specs.Outside.{in_turn}
@@ -29,6 +29,7 @@ pub record OnTrail {D T P : Type 0} (g : disk.Ghosts D) (h : transport.Ghosts T)
   pub under : UnderWay g h k limits most old one two tr pa taken store one_now two_now tr_now pa_now
   pub goes : Goes h k limits taken tr pa old.world.world tr_now pa_now store.world.world
   pub moments : IsTrue (g.tells one) → IsTrue (g.tells two) → LeavesHeld g old.place (IsLedTo h k limits most tr pa old.world.world) one two one_now two_now
+  pub images : LeadsTo old store
 
 -- a turn that is refused otherwise than for want of memory has asked as one that is taken
 as_taken : {T : Type 0} (asked : T → ℕ) (old new : T) (n : Need) → AsksOnce {A = Unit {0}} (Err DiskFault) asked old new n → AsksOnce {A = Unit {0}} (Ok tt) asked old new n

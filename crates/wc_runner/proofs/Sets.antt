@@ -21,7 +21,6 @@ use Rattle.wc_world.specs.World.{World}
 use Rattle.wc_world.specs.Applied.{after_change, changed, keep, made, next_number, set}
 use Rattle.wc_world.specs.Records.{find_record}
 use Rattle.wc_world.proofs.ReachedLists.{at_one, at_one_keeps, find_mapped}
-use Rattle.wc_machine.specs.declared.answer.TaskAnswer.{TaskAnswer}
 use Rattle.wc_machine.specs.Advancing.{Advanced, goes, loops, submits, ends}
 use Rattle.wc_machine.specs.Calling.{Arguments, advanced, argument_links, called_number, calls_changes, call_changes, chain_set, kept_outputs, plain_data, returns}
 use Rattle.wc_machine.specs.Ending as ending

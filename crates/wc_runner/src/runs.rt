@@ -3,7 +3,7 @@
 ghost use Rattle.std.specs.Prelude.{◌≡◌, ◌<◌, ◌≤◌, ◌+◌, ◌^◌, true, IsTrue, IfOk, IfErr, OnErr};
 ghost use Rattle.wc_io.specs.Counts.{Rises};
 ghost use Rattle.wc_state.specs.Ranges.{AreLimits};
-ghost use Rattle.wc_store.specs.Stores.{StandsFor};
+ghost use Rattle.wc_store.specs.Stores.{LeadsTo, StandsFor};
 ghost use Rattle.wc_runner.specs.Asked.{AreOfProcesses, IsAskedFor};
 ghost use Rattle.wc_runner.specs.Leaves.{LeavesHeld, LeavesNow};
 ghost use Rattle.wc_world.specs.Accepted.{IsReached};
@@ -66,6 +66,8 @@ pub fn run<D: Disk, T: Transport, P: Pacer>(
     // Full is told of the store that is left, by its own journal.
     ensures refused { IfErr result (RefusesRun (in_run T.Transport P.Pacer limits.now transport.old transport.new pacer.new) store.new) }
     ensures still { store.new.live ≡ true → IsTrue (D.tells one.old) → IsTrue (D.tells two.old) → StandsFor D.Disk store.new one.new two.new }
+    // Whatever two images hold the store in the beginning, some two hold the one that is left, with the same image of the other disk.
+    ensures images { LeadsTo store.old store.new }
     ensures place { (store.new.place ≡ store.old.place) × (store.new.journal.generation ≡ store.old.journal.generation) × (store.new.journal.version ≡ store.old.journal.version) }
     // At each moment the disks hold what at most as many turns and rests as are given make, within the limits of nodes and of bytes.
     ensures any_moment { IsTrue (D.tells one.old) → IsTrue (D.tells two.old)

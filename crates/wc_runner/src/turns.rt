@@ -7,7 +7,7 @@ ghost use Rattle.wc_core.specs.Ready.{is_ready_at};
 ghost use Rattle.wc_core.specs.Asks.{FitsAt};
 ghost use Rattle.wc_store.specs.Refusals.{byte_limit};
 ghost use Rattle.wc_store.specs.Held.{is_plain};
-ghost use Rattle.wc_store.specs.Stores.{CommitLeaves, StandsFor};
+ghost use Rattle.wc_store.specs.Stores.{CommitLeaves, LeadsTo, StandsFor};
 ghost use Rattle.wc_world.specs.Accepted.{IsAccepted};
 ghost use Rattle.wc_world.specs.Applied.{applied};
 ghost use Rattle.wc_runner.specs.Asked.{AreOfProcesses, AsksOnce, IsAsked, WhatItNeeds};
@@ -150,6 +150,7 @@ fn committed<D: Disk>(
     ensures untouched_one { IsUnchanged result one.old one.new }
     ensures untouched_two { IsUnchanged result two.old two.new }
     ensures still { store.new.live ≡ true → IsTrue (D.tells one.old) → IsTrue (D.tells two.old) → StandsFor D.Disk store.new one.new two.new }
+    ensures images { LeadsTo store.old store.new }
     ensures place { (store.new.place ≡ store.old.place) × (store.new.journal.generation ≡ store.old.journal.generation) × (store.new.journal.version ≡ store.old.journal.version) }
     ensures any_moment { IsTrue (D.tells one.old) → IsTrue (D.tells two.old)
         → CommitLeaves D.Disk store.old limits.now changes one.old two.old one.new two.new }
@@ -188,6 +189,7 @@ pub fn turn_one<D: Disk, T: Transport>(
     ensures untouched_one { IsUnchanged result one.old one.new }
     ensures untouched_two { IsUnchanged result two.old two.new }
     ensures still { store.new.live ≡ true → IsTrue (D.tells one.old) → IsTrue (D.tells two.old) → StandsFor D.Disk store.new one.new two.new }
+    ensures images { LeadsTo store.old store.new }
     ensures place { (store.new.place ≡ store.old.place) × (store.new.journal.generation ≡ store.old.journal.generation) × (store.new.journal.version ≡ store.old.journal.version) }
     // At each moment the disks hold the world before or the one after, each by its journal.
     ensures any_moment { IsTrue (D.tells one.old) → IsTrue (D.tells two.old)

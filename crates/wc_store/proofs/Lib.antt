@@ -15,6 +15,7 @@ mod Counted
 mod Placed
 mod Committed
 mod Imaged
+pub mod Led
 pub mod Parts
 mod Reached
 mod Deciding

@@ -17,7 +17,7 @@ use Rattle.wc_store.specs.Choices.{Choice, no_store, broken, on, is_nil, found_a
 use Rattle.wc_store.specs.Held.{a_world, nothing, PlaysChoice, IsHeld}
 use Rattle.wc_store.specs.Opened.{Opens, IsOpenedOf}
 use Rattle.wc_store.specs.Sights.{OfImages}
-use Rattle.wc_store.specs.Stores.{StandsFor, IsLoadedOf, InTwoParts, BeginsFrom}
+use Rattle.wc_store.specs.Stores.{StandsFor, HoldsAWorld, IsLoadedOf, InTwoParts, BeginsFrom}
 use Rattle.wc_store.proofs.Chosen.{IsBefore, keeps_chosen, keeps_held}
 use Rattle.wc_store.proofs.Looking.{bare_shown}
 use Rattle.wc_store.proofs.Opened.{stands, opens_none, images_as}
@@ -81,7 +81,7 @@ second_short : (one two : List ℕ) → chosen one two ≡ no_store → length t
 unfolding chosen
 second_short one two none = second_short_of one two (journal_in one) (journal_in two) none
 
-holds_nothing : (one two : List ℕ) → chosen one two ≡ no_store → IsHeld one two nothing
+pub holds_nothing : (one two : List ℕ) → chosen one two ≡ no_store → IsHeld one two nothing
 holds_nothing one two none = subst (λ (c : Choice). PlaysChoice one two c nothing) (sym none) refl
 
 -- ---- the images while a store is made
@@ -148,3 +148,8 @@ pub none_opened : {D : Type 0} (g : disk.Ghosts D) (one two : D) (found : Option
     → OfImages g one two (λ a b. chosen a b ≡ no_store)
 none_opened g one two None none o = o
 none_opened g one two (Some store) none o = absurd (cc)
+
+pub some_opened : {D : Type 0} (g : disk.Ghosts D) (one two : D) (found : Option Store) → is_some found ≡ true → OfImages g one two (IsOpenedOf found)
+    → OfImages g one two HoldsAWorld
+some_opened g one two None some o = absurd (cc)
+some_opened g one two (Some store) some o = images_as g one two (IsOpenedOf (Some store)) HoldsAWorld (λ a b is. (store.world.world, is.held)) o

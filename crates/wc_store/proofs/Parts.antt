@@ -15,7 +15,7 @@ use Rattle.wc_store.specs.declared.place.Place.TheVariants.{One, Two}
 use Rattle.wc_store.specs.Places.{its}
 use Rattle.wc_store.specs.declared.store.Store.{Store}
 use Rattle.wc_store.specs.Held.{a_world, IsHeld}
-use Rattle.wc_store.specs.Stores.{other, HoldsAs, HoldsBy, HoldsEither, CommitLeaves, PackLeaves, StandsFor, InOnePart, InTwoParts, AreImages, BeginsFrom, InitLeaves, HoldsOneOf}
+use Rattle.wc_store.specs.Stores.{other, HoldsAs, HoldsBy, HoldsEither, CommitLeaves, PackLeaves, InOnePart, InTwoParts, AreImages, BeginsFrom, InitLeaves, HoldsOneOf}
 
 -- the images of the disk at the place and of the other disk, as those of disk one and disk two
 abbrev pub As : Place → (List ℕ → List ℕ → Type 0) → List ℕ → List ℕ → Type 0

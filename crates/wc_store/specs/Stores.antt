@@ -53,6 +53,17 @@ pub record IsOfImages (store : Store) (one two : List ℕ) : Type 0 where
 abbrev pub HasImages : Store → Type 0
 HasImages store = (one : List ℕ) × (two : List ℕ) × IsOfImages store one two
 
+-- Two images hold the new store, of which the one of the disk that the old store isn't on is as it was.
+pub record HoldsNext (store new : Store) (one two : List ℕ) : Type 0 where
+  pub one_new : List ℕ
+  pub two_new : List ℕ
+  pub rest : other store.place one_new two_new ≡ other store.place one two
+  pub are : IsOfImages new one_new two_new
+
+-- whatever two images hold the one store, they lead to two that hold the other
+abbrev pub LeadsTo : Store → Store → Type 0
+LeadsTo store new = (one two : List ℕ) → IsOfImages store one two → HoldsNext store new one two
+
 -- the choice between the same images
 abbrev pub ChoosesAs : Place → List ℕ → List ℕ → Choice → Type 0
 ChoosesAs place.One own rest c = chosen own rest ≡ c
@@ -92,6 +103,26 @@ pub record PackLeaves {D : Type 0} (g : disk.Ghosts D) (place : Place) (world : 
 -- the bytes of a disk that was packed: a journal of this generation with the world's snapshot alone, a gate that is not open, and nothing behind it
 abbrev pub packed_image : ℕ → World → List ℕ
 packed_image generation world = journal.spelled 2 generation (spelled (snapshot world) ∷ []) ++ 0 ∷ []
+
+-- Two images hold the new store: that of the disk that the old store is on is as it was, and the other one is the packed image of the old store's world.
+pub record IsPackedTo (store new : Store) (one two : List ℕ) : Type 0 where
+  pub one_new : List ℕ
+  pub two_new : List ℕ
+  pub still : its store.place one_new two_new ≡ its store.place one two
+  pub written : other store.place one_new two_new ≡ packed_image (store.journal.generation + 1) store.world.world
+  pub are : IsOfImages new one_new two_new
+
+-- whatever two images hold the one store, a pack makes two of them that hold the other
+abbrev pub PacksTo : Store → Store → Type 0
+PacksTo store new = (one two : List ℕ) → IsOfImages store one two → IsPackedTo store new one two
+
+-- the two images hold nothing, and with another image of disk one they hold the store
+abbrev pub IsMadeOf : Store → (one two : List ℕ) → Type 0
+IsMadeOf store one two = IsHeld one two nothing × ((made : List ℕ) × IsOfImages store made two)
+
+-- the two images hold some world
+abbrev pub HoldsAWorld : (one two : List ℕ) → Type 0
+HoldsAWorld one two = (w : World) × IsHeld one two (a_world w)
 
 -- an image that `init` makes on disk one: no journal, or the empty one of generation 1
 abbrev pub IsMade : List ℕ → Type 0

@@ -8,7 +8,7 @@ ghost use Rattle.wc_world.specs.Snapshot.{snapshot};
 ghost use Rattle.wc_store.specs.Places.{number_of, opposite};
 ghost use Rattle.wc_store.specs.Held.{is_plain};
 ghost use Rattle.wc_store.specs.Prepared.{HasGeneration};
-ghost use Rattle.wc_store.specs.Stores.{StandsFor, HasImages, CommitLeaves, PackLeaves, packed_image, other};
+ghost use Rattle.wc_store.specs.Stores.{StandsFor, LeadsTo, CommitLeaves, PackLeaves, PacksTo, packed_image, other};
 ghost use Rattle.wc_state.specs.Ranges.{AreLimits};
 ghost use Rattle.wc_store.specs.Refusals.{Counts, RefusesCommit, RefusesPack, IsUnchanged, is_live_after, byte_limit, committed_bytes};
 
@@ -55,7 +55,7 @@ impl Store {
         ensures untouched_one { IsUnchanged result one.old one.new }
         ensures untouched_two { IsUnchanged result two.old two.new }
         ensures still { self.new.live ≡ true → IsTrue (D.tells one.old) → IsTrue (D.tells two.old) → StandsFor D.Disk self.new one.new two.new }
-        ensures images { HasImages self.old → HasImages self.new }
+        ensures images { LeadsTo self.old self.new }
         ensures place { (self.new.place ≡ self.old.place) × (self.new.journal.generation ≡ self.old.journal.generation) × (self.new.journal.version ≡ self.old.journal.version) }
         ensures any_moment { IsTrue (D.tells one.old) → IsTrue (D.tells two.old)
             → CommitLeaves D.Disk self.old limits.now changes one.old two.old one.new two.new }
@@ -90,7 +90,7 @@ impl Store {
         ensures generation { IfOk result (λ g. (g ≡ self.old.journal.generation + 1) × (self.new.journal.generation ≡ g)) }
         ensures world { self.new.world.world ≡ self.old.world.world }
         ensures place { OnOk result (self.new.place ≡ opposite self.old.place) }
-        ensures images { HasImages self.old → HasImages self.new }
+        ensures images { OnOk result (PacksTo self.old self.new) }
         ensures written { OnOk result (IsTrue (D.tells one.old) → IsTrue (D.tells two.old)
             → journal_of (D.seen (other self.old.place one.new two.new))
             ≡ holds 2 (self.old.journal.generation + 1) ((26, spelled (snapshot self.old.world.world)) ∷ [])) }

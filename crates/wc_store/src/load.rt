@@ -5,10 +5,11 @@ ghost use Rattle.wc_disk.specs.Images.{LeavesOnly};
 ghost use Rattle.wc_journal.specs.Reading.{journal_of, no_journal};
 ghost use Rattle.wc_world.specs.World.{empty};
 ghost use Rattle.wc_store.specs.Held.{IsHeld, nothing};
+ghost use Rattle.wc_store.specs.declared.error.StoreError.TheVariants.{AlreadyThere};
 ghost use Rattle.wc_store.specs.declared.place.Place.TheVariants.{One};
 ghost use Rattle.wc_store.specs.Opened.{Opens, IsOpenedOf};
 ghost use Rattle.wc_store.specs.Sights.{OfImages};
-ghost use Rattle.wc_store.specs.Stores.{StandsFor, HasImages, Loads, IsLoadedOf, MadeOr, HoldsNothing, InTwoParts, AreImages, InitLeaves};
+ghost use Rattle.wc_store.specs.Stores.{StandsFor, HoldsAWorld, IsMadeOf, Loads, IsLoadedOf, MadeOr, HoldsNothing, InTwoParts, AreImages, InitLeaves};
 ghost use Rattle.wc_store.specs.Refusals.{Counts, RefusesLoad, RefusesInit, IsDamageOf, IsUnchanged};
 
 use crate::choice::find_store;
@@ -61,7 +62,8 @@ impl Store {
         ensures nothing { OnOk result (IsTrue (D.tells one.old) → IsTrue (D.tells two.old) → IsHeld (D.seen one.old) (D.seen two.old) nothing) }
         ensures refused { IfErr result (RefusesInit (IsTrue (D.tells one.old) × IsTrue (D.tells two.old)) (IsHeld (D.seen one.old) (D.seen two.old))) }
         ensures damage { IfErr result (IsDamageOf D.Disk one.old two.old) }
-        ensures images { IfOk result HasImages }
+        ensures images { IfOk result (λ store. OfImages D.Disk one.old two.old (IsMadeOf store)) }
+        ensures there { IfErr result (λ e. e ≡ AlreadyThere → OfImages D.Disk one.old two.old HoldsAWorld) }
         ensures made { IfOk result (λ store. (store.place ≡ One) × (store.journal.generation ≡ 1) × (store.journal.version ≡ 2)) }
         ensures kept { IsUnchanged result (D.seen one.old) (D.seen one.new) }
         ensures seen_two { D.seen two.new ≡ D.seen two.old }

@@ -1,18 +1,20 @@
 use Rattle.std.proofs.Common.{Bool, IsTrue, sym, subst}
 use Rattle.std.proofs.lemmas.Result.{IfOk-weaker}
 use Rattle.wc_act.specs.Crashes.{AreDurable}
-use Rattle.wc_act.specs.Opened.{Opens, IsToldUndone}
+use Rattle.wc_act.specs.Opened.{HasNoWorld, Opens, IsToldUndone}
+use Rattle.wc_act.specs.Owed.{visit, Done}
 use Rattle.wc_act.specs.Outside.{exchange, ActsOutside, WorksOutside}
 use Rattle.wc_act.specs.Statuses.{IsDoneOrFull}
-use Rattle.wc_act.specs.Rows.{work_row}
+use Rattle.wc_act.specs.Rows.{row, work_row}
 use Rattle.wc_act.specs.StoreDeeds.{Images}
 use Rattle.wc_plan.specs.declared.deed.Deed.TheVariants as deed
 use Rattle.wc_act.specs.declared.opened.Opened.{Opened}
 use Rattle.wc_plan.specs.declared.reply.Reply.{Reply}
-use Rattle.wc_act.proofs.Doing.{held_before, goes_does}
+use Rattle.wc_act.proofs.Doing.{held_before, goes_does, no_world}
 use Rattle.wc_act.proofs.Exchanged.{work_unasked}
 use Rattle.wc_act.proofs.Leaving.{goes_on, unwritten}
 use Rattle.wc_act.proofs.Unwriting.{then_untouched}
+use Rattle.wc_act.proofs.Visiting.{visit_as}
 use Rattle.wc_act.proofs.deeds.work_reply.Goals as goal
 
 pub returns-in_err-reply-clause-kept : goal.returns-in_err-reply-clause-kept
@@ -27,14 +29,21 @@ returns-in-Told-clause-kept g c =
     unwritten g.D.Disk g.met.D.Disk.only_now g.met.D.Disk.counts_now (λ v. ⊥) (work_row c.args.work).makes c.args.one.now c.args.two.now c.open_store.new.one c.open_store.new.two
     c.open_store.ensures.any_moment_one c.open_store.ensures.any_moment_two
 
+pub returns-in-Told-clause-does : goal.returns-in-Told-clause-does
+returns-in-Told-clause-does g c =
+    let one = c.args.one.now in
+    let two = c.args.two.now in
+    let r = c.in-Told.reply in
+    visit_as (visit g.D.Disk one two c.open_store.new.one c.open_store.new.two) (λ before after. HasNoWorld before after r) (Done (row (deed.Work c.args.work)) r) (no_world c.args.work r)
+    (subst (Opens g.D.Disk one two c.open_store.new.one c.open_store.new.two) c.in-Told.is c.in_ok-reply.ensures.opens)
+
 pub returns-in-Held-clause-does : goal.returns-in-Held-clause-does
 returns-in-Held-clause-does g c =
     let one = c.args.one.now in
     let two = c.args.two.now in
-    let k = work_row c.args.work in
-    let P : Opened → Type 0 = λ o. IsTrue (g.D.Disk.tells one) → IsTrue (g.D.Disk.tells two) → Opens g.D.Disk one two c.open_store.new.one c.open_store.new.two o in
-    goes_does g.D.Disk k.may k.does c.in-Held.store one two c.open_store.new.one c.open_store.new.two c.worked.new.one c.worked.new.two c.worked.result
-    (subst P c.in-Held.is c.in_ok-reply.ensures.opens) c.open_store.ensures.tells.0 c.open_store.ensures.tells.1 c.worked.ensures.may c.worked.ensures.does
+    let opens = subst (Opens g.D.Disk one two c.open_store.new.one c.open_store.new.two) c.in-Held.is c.in_ok-reply.ensures.opens in
+    goes_does g.D.Disk c.args.work c.in-Held.store one two c.open_store.new.one c.open_store.new.two c.worked.new.one c.worked.new.two c.worked.result opens.0
+    c.open_store.ensures.tells.0 c.open_store.ensures.tells.1 c.worked.ensures.does
 
 pub returns-in-Held-clause-kept : goal.returns-in-Held-clause-kept
 returns-in-Held-clause-kept g c =
@@ -42,8 +51,7 @@ returns-in-Held-clause-kept g c =
     let one = c.args.one.now in
     let two = c.args.two.now in
     let store = c.in-Held.store in
-    let P : Opened → Type 0 = λ o. IsTrue (g.D.Disk.tells one) → IsTrue (g.D.Disk.tells two) → Opens g.D.Disk one two c.open_store.new.one c.open_store.new.two o in
-    let opens = subst P c.in-Held.is c.in_ok-reply.ensures.opens told told_too in
+    let opens = (subst (Opens g.D.Disk one two c.open_store.new.one c.open_store.new.two) c.in-Held.is c.in_ok-reply.ensures.opens).0 told told_too in
     let tells = c.open_store.ensures.tells in
     goes_on g.D.Disk g.met.D.Disk.only_now g.met.D.Disk.counts_now (λ v. ⊥) (work_row c.args.work).makes store.world.world one two c.open_store.new.one c.open_store.new.two c.worked.new.one c.worked.new.two
     (held_before g.D.Disk store one two c.open_store.new.one c.open_store.new.two opens) c.open_store.ensures.any_moment_one c.open_store.ensures.any_moment_two
@@ -72,8 +80,7 @@ returns-in-Held-clause-outside g c =
     let before : Images = (g.D.Disk.seen one, g.D.Disk.seen two) in
     let after : Images = (g.D.Disk.seen c.worked.new.one, g.D.Disk.seen c.worked.new.two) in
     let e = exchange g.T.Transport g.P.Pacer c.args.transport.now c.worked.new.transport c.args.pacer.now c.worked.new.pacer in
-    let O : Opened → Type 0 = λ o. IsTrue (g.D.Disk.tells one) → IsTrue (g.D.Disk.tells two) → Opens g.D.Disk one two c.open_store.new.one c.open_store.new.two o in
-    let opens = subst O c.in-Held.is c.in_ok-reply.ensures.opens in
+    let opens = (subst (Opens g.D.Disk one two c.open_store.new.one c.open_store.new.two) c.in-Held.is c.in_ok-reply.ensures.opens).0 in
     let tells = c.open_store.ensures.tells in
     let P : Reply → Type 0 = λ r. IsTrue (g.D.Disk.tells c.open_store.new.one) → IsTrue (g.D.Disk.tells c.open_store.new.two) → WorksOutside e c.args.work store.world.world after r.status in
     let Q : Reply → Type 0 = λ r. IsDoneOrFull r.status → IsTrue (g.D.Disk.tells one) → IsTrue (g.D.Disk.tells two) → ActsOutside e (deed.Work c.args.work) before after r.status in

@@ -4,13 +4,15 @@ use Rattle.wc_plan.specs.declared.deed.Deed.TheVariants as deed
 use Rattle.wc_plan.specs.declared.deed.Work.{Work}
 use Rattle.wc_plan.specs.declared.reply.Reply.{Reply}
 use Rattle.wc_act.specs.Crashes.{HoldsKeeping, LeavesPairs}
+use Rattle.wc_act.specs.Owed.{visit, DoneOn, OfVisit}
 use Rattle.wc_act.specs.Outside.{exchange, AsksByTurns, WorksOutside, IsNoRun}
-use Rattle.wc_act.specs.Rows.{Stays, work_row}
+use Rattle.wc_act.specs.Rows.{Stays, view_row, work_row}
 use Rattle.wc_act.specs.StoreDeeds.{Images}
 use Rattle.wc_act.specs.Undone.{EndsWith}
 use Rattle.wc_act.specs.Views.{Shows}
 use Rattle.wc_act.proofs.Exchanged.{no_run_outside, of_each, work_unasked}
 use Rattle.wc_act.proofs.Leaving.{standing}
+use Rattle.wc_act.proofs.Visiting.{AreStill, are_still, visit_as}
 use Rattle.wc_act.proofs.deeds.worked.Goals as goal
 
 pub returns-in_err-view_reply-in-View-clause-kept : goal.returns-in_err-view_reply-in-View-clause-kept
@@ -35,18 +37,14 @@ returns-in_ok-view_reply-in-View-clause-kept g c =
 
 pub returns-in_ok-view_reply-in-View-clause-does : goal.returns-in_ok-view_reply-in-View-clause-does
 returns-in_ok-view_reply-in-View-clause-does g c =
-    λ told told_too.
-    let before : Images = (g.D.Disk.seen c.args.one.now, g.D.Disk.seen c.args.two.now) in
-    let w = c.args.store.now.world.world in
+    let s = c.args.store.now in
+    let w = s.world.world in
     let r = c.in_ok-view_reply-in-View.field-0 in
-    let P : Work → Type 0 = λ k. (work_row k).does before w before r in
-    subst P (sym c.in-View.is) (refl, subst (λ (v : World). Shows c.in-View.view v r) (λ i. (c.world.ensures i).world) c.in_ok-view_reply-in-View.ensures)
-
-pub returns-in_ok-view_reply-in-View-clause-may : goal.returns-in_ok-view_reply-in-View-clause-may
-returns-in_ok-view_reply-in-View-clause-may g c =
-    let r = c.in_ok-view_reply-in-View.field-0 in
-    let P : Work → Type 0 = λ k. (work_row k).may r in
-    subst P (sym c.in-View.is) (c.world.result.now.world, c.in_ok-view_reply-in-View.ensures)
+    let v = visit g.D.Disk c.args.one.now c.args.two.now c.args.one.now c.args.two.now in
+    let shows : Shows c.in-View.view w r = subst (λ (x : World). Shows c.in-View.view x r) (λ i. (c.world.ensures i).world) c.in_ok-view_reply-in-View.ensures in
+    subst (λ (k : Work). OfVisit v (DoneOn (work_row k) w r)) (sym c.in-View.is)
+    (visit_as v (AreStill s) (DoneOn (view_row c.in-View.view) w r) (λ before after still. (still.1.held, (still.0, shows)))
+    (are_still g.D.Disk c.args.one.now c.args.two.now c.args.one.now c.args.two.now s c.requires.stands c.requires.images refl refl))
 
 pub returns-in_ok-view_reply-in-View-clause-durable : goal.returns-in_ok-view_reply-in-View-clause-durable
 returns-in_ok-view_reply-in-View-clause-durable g c =
@@ -56,19 +54,18 @@ returns-in_ok-view_reply-in-View-clause-durable g c =
 
 pub returns-in-Event-clause-does : goal.returns-in-Event-clause-does
 returns-in-Event-clause-does g c =
-    let before : Images = (g.D.Disk.seen c.args.one.now, g.D.Disk.seen c.args.two.now) in
-    let after : Images = (g.D.Disk.seen c.event_reply.new.one, g.D.Disk.seen c.event_reply.new.two) in
-    let w = c.args.store.now.world.world in
-    let P : Work → Type 0 = λ k. IfOk c.event_reply.result (λ (r : Reply). IsTrue (g.D.Disk.tells c.args.one.now) → IsTrue (g.D.Disk.tells c.args.two.now) → (work_row k).does before w after r) in
-    subst P (sym c.in-Event.is) c.event_reply.ensures.does
+    let v = visit g.D.Disk c.args.one.now c.args.two.now c.event_reply.new.one c.event_reply.new.two in
+    subst (λ (k : Work). IfOk c.event_reply.result (λ (r : Reply). OfVisit v (DoneOn (work_row k) c.args.store.now.world.world r))) (sym c.in-Event.is) c.event_reply.ensures.does
 
 pub returns-in-Run-clause-does : goal.returns-in-Run-clause-does
 returns-in-Run-clause-does g c =
-    let before : Images = (g.D.Disk.seen c.args.one.now, g.D.Disk.seen c.args.two.now) in
-    let after : Images = (g.D.Disk.seen c.run_reply.new.one, g.D.Disk.seen c.run_reply.new.two) in
-    let w = c.args.store.now.world.world in
-    let P : Work → Type 0 = λ k. IfOk c.run_reply.result (λ (r : Reply). IsTrue (g.D.Disk.tells c.args.one.now) → IsTrue (g.D.Disk.tells c.args.two.now) → (work_row k).does before w after r) in
-    subst P (sym c.in-Run.is) c.run_reply.ensures.does
+    let v = visit g.D.Disk c.args.one.now c.args.two.now c.run_reply.new.one c.run_reply.new.two in
+    subst (λ (k : Work). IfOk c.run_reply.result (λ (r : Reply). OfVisit v (DoneOn (work_row k) c.args.store.now.world.world r))) (sym c.in-Run.is) c.run_reply.ensures.does
+
+pub returns-in-Pack-clause-does : goal.returns-in-Pack-clause-does
+returns-in-Pack-clause-does g c =
+    let v = visit g.D.Disk c.args.one.now c.args.two.now c.pack_reply.new.one c.pack_reply.new.two in
+    subst (λ (k : Work). IfOk c.pack_reply.result (λ (r : Reply). OfVisit v (DoneOn (work_row k) c.args.store.now.world.world r))) (sym c.in-Pack.is) c.pack_reply.ensures.does
 
 pub returns-in_err-view_reply-in-View-clause-asked : goal.returns-in_err-view_reply-in-View-clause-asked
 returns-in_err-view_reply-in-View-clause-asked g c = work_unasked g.T.Transport c.args.work c.args.transport.now

@@ -1,5 +1,4 @@
-use Rattle.std.proofs.Common.{Bool, Result, Ok, Err, ℕ, IsTrue, ap, sym, subst, ◌∙◌}
-use Rattle.wc_store.specs.Held.{IsHeld, nothing}
+use Rattle.std.proofs.Common.{Bool, Result, ℕ, IsTrue, ap, sym, subst, ◌∙◌}
 use Rattle.wc_drill.specs.Texts.{drilled_text}
 use Rattle.wc_drill.specs.Leaves.{AreDurable, IsBegun, RefusedLeaves}
 use Rattle.wc_drill.specs.declared.error.DrillError.{DrillError}
@@ -21,9 +20,7 @@ pub returns-in_ok-drilled_text-in-Ok-clause-does : goal.returns-in_ok-drilled_te
 returns-in_ok-drilled_text-in-Ok-clause-does g c =
     let one = c.args.one.now in
     let two = c.args.two.now in
-    let P : Result ℕ DrillError → Type 0 = λ x. IsBegun x → IsTrue (g.D.Disk.tells one) → IsTrue (g.D.Disk.tells two) → IsHeld (g.D.Disk.seen one) (g.D.Disk.seen two) nothing in
-    has_drilled g.D.Disk c.args.seed c.args.count one two c.drill.new.one c.drill.new.two c.drill.ensures.seen_two c.in-Ok.committed c.print.result
-    (subst P c.in-Ok.is c.drill.ensures.nothing tt) c.in-Ok.ensures.done
+    has_drilled g.D.Disk c.args.seed c.args.count one two c.drill.new.one c.drill.new.two c.in-Ok.committed c.print.result c.in-Ok.ensures.done
     (c.print.ensures ∙ ap prints (c.in_ok-drilled_text-in-Ok.ensures ∙ ap (λ (sum : ℕ). drilled_text c.args.count sum c.in-Ok.committed) c.sum_of_squares-sum.ensures))
 
 pub returns-in_ok-drilled_text-in-Ok-clause-kept : goal.returns-in_ok-drilled_text-in-Ok-clause-kept
@@ -48,10 +45,9 @@ pub returns-in-Err-clause-does : goal.returns-in-Err-clause-does
 returns-in-Err-clause-does g c =
     let one = c.args.one.now in
     let two = c.args.two.now in
-    let P : Result ℕ DrillError → Type 0 = λ x. IsBegun x → IsTrue (g.D.Disk.tells one) → IsTrue (g.D.Disk.tells two) → IsHeld (g.D.Disk.seen one) (g.D.Disk.seen two) nothing in
     let Q : Result ℕ DrillError → Type 0 = λ x. IsTrue (g.D.Disk.tells one) → IsTrue (g.D.Disk.tells two) → RefusedLeaves g.D.Disk x one two c.drill.new.one c.drill.new.two in
-    refused_drill g.D.Disk c.args.seed c.args.count one two c.drill.new.one c.drill.new.two c.drill.ensures.seen_two c.in-Err.error c.broken_off.result c.in-Err.ensures.refused
-    (subst P c.in-Err.is c.drill.ensures.nothing) (subst Q c.in-Err.is c.drill.ensures.unbegun) c.broken_off.ensures.reply
+    refused_drill g.D.Disk c.args.seed c.args.count one two c.drill.new.one c.drill.new.two c.in-Err.error c.broken_off.result c.in-Err.ensures.refused c.drill.ensures.seen_two
+    (subst Q c.in-Err.is c.drill.ensures.unbegun) c.broken_off.ensures.reply
 
 pub returns-in-Err-clause-kept : goal.returns-in-Err-clause-kept
 returns-in-Err-clause-kept g c =

@@ -8,10 +8,12 @@ use Rattle.wc_plan.specs.declared.reply.Reply.{Reply}
 use Rattle.wc_act.specs.Entries.{IsEntryOf}
 use Rattle.wc_act.specs.Events.{MayHappen, TellsAlone}
 use Rattle.wc_plan.specs.Replies.{prints}
+use Rattle.wc_act.specs.Owed.{visit, DoneOn}
+use Rattle.wc_act.specs.Rows.{event_row}
 use Rattle.wc_act.specs.Undone.{IsBeforeStoring}
 use Rattle.wc_act.proofs.Entries.{has_entered, made_by, refused_durable, refused_entry, stays_alone}
 use Rattle.wc_act.proofs.Leaving.{standing, committed}
-use Rattle.wc_act.proofs.Shaping.{refused_commit}
+use Rattle.wc_act.proofs.Visiting.{AreOfStores, AreStill, are_of_stores, are_still, visit_as}
 use Rattle.wc_act.proofs.Unwriting.{refused_untouched}
 use Rattle.wc_act.proofs.events.event_reply.Goals as goal
 
@@ -27,14 +29,12 @@ returns-in_err-reply-clause-kept g c =
 
 pub returns-in-Told-clause-does : goal.returns-in-Told-clause-does
 returns-in-Told-clause-does g c =
-    λ told told_too.
-    let w : c.world.result.now.world ≡ c.args.store.now.world.world = λ i. (c.world.ensures i).world in
-    stays_alone g.D.Disk c.args.asked c.args.store.now c.args.one.now c.args.two.now c.in-Told.reply (c.requires.stands told told_too)
-    (subst (λ (v : World). TellsAlone c.args.asked v c.in-Told.reply) w (subst (IsEntryOf c.args.asked c.world.result.now.world) c.in-Told.is c.in_ok-reply.ensures))
-
-pub returns-in-Told-clause-may : goal.returns-in-Told-clause-may
-returns-in-Told-clause-may g c =
-    (c.world.result.now.world, inr (inl (subst (IsEntryOf c.args.asked c.world.result.now.world) c.in-Told.is c.in_ok-reply.ensures)))
+    let s = c.args.store.now in
+    let w : c.world.result.now.world ≡ s.world.world = λ i. (c.world.ensures i).world in
+    visit_as (visit g.D.Disk c.args.one.now c.args.two.now c.args.one.now c.args.two.now) (AreStill s) (DoneOn (event_row c.args.asked) s.world.world c.in-Told.reply)
+    (stays_alone c.args.asked s c.in-Told.reply
+    (subst (λ (v : World). TellsAlone c.args.asked v c.in-Told.reply) w (subst (IsEntryOf c.args.asked c.world.result.now.world) c.in-Told.is c.in_ok-reply.ensures)))
+    (are_still g.D.Disk c.args.one.now c.args.two.now c.args.one.now c.args.two.now s c.requires.stands c.requires.images refl refl)
 
 pub returns-in-Told-clause-kept : goal.returns-in-Told-clause-kept
 returns-in-Told-clause-kept g c =
@@ -49,22 +49,17 @@ returns-in-Told-clause-durable g c = λ told told_too. let s = c.requires.stands
 
 pub returns-in-Ok-clause-does : goal.returns-in-Ok-clause-does
 returns-in-Ok-clause-does g c =
-    λ told told_too.
     let s = c.args.store.now in
     let a = c.args.asked in
     let cs = c.in-Commits.changes in
     let w : c.world.result.now.world ≡ s.world.world = λ i. (c.world.ensures i).world in
     let e = subst (λ (v : World). IsEntryOf a v (entry.Commits cs c.in-Commits.line)) w (subst (IsEntryOf a c.world.result.now.world) c.in-Commits.is c.in_ok-reply.ensures) in
-    has_entered g.D.Disk a s c.commit.new.self cs c.args.one.now c.args.two.now c.commit.new.one c.commit.new.two c.print.result e.0 (c.commit.ensures.still c.in-Ok.ensures.live told told_too)
-    c.in-Ok.ensures.world
+    visit_as (visit g.D.Disk c.args.one.now c.args.two.now c.commit.new.one c.commit.new.two) (AreOfStores s c.commit.new.self) (DoneOn (event_row a) s.world.world c.print.result)
+    (has_entered a s c.commit.new.self cs c.print.result e.0 c.in-Ok.ensures.world
     (subst (λ (l : Limits). (length (applied s.world.world cs).nodes ≤ l.max_nodes) × (committed_bytes s.journal cs ≤ byte_limit s.journal.version l.max_bytes)) c.limits_of-limits.ensures.value
-    c.in-Ok.ensures.fits) c.in-Ok.ensures.longer c.commit.ensures.place (c.requires.stands told told_too) (c.commit.ensures.any_moment told told_too).untouched
-    (c.print.ensures ∙ ap prints e.1)
-
-pub returns-in-Ok-clause-may : goal.returns-in-Ok-clause-may
-returns-in-Ok-clause-may g c =
-    let e = subst (IsEntryOf c.args.asked c.world.result.now.world) c.in-Commits.is c.in_ok-reply.ensures in
-    (c.world.result.now.world, inl (c.in-Commits.changes, e.0.leads, c.print.ensures ∙ ap prints e.1))
+    c.in-Ok.ensures.fits) c.in-Ok.ensures.longer c.commit.ensures.place (c.print.ensures ∙ ap prints e.1))
+    (are_of_stores g.D.Disk c.args.one.now c.args.two.now c.commit.new.one c.commit.new.two s c.commit.new.self c.requires.stands c.requires.images (c.commit.ensures.still c.in-Ok.ensures.live)
+    c.commit.ensures.images (λ told told_too. (c.commit.ensures.any_moment told told_too).untouched))
 
 pub returns-in-Ok-clause-kept : goal.returns-in-Ok-clause-kept
 returns-in-Ok-clause-kept g c =
@@ -89,19 +84,9 @@ returns-in-Err-clause-does g c =
     let cs = c.in-Commits.changes in
     let w : c.world.result.now.world ≡ s.world.world = λ i. (c.world.ensures i).world in
     let e = subst (λ (v : World). IsEntryOf a v (entry.Commits cs c.in-Commits.line)) w (subst (IsEntryOf a c.world.result.now.world) c.in-Commits.is c.in_ok-reply.ensures) in
-    refused_entry g.D.Disk a s cs c.in-Err.error c.args.one.now c.args.two.now c.commit.new.one c.commit.new.two c.refused.result c.requires.stands e.0
+    refused_entry g.D.Disk a s cs c.in-Err.error c.args.one.now c.args.two.now c.commit.new.one c.commit.new.two c.refused.result c.requires.stands c.requires.images e.0
     (subst (λ (l : Limits). RefusesCommit s.journal l s.world.world cs c.in-Err.error) c.limits_of-limits.ensures.value c.in-Err.ensures.refused)
     c.in-Err.ensures.untouched_one c.in-Err.ensures.untouched_two c.refused.ensures.reply
-
-pub returns-in-Err-clause-may : goal.returns-in-Err-clause-may
-returns-in-Err-clause-may g c =
-    let s = c.args.store.now in
-    let a = c.args.asked in
-    let cs = c.in-Commits.changes in
-    let w : c.world.result.now.world ≡ s.world.world = λ i. (c.world.ensures i).world in
-    let e = subst (λ (v : World). IsEntryOf a v (entry.Commits cs c.in-Commits.line)) w (subst (IsEntryOf a c.world.result.now.world) c.in-Commits.is c.in_ok-reply.ensures) in
-    refused_commit a s.journal s.world.world cs c.in-Err.error c.refused.result e.0
-    (subst (λ (l : Limits). RefusesCommit s.journal l s.world.world cs c.in-Err.error) c.limits_of-limits.ensures.value c.in-Err.ensures.refused) c.refused.ensures.reply
 
 pub returns-in-Err-clause-kept : goal.returns-in-Err-clause-kept
 returns-in-Err-clause-kept g c =

@@ -1,4 +1,4 @@
-use Rattle.std.proofs.Common.{inl, Bool, Result, IsTrue, ap, sym, subst, ◌∙◌}
+use Rattle.std.proofs.Common.{Bool, Result, IsTrue, ap, sym, subst, ◌∙◌}
 use Rattle.wc_store.specs.declared.error.StoreError.{StoreError}
 use Rattle.wc_store.specs.declared.store.Store.{Store}
 use Rattle.wc_store.specs.Stores.{InitLeaves}
@@ -8,7 +8,11 @@ use Rattle.wc_act.specs.Crashes.{AreDurable}
 use Rattle.wc_plan.specs.Replies.{prints}
 use Rattle.wc_act.proofs.Doing.{has_begun, refused_init}
 use Rattle.wc_act.proofs.Leaving.{begun, unasked}
-use Rattle.wc_act.specs.Rows.{IsEmpty, Stays}
+use Rattle.wc_act.specs.Owed.{visit, Done}
+use Rattle.wc_act.specs.Rows.{IsEmpty, Stays, row}
+use Rattle.wc_plan.specs.declared.deed.Begin.TheVariants as begin
+use Rattle.wc_plan.specs.declared.deed.Deed.TheVariants as deed
+use Rattle.wc_act.proofs.Visiting.{AreOfNew, are_of_new, visit_as}
 use Rattle.wc_act.proofs.Undone.{init_undone}
 use Rattle.wc_act.specs.Undone.{IsBeforeStoring}
 use Rattle.wc_act.proofs.Unwriting.{none_asked, refused_init as refused_unwritten}
@@ -21,16 +25,14 @@ returns-in-Ok-clause-kept g c =
     (g.met.D.Disk.reads_as c.args.one.now told) (g.met.D.Disk.reads_as c.args.two.now told_too) (c.init.ensures.parts told told_too) c.init.ensures.any_moment_two
 
 pub returns-in-Ok-clause-does : goal.returns-in-Ok-clause-does
-returns-in-Ok-clause-does g c = (
-  inl (c.print.ensures ∙ ap prints c.in_ok-text.ensures),
-  λ told told_too.
-      has_begun g.D.Disk c.in-Ok._store c.args.one.now c.args.two.now c.init.new.one c.init.new.two c.print.result (c.in-Ok.ensures.nothing told told_too) (c.in-Ok.ensures.ok told told_too)
-      c.in-Ok.ensures.empty c.in-Ok.ensures.made c.init.ensures.seen_two (c.print.ensures ∙ ap prints c.in_ok-text.ensures),
-)
+returns-in-Ok-clause-does g c =
+    visit_as (visit g.D.Disk c.args.one.now c.args.two.now c.init.new.one c.init.new.two) (AreOfNew c.in-Ok._store) (Done (row (deed.Begin begin.Init)) c.print.result)
+    (has_begun c.in-Ok._store c.print.result c.in-Ok.ensures.empty c.in-Ok.ensures.made (c.print.ensures ∙ ap prints c.in_ok-text.ensures))
+    (are_of_new g.D.Disk c.args.one.now c.args.two.now c.init.new.one c.init.new.two c.in-Ok._store c.in-Ok.ensures.nothing c.in-Ok.ensures.images c.in-Ok.ensures.ok c.init.ensures.seen_two)
 
 pub returns-in-Err-clause-does : goal.returns-in-Err-clause-does
 returns-in-Err-clause-does g c =
-    refused_init g.D.Disk c.in-Err.error c.args.one.now c.args.two.now c.init.new.one c.init.new.two c.refused.result c.in-Err.ensures.refused c.in-Err.ensures.damage c.in-Err.ensures.kept
+    refused_init g.D.Disk c.in-Err.error c.args.one.now c.args.two.now c.init.new.one c.init.new.two c.refused.result c.in-Err.ensures.refused c.in-Err.ensures.damage c.in-Err.ensures.there c.in-Err.ensures.kept
     c.init.ensures.seen_two c.refused.ensures.reply
 
 pub returns-in-Err-clause-durable : goal.returns-in-Err-clause-durable

@@ -1,12 +1,13 @@
-use Rattle.std.proofs.Common.{inl, ℕ, IsTrue, ap, subst, ◌∙◌}
-use Rattle.wc_report.specs.Lines.{packed_text}
+use Rattle.std.proofs.Common.{ℕ, IsTrue, ap, subst, ◌∙◌}
 use Rattle.wc_plan.specs.Replies.{prints}
 use Rattle.wc_act.proofs.Doing.{has_packed, refused_pack}
 use Rattle.wc_act.proofs.Entries.{refused_durable}
 use Rattle.wc_act.proofs.Leaving.{packed}
 use Rattle.wc_plan.specs.declared.reply.Reply.{Reply}
+use Rattle.wc_act.specs.Owed.{visit, DoneOn}
+use Rattle.wc_act.specs.Rows.{pack_row}
 use Rattle.wc_act.specs.Undone.{IsBeforePacking}
-use Rattle.wc_act.proofs.Shaping.{refused_packing}
+use Rattle.wc_act.proofs.Visiting.{AreOfPack, are_of_pack, visit_as}
 use Rattle.wc_act.proofs.Unwriting.{refused_untouched}
 use Rattle.wc_act.proofs.packs.pack_reply.Goals as goal
 
@@ -18,11 +19,12 @@ returns-in_err-packed_text-in-Ok-clause-kept g c =
 
 pub returns-in_ok-packed_text-in-Ok-clause-does : goal.returns-in_ok-packed_text-in-Ok-clause-does
 returns-in_ok-packed_text-in-Ok-clause-does g c =
-    λ told told_too.
-    has_packed g.D.Disk c.args.store.now c.pack.new.self c.in-Ok.generation c.args.one.now c.args.two.now c.pack.new.one c.pack.new.two c.print.result (c.requires.stands told told_too)
-    (c.pack.ensures.still c.in-Ok.ensures.live told told_too) c.in-Ok.ensures.fits (c.pack.ensures.any_moment told told_too).untouched
-    (c.in-Ok.ensures.image told told_too) c.pack.ensures.world c.in-Ok.ensures.generation.0 c.in-Ok.ensures.generation.1
-    (c.print.ensures ∙ ap prints c.in_ok-packed_text-in-Ok.ensures)
+    let s = c.args.store.now in
+    visit_as (visit g.D.Disk c.args.one.now c.args.two.now c.pack.new.one c.pack.new.two) (AreOfPack s c.pack.new.self) (DoneOn pack_row s.world.world c.print.result)
+    (has_packed s c.pack.new.self c.in-Ok.generation c.print.result c.in-Ok.ensures.fits c.pack.ensures.world c.in-Ok.ensures.generation.0 c.in-Ok.ensures.generation.1
+    (c.print.ensures ∙ ap prints c.in_ok-packed_text-in-Ok.ensures))
+    (are_of_pack g.D.Disk c.args.one.now c.args.two.now c.pack.new.one c.pack.new.two s c.pack.new.self c.requires.stands c.requires.images (c.pack.ensures.still c.in-Ok.ensures.live)
+    c.in-Ok.ensures.images (λ told told_too. (c.pack.ensures.any_moment told told_too).untouched) c.in-Ok.ensures.image)
 
 pub returns-in_ok-packed_text-in-Ok-clause-kept : goal.returns-in_ok-packed_text-in-Ok-clause-kept
 returns-in_ok-packed_text-in-Ok-clause-kept g c =
@@ -32,7 +34,7 @@ returns-in_ok-packed_text-in-Ok-clause-kept g c =
 
 pub returns-in-Err-clause-does : goal.returns-in-Err-clause-does
 returns-in-Err-clause-does g c =
-    refused_pack g.D.Disk ℕ c.args.store.now c.in-Err.error c.args.one.now c.args.two.now c.pack.new.one c.pack.new.two c.refused.result c.requires.stands
+    refused_pack g.D.Disk ℕ c.args.store.now c.in-Err.error c.args.one.now c.args.two.now c.pack.new.one c.pack.new.two c.refused.result c.requires.stands c.requires.images
     c.in-Err.ensures.refused c.in-Err.ensures.untouched_one c.in-Err.ensures.untouched_two c.refused.ensures.reply
 
 pub returns-in-Err-clause-durable : goal.returns-in-Err-clause-durable
@@ -45,17 +47,6 @@ returns-in-Err-clause-kept g c =
     λ told told_too.
     packed g.D.Disk g.met.D.Disk.only_now c.worlds_are_kept.ensures.reached c.worlds_are_kept.ensures.same c.args.store.now c.args.one.now c.args.two.now (c.requires.stands told told_too) c.pack.new.one c.pack.new.two
     (c.pack.ensures.any_moment told told_too)
-
-pub returns-in_ok-packed_text-in-Ok-clause-may : goal.returns-in_ok-packed_text-in-Ok-clause-may
-returns-in_ok-packed_text-in-Ok-clause-may g c =
-    let s = c.args.store.now in (
-      s.journal.generation,
-      s.world.world,
-      inl (c.in-Ok.ensures.fits, c.print.ensures ∙ ap prints (c.in_ok-packed_text-in-Ok.ensures ∙ ap packed_text c.in-Ok.ensures.generation.0)),
-    )
-
-pub returns-in-Err-clause-may : goal.returns-in-Err-clause-may
-returns-in-Err-clause-may g c = refused_packing c.args.store.now.journal.generation c.args.store.now.world.world c.in-Err.error c.refused.result c.in-Err.ensures.refused c.refused.ensures.reply
 
 pub returns-in_ok-packed_text-in-Ok-clause-untouched : goal.returns-in_ok-packed_text-in-Ok-clause-untouched
 returns-in_ok-packed_text-in-Ok-clause-untouched g c = λ ends. absurd (subst (λ (r : Reply). IsBeforePacking r.status) c.print.ensures ends)

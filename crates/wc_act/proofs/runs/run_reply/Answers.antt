@@ -6,11 +6,13 @@ use Rattle.wc_runner.specs.Refusals.{RefusesRun, is_live_after}
 use Rattle.wc_plan.specs.declared.reply.Reply.{Reply}
 use Rattle.wc_act.specs.Outside.{exchange}
 use Rattle.wc_act.specs.Runs.{has_run}
+use Rattle.wc_act.specs.Owed.{visit, DoneOn}
+use Rattle.wc_act.specs.Rows.{run_row}
 use Rattle.wc_act.specs.Undone.{IsBeforeTurns}
 use Rattle.wc_act.proofs.Exchanged.{ended_outside, filled_outside}
 use Rattle.wc_act.proofs.Leaving.{taken}
-use Rattle.wc_act.proofs.Doing.{goes_on_journal}
-use Rattle.wc_act.proofs.Turns.{run_written, has_come, has_filled, fills_at}
+use Rattle.wc_act.proofs.Visiting.{AreOfStores, are_of_stores, visit_as}
+use Rattle.wc_act.proofs.Turns.{run_written, has_come, fills_at}
 use Rattle.wc_act.proofs.Widening.{takes_up_to, ends_so}
 use Rattle.wc_act.proofs.runs.run_reply.Goals as goal
 
@@ -56,76 +58,43 @@ returns-in-Err-OutOfMemory-clause-kept g c =
     taken g.D.Disk g.met.D.Disk.only_now c.worlds_are_kept.ensures.reached c.worlds_are_kept.ensures.same c.args.store.now c.args.one.now c.args.two.now (c.requires.stands told told_too)
     o c.args.options (c.turns_keep_sound.ensures.in_run c.args.options.limits c.args.transport.now c.run.new.transport c.run.new.pacer) refl c.run.new.one c.run.new.two (c.run.ensures.any_moment told told_too)
 
-pub returns-in_ok-has_run-in-Ok-clause-may : goal.returns-in_ok-has_run-in-Ok-clause-may
-returns-in_ok-has_run-in-Ok-clause-may g c =
-    let p = c.args.options in
-    let w = c.args.store.now.world.world in
-    let v = c.run.new.store.world.world in
-    let o = in_run g.T.Transport g.P.Pacer c.args.options.limits c.args.transport.now c.run.new.transport c.run.new.pacer in
-    let begun : w.batches ≡ c.batches-begun.result = sym (c.batches-begun.ensures ∙ (λ i. (c.world.ensures i).world.batches)) in (
-      w,
-      v,
-      takes_up_to o p.turns w v (g.P.Pacer.rests c.args.pacer.now) (g.P.Pacer.rests c.run.new.pacer) c.run.ensures.takes,
-      inl (record {
-        end = c.in-Ok.end;
-        ends = (ends_so o p.turns w v (g.P.Pacer.rests c.args.pacer.now) (g.P.Pacer.rests c.run.new.pacer) c.in-Ok.end c.in-Ok.ensures.ends);
-        reply = c.in_ok-has_run-in-Ok.ensures w begun ∙ (λ i. has_run c.in-Ok.end w (c.world-in-Ok.ensures i).world);
-      }),
-    )
-
-pub returns-in_ok-full-in-Err-Full-clause-may : goal.returns-in_ok-full-in-Err-Full-clause-may
-returns-in_ok-full-in-Err-Full-clause-may g c =
-    let p = c.args.options in
-    let w = c.args.store.now.world.world in
-    let v = c.run.new.store.world.world in
-    let f = c.in-Err-Full in
-    let o = in_run g.T.Transport g.P.Pacer c.args.options.limits c.args.transport.now c.run.new.transport c.run.new.pacer in
-    let full = subst (λ (e : RunError). RefusesRun o c.run.new.store e) f.field-0-is f.ensures.refused in (
-      w,
-      v,
-      takes_up_to o p.turns w v (g.P.Pacer.rests c.args.pacer.now) (g.P.Pacer.rests c.run.new.pacer) c.run.ensures.takes,
-      inr (
-        c.run.new.store.journal,
-        fills_at o p w c.run.new.store (g.P.Pacer.rests c.args.pacer.now) (g.P.Pacer.rests c.run.new.pacer) f.what f.count f.limit c.in_ok-full-in-Err-Full.field-0
-            refl full f.ensures.early c.in_ok-full-in-Err-Full.ensures,
-      ),
-    )
-
 pub returns-in_ok-has_run-in-Ok-clause-does : goal.returns-in_ok-has_run-in-Ok-clause-does
 returns-in_ok-has_run-in-Ok-clause-does g c =
-    λ told told_too.
     let p = c.args.options in
-    let w = c.args.store.now.world.world in
-    let v = c.run.new.store.world.world in
-    let o = in_run g.T.Transport g.P.Pacer c.args.options.limits c.args.transport.now c.run.new.transport c.run.new.pacer in
+    let s = c.args.store.now in
+    let new = c.run.new.store in
+    let w = s.world.world in
+    let v = new.world.world in
+    let r = c.in_ok-has_run-in-Ok.field-0 in
+    let o = in_run g.T.Transport g.P.Pacer p.limits c.args.transport.now c.run.new.transport c.run.new.pacer in
     let begun : w.batches ≡ c.batches-begun.result = sym (c.batches-begun.ensures ∙ (λ i. (c.world.ensures i).world.batches)) in
-    has_come g.D.Disk p c.args.store.now c.run.new.store c.args.one.now c.args.two.now c.run.new.one c.run.new.two c.in_ok-has_run-in-Ok.field-0 c.in-Ok.end
-    (c.run.ensures.still c.in-Ok.ensures.live told told_too)
-    (takes_up_to o p.turns w v (g.P.Pacer.rests c.args.pacer.now) (g.P.Pacer.rests c.run.new.pacer) c.run.ensures.takes)
-    c.run.ensures.fits
-    (goes_on_journal g.D.Disk c.args.store.now c.run.new.store c.args.one.now c.args.two.now c.run.new.one c.run.new.two (c.requires.stands told told_too) (c.run.ensures.still c.in-Ok.ensures.live told told_too) c.run.ensures.place
-    (c.run.ensures.any_moment told told_too).untouched)
-    (ends_so o p.turns w v (g.P.Pacer.rests c.args.pacer.now) (g.P.Pacer.rests c.run.new.pacer) c.in-Ok.end c.in-Ok.ensures.ends)
-    (c.in_ok-has_run-in-Ok.ensures w begun ∙ (λ i. has_run c.in-Ok.end w (c.world-in-Ok.ensures i).world))
+    visit_as (visit g.D.Disk c.args.one.now c.args.two.now c.run.new.one c.run.new.two) (AreOfStores s new) (DoneOn (run_row p) w r)
+    (has_come p s new r (takes_up_to o p.turns w v (g.P.Pacer.rests c.args.pacer.now) (g.P.Pacer.rests c.run.new.pacer) c.run.ensures.takes) c.run.ensures.fits c.run.ensures.place
+    (inl (record {
+      end = c.in-Ok.end;
+      ends = ends_so o p.turns w v (g.P.Pacer.rests c.args.pacer.now) (g.P.Pacer.rests c.run.new.pacer) c.in-Ok.end c.in-Ok.ensures.ends;
+      reply = c.in_ok-has_run-in-Ok.ensures w begun ∙ (λ i. has_run c.in-Ok.end w (c.world-in-Ok.ensures i).world);
+    })))
+    (are_of_stores g.D.Disk c.args.one.now c.args.two.now c.run.new.one c.run.new.two s new c.requires.stands c.requires.images (c.run.ensures.still c.in-Ok.ensures.live)
+    c.run.ensures.images (λ told told_too. (c.run.ensures.any_moment told told_too).untouched))
 
 pub returns-in_ok-full-in-Err-Full-clause-does : goal.returns-in_ok-full-in-Err-Full-clause-does
 returns-in_ok-full-in-Err-Full-clause-does g c =
-    λ told told_too.
     let p = c.args.options in
-    let w = c.args.store.now.world.world in
-    let v = c.run.new.store.world.world in
+    let s = c.args.store.now in
+    let new = c.run.new.store in
+    let w = s.world.world in
+    let v = new.world.world in
     let f = c.in-Err-Full in
-    let o = in_run g.T.Transport g.P.Pacer c.args.options.limits c.args.transport.now c.run.new.transport c.run.new.pacer in
-    let full = subst (λ (e : RunError). RefusesRun o c.run.new.store e) f.field-0-is f.ensures.refused in
-    let live = subst (λ (e : RunError). c.run.new.store.live ≡ is_live_after {T = RunEnd} (Err e)) f.field-0-is f.ensures.live in
-    let stands = c.run.ensures.still live told told_too in
-    has_filled g.D.Disk p c.args.store.now c.run.new.store c.args.one.now c.args.two.now c.run.new.one c.run.new.two c.in_ok-full-in-Err-Full.field-0 stands
-    (takes_up_to o p.turns w v (g.P.Pacer.rests c.args.pacer.now) (g.P.Pacer.rests c.run.new.pacer) c.run.ensures.takes)
-    c.run.ensures.fits
-    (goes_on_journal g.D.Disk c.args.store.now c.run.new.store c.args.one.now c.args.two.now c.run.new.one c.run.new.two (c.requires.stands told told_too) stands c.run.ensures.place
-    (c.run.ensures.any_moment told told_too).untouched)
-    (fills_at o p w c.run.new.store (g.P.Pacer.rests c.args.pacer.now) (g.P.Pacer.rests c.run.new.pacer) f.what f.count f.limit c.in_ok-full-in-Err-Full.field-0
-    refl full f.ensures.early c.in_ok-full-in-Err-Full.ensures)
+    let r = c.in_ok-full-in-Err-Full.field-0 in
+    let o = in_run g.T.Transport g.P.Pacer p.limits c.args.transport.now c.run.new.transport c.run.new.pacer in
+    let full = subst (λ (e : RunError). RefusesRun o new e) f.field-0-is f.ensures.refused in
+    let live = subst (λ (e : RunError). new.live ≡ is_live_after {T = RunEnd} (Err e)) f.field-0-is f.ensures.live in
+    visit_as (visit g.D.Disk c.args.one.now c.args.two.now c.run.new.one c.run.new.two) (AreOfStores s new) (DoneOn (run_row p) w r)
+    (has_come p s new r (takes_up_to o p.turns w v (g.P.Pacer.rests c.args.pacer.now) (g.P.Pacer.rests c.run.new.pacer) c.run.ensures.takes) c.run.ensures.fits c.run.ensures.place
+    (inr (fills_at o p w new (g.P.Pacer.rests c.args.pacer.now) (g.P.Pacer.rests c.run.new.pacer) f.what f.count f.limit r refl full f.ensures.early c.in_ok-full-in-Err-Full.ensures)))
+    (are_of_stores g.D.Disk c.args.one.now c.args.two.now c.run.new.one c.run.new.two s new c.requires.stands c.requires.images (c.run.ensures.still live)
+    c.run.ensures.images (λ told told_too. (c.run.ensures.any_moment told told_too).untouched))
 
 pub returns-in_ok-has_run-in-Ok-clause-begun : goal.returns-in_ok-has_run-in-Ok-clause-begun
 returns-in_ok-has_run-in-Ok-clause-begun g c =

@@ -1,14 +1,12 @@
-use Rattle.std.proofs.Common.{◌≡◌, ℕ, Bool, Err, refl, sym, subst, ◌∙◌}
-use Rattle.std.specs.Prelude.{IfErr, IfOk, IsTrue}
-use Rattle.wc_world.specs.World.{World}
+use Rattle.std.proofs.Common.{ℕ, Bool, Err, refl, sym, subst, ◌∙◌}
+use Rattle.std.specs.Prelude.{IsTrue}
 use Rattle.wc_store.specs.Held.{IsHeld}
 use Rattle.wc_store.specs.declared.store.Store.{Store}
 use Rattle.wc_drill.specs.declared.error.DrillError.{DrillError}
-use Rattle.wc_drill.specs.Drilled.{HasDrilled}
-use Rattle.wc_drill.specs.Leaves.{HoldsNow, IsBegun, RefusedLeaves}
-use Rattle.wc_drill.specs.Refusals.{Counts, RefusesDrill, RefusesDrilled}
-use Rattle.wc_drill.proofs.Begun.{beside_read, counts_since, counts_unmade, drilled_refused, drilled_unbegun, init_refused, init_unbegun, made, made_two, not_begun, of_init_alone, seen_still, unasked, unasked_two, unmade}
-use Rattle.wc_drill.proofs.Results.{as_told, if_err}
+use Rattle.wc_drill.specs.Leaves.{IsBegun, RefusedLeaves}
+use Rattle.wc_drill.specs.Refusals.{Counts, RefusesDrill}
+use Rattle.wc_drill.proofs.Begun.{beside_read, counts_since, counts_unmade, drilled_refused, drilled_unbegun, filled, init_refused, init_unbegun, made, made_two, not_begun, of_init_alone, seen_still, told_mid, unasked, unasked_two, unmade}
+use Rattle.wc_drill.proofs.Results.{if_err, if_ok}
 use Rattle.wc_drill.proofs.drills.drill.Goals as goal
 
 pub returns-in_err-chains-clause-any_moment_one : goal.returns-in_err-chains-clause-any_moment_one
@@ -38,7 +36,8 @@ returns-in_err-table-clause-any_moment_two g c =
 pub returns-in-Ok-clause-done : goal.returns-in-Ok-clause-done
 returns-in-Ok-clause-done g c =
     let i = c.in-Ok.ensures in
-    as_told (λ (a b : Bool). IfOk c.drilled.result (λ batches. (w : World) × HasDrilled c.args.seed c.args.count w × (batches ≡ w.batches) × (IsTrue a → IsTrue b → HoldsNow g.D.Disk c.drilled.new.one c.drilled.new.two w))) (g.D.Disk.tells c.args.one.now) (g.D.Disk.tells c.args.two.now) (g.D.Disk.tells c.init.new.one) (g.D.Disk.tells c.init.new.two) i.tells c.drilled.ensures.done
+    if_ok c.drilled.result _ _ (λ batches h. (h.0, h.1, h.2, (h.3.0, filled g.D.Disk c.args.seed c.args.count c.args.one.now c.args.two.now c.init.new.one c.init.new.two c.drilled.new.one c.drilled.new.two i.tells i.seen_two c.drilled.ensures.any_moment c.in-Ok.store i.images h.0 h.3.0 h.3.1)))
+    c.drilled.ensures.done
 
 pub returns-in-Ok-clause-nothing : goal.returns-in-Ok-clause-nothing
 returns-in-Ok-clause-nothing g c =
@@ -48,47 +47,45 @@ returns-in-Ok-clause-nothing g c =
 pub returns-in-Ok-clause-refused : goal.returns-in-Ok-clause-refused
 returns-in-Ok-clause-refused g c =
     let i = c.in-Ok.ensures in
-    if_err c.drilled.result (RefusesDrilled g.D.Disk (IsTrue (g.D.Disk.tells c.args.one.now) × IsTrue (g.D.Disk.tells c.args.two.now)) c.args.seed c.args.count c.drilled.new.one c.drilled.new.two) (RefusesDrill g.D.Disk (IsTrue (g.D.Disk.tells c.args.one.now) × IsTrue (g.D.Disk.tells c.args.two.now)) c.args.seed c.args.count c.args.one.now c.args.two.now c.drilled.new.one c.drilled.new.two) (drilled_refused g.D.Disk (IsTrue (g.D.Disk.tells c.args.one.now) × IsTrue (g.D.Disk.tells c.args.two.now)) c.args.seed c.args.count c.args.one.now c.args.two.now c.drilled.new.one c.drilled.new.two) (as_told (λ (a b : Bool). IfErr c.drilled.result (RefusesDrilled g.D.Disk (IsTrue a × IsTrue b) c.args.seed c.args.count c.drilled.new.one c.drilled.new.two)) (g.D.Disk.tells c.args.one.now) (g.D.Disk.tells c.args.two.now) (g.D.Disk.tells c.init.new.one) (g.D.Disk.tells c.init.new.two) i.tells c.drilled.ensures.refused)
+    if_err c.drilled.result _ _ (drilled_refused g.D.Disk c.args.seed c.args.count c.args.one.now c.args.two.now c.drilled.new.one c.drilled.new.two _ (filled g.D.Disk c.args.seed c.args.count c.args.one.now c.args.two.now c.init.new.one c.init.new.two c.drilled.new.one c.drilled.new.two i.tells i.seen_two c.drilled.ensures.any_moment c.in-Ok.store i.images))
+    c.drilled.ensures.refused
 
 pub returns-in-Ok-clause-durable : goal.returns-in-Ok-clause-durable
 returns-in-Ok-clause-durable g c =
     let i = c.in-Ok.ensures in
-    let up_one : IsTrue (g.D.Disk.tells c.args.one.now) → IsTrue (g.D.Disk.tells c.init.new.one) = λ told. subst (λ (b : Bool). IsTrue b) (sym i.tells.0) told in
-    let up_two : IsTrue (g.D.Disk.tells c.args.two.now) → IsTrue (g.D.Disk.tells c.init.new.two) = λ told. subst (λ (b : Bool). IsTrue b) (sym i.tells.1) told in
-    λ begun told told_too. c.drilled.ensures.durable begun (up_one told) (up_two told_too)
+    λ begun told told_too.
+    let t = told_mid g.D.Disk c.args.one.now c.args.two.now c.init.new.one c.init.new.two i.tells told told_too in
+    c.drilled.ensures.durable begun t.0 t.1
 
 pub returns-in-Ok-clause-unbegun : goal.returns-in-Ok-clause-unbegun
 returns-in-Ok-clause-unbegun g c =
-    let i = c.in-Ok.ensures in
-    λ told told_too. drilled_unbegun g.D.Disk (IsTrue (g.D.Disk.tells c.args.one.now) × IsTrue (g.D.Disk.tells c.args.two.now)) c.args.seed c.args.count c.args.one.now c.args.two.now c.drilled.new.one c.drilled.new.two c.drilled.result (as_told (λ (a b : Bool). IfErr c.drilled.result (RefusesDrilled g.D.Disk (IsTrue a × IsTrue b) c.args.seed c.args.count c.drilled.new.one c.drilled.new.two)) (g.D.Disk.tells c.args.one.now) (g.D.Disk.tells c.args.two.now) (g.D.Disk.tells c.init.new.one) (g.D.Disk.tells c.init.new.two) i.tells c.drilled.ensures.refused)
+    λ told told_too. drilled_unbegun g.D.Disk c.args.seed c.args.count c.args.one.now c.args.two.now c.drilled.new.one c.drilled.new.two _ c.drilled.result c.drilled.ensures.refused
 
 pub returns-in-Ok-clause-seen_two : goal.returns-in-Ok-clause-seen_two
 returns-in-Ok-clause-seen_two g c =
     let i = c.in-Ok.ensures in
-    let up_one : IsTrue (g.D.Disk.tells c.args.one.now) → IsTrue (g.D.Disk.tells c.init.new.one) = λ told. subst (λ (b : Bool). IsTrue b) (sym i.tells.0) told in
-    let up_two : IsTrue (g.D.Disk.tells c.args.two.now) → IsTrue (g.D.Disk.tells c.init.new.two) = λ told. subst (λ (b : Bool). IsTrue b) (sym i.tells.1) told in
-    λ told told_too. seen_still g.D.Disk g.met.D.Disk.only_now g.met.D.Disk.counts_now g.met.D.Disk.reads_as c.args.seed c.args.count c.args.one.now c.args.two.now c.init.new.one c.init.new.two c.drilled.new.one c.drilled.new.two (i.parts told told_too) (i.nothing told told_too) (i.ok told told_too).durable_two (c.drilled.ensures.any_moment (up_one told) (up_two told_too)) i.seen_two
+    seen_still g.D.Disk c.args.seed c.args.count c.args.one.now c.args.two.now c.init.new.one c.init.new.two c.drilled.new.one c.drilled.new.two i.tells i.seen_two c.drilled.ensures.any_moment
 
 pub returns-in-Ok-clause-any_moment_one : goal.returns-in-Ok-clause-any_moment_one
 returns-in-Ok-clause-any_moment_one g c =
     let i = c.in-Ok.ensures in
-    let up_one : IsTrue (g.D.Disk.tells c.args.one.now) → IsTrue (g.D.Disk.tells c.init.new.one) = λ told. subst (λ (b : Bool). IsTrue b) (sym i.tells.0) told in
-    let up_two : IsTrue (g.D.Disk.tells c.args.two.now) → IsTrue (g.D.Disk.tells c.init.new.two) = λ told. subst (λ (b : Bool). IsTrue b) (sym i.tells.1) told in
-    λ told told_too. beside_read g.D.Disk g.met.D.Disk.only_now g.met.D.Disk.counts_now g.met.D.Disk.reads_as c.args.seed c.args.count c.args.one.now c.args.two.now c.drilled.new.one c.drilled.new.two (subst (λ (b : Bool). IsTrue b) (sym (c.drilled.ensures.tells.1 ∙ i.tells.1)) told_too) (seen_still g.D.Disk g.met.D.Disk.only_now g.met.D.Disk.counts_now g.met.D.Disk.reads_as c.args.seed c.args.count c.args.one.now c.args.two.now c.init.new.one c.init.new.two c.drilled.new.one c.drilled.new.two (i.parts told told_too) (i.nothing told told_too) (i.ok told told_too).durable_two (c.drilled.ensures.any_moment (up_one told) (up_two told_too)) i.seen_two) (made g.D.Disk g.met.D.Disk.only_now g.met.D.Disk.counts_now g.met.D.Disk.reads_as c.args.seed c.args.count c.args.one.now c.args.two.now c.init.new.one c.init.new.two c.drilled.new.one c.drilled.new.two (i.parts told told_too) (i.nothing told told_too) (i.ok told told_too).durable_two (c.drilled.ensures.any_moment (up_one told) (up_two told_too)))
+    λ told told_too.
+    let t = told_mid g.D.Disk c.args.one.now c.args.two.now c.init.new.one c.init.new.two i.tells told told_too in
+    beside_read g.D.Disk g.met.D.Disk.only_now g.met.D.Disk.counts_now g.met.D.Disk.reads_as c.args.seed c.args.count c.args.one.now c.args.two.now c.drilled.new.one c.drilled.new.two (subst (λ (b : Bool). IsTrue b) (sym c.drilled.ensures.tells.1) t.1)
+    (seen_still g.D.Disk c.args.seed c.args.count c.args.one.now c.args.two.now c.init.new.one c.init.new.two c.drilled.new.one c.drilled.new.two i.tells i.seen_two c.drilled.ensures.any_moment told told_too)
+    (made g.D.Disk g.met.D.Disk.only_now g.met.D.Disk.counts_now g.met.D.Disk.reads_as c.args.seed c.args.count c.args.one.now c.args.two.now c.init.new.one c.init.new.two c.drilled.new.one c.drilled.new.two (i.parts told told_too) (i.nothing told told_too) (i.ok told told_too).durable_two (c.drilled.ensures.any_moment t.0 t.1))
 
 pub returns-in-Ok-clause-beside : goal.returns-in-Ok-clause-beside
 returns-in-Ok-clause-beside g c =
     let i = c.in-Ok.ensures in
-    let up_one : IsTrue (g.D.Disk.tells c.args.one.now) → IsTrue (g.D.Disk.tells c.init.new.one) = λ told. subst (λ (b : Bool). IsTrue b) (sym i.tells.0) told in
-    let up_two : IsTrue (g.D.Disk.tells c.args.two.now) → IsTrue (g.D.Disk.tells c.init.new.two) = λ told. subst (λ (b : Bool). IsTrue b) (sym i.tells.1) told in
-    λ told told_too. made g.D.Disk g.met.D.Disk.only_now g.met.D.Disk.counts_now g.met.D.Disk.reads_as c.args.seed c.args.count c.args.one.now c.args.two.now c.init.new.one c.init.new.two c.drilled.new.one c.drilled.new.two (i.parts told told_too) (i.nothing told told_too) (i.ok told told_too).durable_two (c.drilled.ensures.any_moment (up_one told) (up_two told_too))
+    λ told told_too.
+    let t = told_mid g.D.Disk c.args.one.now c.args.two.now c.init.new.one c.init.new.two i.tells told told_too in
+    made g.D.Disk g.met.D.Disk.only_now g.met.D.Disk.counts_now g.met.D.Disk.reads_as c.args.seed c.args.count c.args.one.now c.args.two.now c.init.new.one c.init.new.two c.drilled.new.one c.drilled.new.two (i.parts told told_too) (i.nothing told told_too) (i.ok told told_too).durable_two (c.drilled.ensures.any_moment t.0 t.1)
 
 pub returns-in-Ok-clause-any_moment_two : goal.returns-in-Ok-clause-any_moment_two
 returns-in-Ok-clause-any_moment_two g c =
     let i = c.in-Ok.ensures in
-    let up_one : IsTrue (g.D.Disk.tells c.args.one.now) → IsTrue (g.D.Disk.tells c.init.new.one) = λ told. subst (λ (b : Bool). IsTrue b) (sym i.tells.0) told in
-    let up_two : IsTrue (g.D.Disk.tells c.args.two.now) → IsTrue (g.D.Disk.tells c.init.new.two) = λ told. subst (λ (b : Bool). IsTrue b) (sym i.tells.1) told in
-    λ told told_too. made_two g.D.Disk g.met.D.Disk.only_now g.met.D.Disk.counts_now g.met.D.Disk.reads_as c.args.seed c.args.count c.args.one.now c.args.two.now c.init.new.one c.init.new.two c.drilled.new.one c.drilled.new.two (i.parts told told_too) (i.nothing told told_too) (i.ok told told_too).durable_two (c.drilled.ensures.any_moment (up_one told) (up_two told_too)) i.any_moment_two
+    made_two g.D.Disk c.args.seed c.args.count c.args.one.now c.args.two.now c.init.new.one c.init.new.two c.drilled.new.one c.drilled.new.two i.tells i.seen_two c.drilled.ensures.any_moment i.any_moment_two
 
 pub returns-in-Ok-clause-tells : goal.returns-in-Ok-clause-tells
 returns-in-Ok-clause-tells g c =
@@ -116,12 +113,14 @@ returns-clause-durable g c =
 pub returns-clause-refused : goal.returns-clause-refused
 returns-clause-refused g c =
     let i = c.in-Err.ensures in
-    subst (RefusesDrill g.D.Disk (IsTrue (g.D.Disk.tells c.args.one.now) × IsTrue (g.D.Disk.tells c.args.two.now)) c.args.seed c.args.count c.args.one.now c.args.two.now c.init.new.one c.init.new.two) (sym c.of_init.ensures) (init_refused g.D.Disk (IsTrue (g.D.Disk.tells c.args.one.now) × IsTrue (g.D.Disk.tells c.args.two.now)) c.args.seed c.args.count c.args.one.now c.args.two.now c.init.new.one c.init.new.two c.in-Err.error i.refused i.damage)
+    subst (RefusesDrill g.D.Disk c.args.seed c.args.count c.args.one.now c.args.two.now c.init.new.one c.init.new.two) (sym c.of_init.ensures)
+    (init_refused g.D.Disk c.args.seed c.args.count c.args.one.now c.args.two.now c.init.new.one c.init.new.two c.in-Err.error i.damage i.there)
 
 pub returns-clause-unbegun : goal.returns-clause-unbegun
 returns-clause-unbegun g c =
     let i = c.in-Err.ensures in
-    λ told told_too. subst (λ (x : DrillError). RefusedLeaves {T = ℕ} g.D.Disk (Err x) c.args.one.now c.args.two.now c.init.new.one c.init.new.two) (sym c.of_init.ensures) (init_unbegun g.D.Disk (IsTrue (g.D.Disk.tells c.args.one.now) × IsTrue (g.D.Disk.tells c.args.two.now)) c.args.seed c.args.count c.args.one.now c.args.two.now c.init.new.one c.init.new.two ℕ c.in-Err.error (i.parts told told_too) i.kept)
+    λ told told_too. subst (λ (x : DrillError). RefusedLeaves {T = ℕ} g.D.Disk (Err x) c.args.one.now c.args.two.now c.init.new.one c.init.new.two) (sym c.of_init.ensures)
+    (init_unbegun g.D.Disk c.args.seed c.args.count c.args.one.now c.args.two.now c.init.new.one c.init.new.two ℕ c.in-Err.error (i.parts told told_too) i.kept)
 
 pub returns-clause-any_moment_one : goal.returns-clause-any_moment_one
 returns-clause-any_moment_one g c =

@@ -4,7 +4,7 @@ use Rattle.wc_drill.proofs.drills.drilled.Goals as goal
 pub returns-in-Err-clause-refused : goal.returns-in-Err-clause-refused
 returns-in-Err-clause-refused g c =
     let e = c.in-Err.ensures in
-    broken_refused g.D.Disk c.args.seed c.args.count c.args.store c.args.one.now c.args.two.now c.requires.empty c.requires.made c.submit_chains.new.store c.submit_chains.new.one c.submit_chains.new.two e.place c.in-Err.error c.from.result c.from.ensures e.live e.still e.some e.refused
+    broken_refused g.D.Disk c.args.seed c.args.count c.args.store c.args.one.now c.args.two.now c.requires.empty c.requires.made c.submit_chains.new.store c.submit_chains.new.one c.submit_chains.new.two e.place c.in-Err.error c.from.result c.from.ensures e.live e.still e.images e.some e.refused
 
 pub returns-in-Err-clause-durable : goal.returns-in-Err-clause-durable
 returns-in-Err-clause-durable g c =
@@ -30,7 +30,7 @@ pub returns-clause-refused : goal.returns-clause-refused
 returns-clause-refused g c =
     let f = c.in-Ok.ensures in
     let e = c.in-Err-run_all.ensures in
-    stopped_refused g.D.Disk c.args.seed c.args.count c.args.store c.args.one.now c.args.two.now c.requires.empty c.requires.made c.submit_chains.new.store c.submit_chains.new.one c.submit_chains.new.two f.place f.tells f.cause f.all c.run_all.new.store c.run_all.new.one c.run_all.new.two e.place e.takes e.still c.in-Err-run_all.error c.from-in-Err-run_all.result c.from-in-Err-run_all.ensures e.live e.early e.refused
+    stopped_refused g.D.Disk c.args.seed c.args.count c.args.store c.args.one.now c.args.two.now c.requires.empty c.requires.made c.submit_chains.new.store c.submit_chains.new.one c.submit_chains.new.two f.place f.tells f.cause f.all c.run_all.new.store c.run_all.new.one c.run_all.new.two e.place e.takes e.still c.in-Err-run_all.error c.from-in-Err-run_all.result c.from-in-Err-run_all.ensures e.live f.images e.images e.early e.refused
 
 pub returns-clause-durable : goal.returns-clause-durable
 returns-clause-durable g c =
@@ -60,13 +60,13 @@ pub returns-in-Ok-run_all-clause-done : goal.returns-in-Ok-run_all-clause-done
 returns-in-Ok-run_all-clause-done g c =
     let f = c.in-Ok.ensures in
     let e = c.in-Ok-run_all.ensures in
-    ended_done g.D.Disk c.args.seed c.args.count c.args.store c.args.one.now c.args.two.now c.requires.empty c.requires.made c.submit_chains.new.store c.submit_chains.new.one c.submit_chains.new.two f.place f.tells f.cause f.all c.run_all.new.store c.run_all.new.one c.run_all.new.two e.place e.takes e.still e.live c.in-Ok-run_all.end c.ended.result e.ends c.ended.ensures
+    ended_done g.D.Disk c.args.seed c.args.count c.args.store c.args.one.now c.args.two.now c.requires.empty c.requires.made c.submit_chains.new.store c.submit_chains.new.one c.submit_chains.new.two f.place f.tells f.cause f.all c.run_all.new.store c.run_all.new.one c.run_all.new.two e.place e.takes e.still e.live c.in-Ok-run_all.end c.ended.result e.ends c.ended.ensures f.images e.images
 
 pub returns-in-Ok-run_all-clause-refused : goal.returns-in-Ok-run_all-clause-refused
 returns-in-Ok-run_all-clause-refused g c =
     let f = c.in-Ok.ensures in
     let e = c.in-Ok-run_all.ensures in
-    ended_refused g.D.Disk c.args.seed c.args.count c.args.store c.args.one.now c.args.two.now c.requires.empty c.requires.made c.submit_chains.new.store c.submit_chains.new.one c.submit_chains.new.two f.place f.tells f.cause f.all c.run_all.new.store c.run_all.new.one c.run_all.new.two e.place e.takes e.still e.live c.in-Ok-run_all.end c.ended.result e.ends c.ended.ensures
+    ended_refused g.D.Disk c.args.seed c.args.count c.args.store c.args.one.now c.args.two.now c.requires.empty c.requires.made c.submit_chains.new.store c.submit_chains.new.one c.submit_chains.new.two f.place f.tells f.cause f.all c.run_all.new.store c.run_all.new.one c.run_all.new.two e.place e.takes e.still e.live c.in-Ok-run_all.end c.ended.result e.ends c.ended.ensures f.images e.images
 
 pub returns-in-Ok-run_all-clause-durable : goal.returns-in-Ok-run_all-clause-durable
 returns-in-Ok-run_all-clause-durable g c =

@@ -33,6 +33,10 @@ pub returns-clause-still : goal.returns-clause-still
 returns-clause-still g c =
     c.run.ensures.still
 
+pub returns-clause-images : goal.returns-clause-images
+returns-clause-images g c =
+    c.run.ensures.images
+
 pub returns-clause-place : goal.returns-clause-place
 returns-clause-place g c =
     c.run.ensures.place

@@ -1,5 +1,6 @@
 use Rattle.std.proofs.Common.{inl, inr, refl, sym, subst, ◌∙◌}
 use Rattle.wc_world.specs.Room.{Holding}
+use Rattle.wc_store.proofs.Led.{leads_same}
 use Rattle.wc_runner.specs.Leaves.{of_world}
 use Rattle.wc_runner.specs.Refusals.{RefusesStored}
 use Rattle.wc_runner.proofs.Leaving.{commit_leaves, stands_leaves}
@@ -32,6 +33,10 @@ returns-in-Ok-clause-untouched_two g c =
 pub returns-in-Ok-clause-still : goal.returns-in-Ok-clause-still
 returns-in-Ok-clause-still g c =
     c.committed.ensures.still
+
+pub returns-in-Ok-clause-images : goal.returns-in-Ok-clause-images
+returns-in-Ok-clause-images g c =
+    c.committed.ensures.images
 
 pub returns-in-Ok-clause-place : goal.returns-in-Ok-clause-place
 returns-in-Ok-clause-place g c =
@@ -91,6 +96,10 @@ returns-in-Err-clause-untouched_two g c =
 pub returns-in-Err-clause-still : goal.returns-in-Err-clause-still
 returns-in-Err-clause-still g c =
     λ live. c.requires.stands
+
+pub returns-in-Err-clause-images : goal.returns-in-Err-clause-images
+returns-in-Err-clause-images g c =
+    leads_same c.args.store.now
 
 pub returns-in-Err-clause-any_moment : goal.returns-in-Err-clause-any_moment
 returns-in-Err-clause-any_moment g c =

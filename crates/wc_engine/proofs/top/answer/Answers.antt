@@ -136,7 +136,8 @@ pub returns-in_ok-act-in-On-clause-early : goal.returns-in_ok-act-in-On-clause-e
 returns-in_ok-act-in-On-clause-early g c =
     λ cause is none.
     let plans = subst (λ (p : Plan). Plans (g.R.Shelf.contents c.args.shelf.now) (command_of c.args.words.now) p) c.in-On.is c.in_ok-reply.ensures.plans in
-    absurd (none c.in-On.deed plans c.in_ok-act-in-On.field-0 c.in_ok-act-in-On.ensures.does.0 is)
+    let does = c.in_ok-act-in-On.ensures.does in
+    absurd (none c.in-On.deed plans c.in_ok-act-in-On.field-0 does.before does.after does.are is)
 
 pub returns-in_ok-act-in-On-clause-undone : goal.returns-in_ok-act-in-On-clause-undone
 returns-in_ok-act-in-On-clause-undone g c =

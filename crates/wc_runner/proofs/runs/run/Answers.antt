@@ -14,6 +14,7 @@ use Rattle.wc_runner.proofs.OnTrail.{begins_led, led_on, led_still}
 use Rattle.wc_runner.proofs.Trailed.{breaks_at, breaks_unasked, ended_not_spent, goes_none, goes_rest, goes_turn, memory_alone, resting_not_spent}
 use Rattle.wc_runner.proofs.UnderWay.{asks, begins, breaks, brings_codes, directories_kept, directories_left, goes_on, moment_told, no_worse, refuses, rests_on, up_to}
 use Rattle.wc_runner.proofs.Taken.{ready_there, what_it_needs}
+use Rattle.wc_store.proofs.Led.{leads_on, leads_same}
 use Rattle.wc_runner.proofs.runs.run.Goals as goal
 
 pub trip-init : goal.trip-init
@@ -21,6 +22,7 @@ trip-init g c = record {
   under = begins g.D.Disk g.T.Transport g.P.Pacer c.args.limits.now c.args.turns c.args.store.now c.args.one.now c.args.two.now c.args.transport.now c.args.pacer.now g.met.D.Disk.only_now c.requires.live c.requires.stands;
   goes = goes_none g.T.Transport g.P.Pacer c.args.limits.now c.args.transport.now c.args.pacer.now c.args.store.now.world.world;
   moments = begins_led g.D.Disk g.T.Transport g.P.Pacer c.args.limits.now c.args.turns c.args.store.now c.args.one.now c.args.two.now c.args.transport.now c.args.pacer.now g.met.D.Disk.only_now c.requires.stands;
+  images = leads_same c.args.store.now;
 }
 
 pub returns-in-AllEnded-clause-takes : goal.returns-in-AllEnded-clause-takes
@@ -34,6 +36,10 @@ returns-in-AllEnded-clause-trail g c =
 pub returns-in-AllEnded-clause-any_moment : goal.returns-in-AllEnded-clause-any_moment
 returns-in-AllEnded-clause-any_moment g c =
     (c.trip.invariant.under).way.any_moment
+
+pub returns-in-AllEnded-clause-images : goal.returns-in-AllEnded-clause-images
+returns-in-AllEnded-clause-images g c =
+    c.trip.invariant.images
 
 pub returns-in-AllEnded-clause-moments : goal.returns-in-AllEnded-clause-moments
 returns-in-AllEnded-clause-moments g c =
@@ -71,6 +77,10 @@ pub returns-in-Resting-clause-any_moment : goal.returns-in-Resting-clause-any_mo
 returns-in-Resting-clause-any_moment g c =
     (c.trip.invariant.under).way.any_moment
 
+pub returns-in-Resting-clause-images : goal.returns-in-Resting-clause-images
+returns-in-Resting-clause-images g c =
+    c.trip.invariant.images
+
 pub returns-in-Resting-clause-moments : goal.returns-in-Resting-clause-moments
 returns-in-Resting-clause-moments g c =
     c.trip.invariant.moments
@@ -107,6 +117,10 @@ pub returns-then-taken-turns-clause-any_moment : goal.returns-then-taken-turns-c
 returns-then-taken-turns-clause-any_moment g c =
     (c.trip.invariant.under).way.any_moment
 
+pub returns-then-taken-turns-clause-images : goal.returns-then-taken-turns-clause-images
+returns-then-taken-turns-clause-images g c =
+    c.trip.invariant.images
+
 pub returns-then-taken-turns-clause-moments : goal.returns-then-taken-turns-clause-moments
 returns-then-taken-turns-clause-moments g c =
     c.trip.invariant.moments
@@ -138,6 +152,10 @@ returns-in_err-next-clause-takes g c =
 pub returns-in_err-next-clause-any_moment : goal.returns-in_err-next-clause-any_moment
 returns-in_err-next-clause-any_moment g c =
     (moment_told g.D.Disk g.T.Transport g.P.Pacer c.args.limits.now c.args.turns c.args.store.now c.args.one.now c.args.two.now c.args.transport.now c.args.pacer.now c.trip.taken c.trip.store c.trip.one c.trip.two c.trip.transport c.trip.pacer c.trip.invariant.under c.now-now.new.self c.now-now.ensures.keeps c.now-now.ensures.rests).way.any_moment
+
+pub returns-in_err-next-clause-images : goal.returns-in_err-next-clause-images
+returns-in_err-next-clause-images g c =
+    c.trip.invariant.images
 
 pub returns-in_err-next-clause-moments : goal.returns-in_err-next-clause-moments
 returns-in_err-next-clause-moments g c =
@@ -353,6 +371,10 @@ returns-in-Err-clause-broken g c =
     breaks_at g.T.Transport g.P.Pacer c.args.limits.now c.args.transport.now c.args.pacer.now c.args.store.now.world.world c.trip.taken c.trip.transport c.trip.pacer c.trip.store.world.world c.trip.invariant.goes c.args.turns c.now-now.result c.in-Turn.pid c.trip.store.journal c.turn_one.new.store.journal c.turn_one.new.transport c.now-now.new.self
     c.turn_one.new.store.world.world c.in-Err.error less says ready e.same e.kept e.place.2 e.refused e.asks e.stays
 
+pub returns-in-Err-clause-images : goal.returns-in-Err-clause-images
+returns-in-Err-clause-images g c =
+    leads_on c.args.store.now c.trip.store c.turn_one.new.store c.trip.invariant.under.way.place c.trip.invariant.images c.in-Err.ensures.images
+
 pub returns-in-Err-clause-moments : goal.returns-in-Err-clause-moments
 returns-in-Err-clause-moments g c =
     let less : c.trip.taken < c.args.turns = let few = c.trip.invariant.under.way.few in let not_all = c.if-taken-turns.false in omega arith in
@@ -381,6 +403,7 @@ trip-preserved g c =
           (what_it_needs s.world.world c.in-Turn.pid (AsksOnce done g.T.Transport.asked c.trip.transport c.turn_one.new.transport) there.0 there.1 e.asks) e.tells e.cause;
       goes = goes_turn g.T.Transport g.P.Pacer c.args.limits.now c.args.transport.now c.args.pacer.now c.args.store.now.world.world c.trip.taken c.trip.transport c.trip.pacer c.trip.store.world.world c.trip.invariant.goes c.turn_one.new.transport c.now-now.new.self c.turn_one.new.store.world.world
           (record { now = c.now-now.result; says = says; pid = c.in-Turn.pid; turn = e.ok; asks = e.asks; stays = e.stays });
+      images = leads_on c.args.store.now c.trip.store c.turn_one.new.store c.trip.invariant.under.way.place c.trip.invariant.images e.images;
       moments = led_on g.D.Disk g.T.Transport g.P.Pacer c.args.limits.now c.args.turns c.args.store.now c.args.one.now c.args.two.now c.args.transport.now c.args.pacer.now c.trip.taken c.trip.store c.trip.one c.trip.two c.trip.transport c.trip.pacer c.trip.invariant less c.in-Turn.pid c.now-now.result c.now-now.new.self says c.turn_one.new.one c.turn_one.new.two c.turn_one.new.transport e.stays e.any_moment e.asks;
     }
 
@@ -401,4 +424,5 @@ trip-preserved-in-Rest g c =
       goes = goes_rest g.T.Transport g.P.Pacer c.args.limits.now c.args.transport.now c.args.pacer.now c.args.store.now.world.world c.trip.taken c.trip.transport c.trip.pacer c.trip.store.world.world c.trip.invariant.goes c.rest.new.self
           (record { now = c.now-now.result; between = c.now-now.new.self; says = says; none = rests.0; until = c.in-Rest.until; later = rests.1; least = rests.2; rests = rested });
       moments = c.trip.invariant.moments;
+      images = c.trip.invariant.images;
     }

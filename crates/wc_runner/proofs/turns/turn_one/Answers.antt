@@ -15,6 +15,7 @@ use Rattle.wc_runner.proofs.Leaving.{commit_leaves, stands_leaves, weaker_leaves
 use Rattle.wc_runner.proofs.Needed.{asks_on, needs_map}
 use Rattle.wc_runner.proofs.Placed.{are_still, own_placed, turn_placed}
 use Rattle.wc_runner.proofs.Taken.{ready_there, what_it_needs}
+use Rattle.wc_store.proofs.Led.{leads_same}
 use Rattle.wc_runner.proofs.turns.turn_one.Goals as goal
 
 pub returns-in-Ok-clause-fits : goal.returns-in-Ok-clause-fits
@@ -44,6 +45,10 @@ returns-in-Ok-clause-untouched_two g c =
 pub returns-in-Ok-clause-still : goal.returns-in-Ok-clause-still
 returns-in-Ok-clause-still g c =
     c.committed.ensures.still
+
+pub returns-in-Ok-clause-images : goal.returns-in-Ok-clause-images
+returns-in-Ok-clause-images g c =
+    c.committed.ensures.images
 
 pub returns-in-Ok-clause-place : goal.returns-in-Ok-clause-place
 returns-in-Ok-clause-place g c =
@@ -220,3 +225,7 @@ returns-in-Err-clause-asks g c =
 pub returns-in-Err-clause-stays : goal.returns-in-Err-clause-stays
 returns-in-Err-clause-stays g c =
     subst (λ (h : Holding). WhatItNeeds h.world c.args.pid (λ n. IsAsked g.T.Transport c.args.pid n c.args.transport.now c.prepared.new.transport)) c.world.ensures c.in-Err.ensures.stays
+
+pub returns-in-Err-clause-images : goal.returns-in-Err-clause-images
+returns-in-Err-clause-images g c =
+    leads_same c.args.store.now

@@ -1,7 +1,9 @@
-use Rattle.std.proofs.Common.{◌∙◌, inr, refl, sym}
-use Rattle.wc_store.proofs.Opened.{opens_none, opens_some}
+use Rattle.std.proofs.Common.{◌≡◌, ◌∙◌, inr, refl, sym}
+use Rattle.wc_store.specs.Choices.{no_store, chosen}
+use Rattle.wc_store.specs.Stores.{IsMadeOf}
+use Rattle.wc_store.proofs.Opened.{images_as, opens_none, opens_some}
 use Rattle.wc_store.proofs.Imaged.{images_made}
-use Rattle.wc_store.proofs.Made.{made, made_parts, none_opened, second_counts}
+use Rattle.wc_store.proofs.Made.{made, made_parts, none_opened, some_opened, second_counts}
 use Rattle.wc_store.proofs.store.Store.init.Goals as goal
 
 pub returns-then-is_some-clause-refused : goal.returns-then-is_some-clause-refused
@@ -35,4 +37,9 @@ returns-in-Err-DiskFault-clause-parts g c =
 pub returns-in-Ok-clause-images : goal.returns-in-Ok-clause-images
 returns-in-Ok-clause-images g c =
     let none = none_opened g.D.Disk c.args.one.now c.args.two.now c.in_ok-open.field-0 (sym c.if-is_some.ensures) c.in_ok-open.ensures.images in
-    images_made none.first none.second _ _ _ none.are c.new.ensures c.in-Ok.ensures.version c.in-Ok.ensures.generation c.in-Ok.ensures.end
+    images_as g.D.Disk c.args.one.now c.args.two.now (λ a b. chosen a b ≡ no_store) (IsMadeOf _)
+    (λ a b bare. images_made a b _ _ _ bare c.new.ensures c.in-Ok.ensures.version c.in-Ok.ensures.generation c.in-Ok.ensures.end) none
+
+pub returns-then-is_some-clause-there : goal.returns-then-is_some-clause-there
+returns-then-is_some-clause-there g c =
+    λ there. some_opened g.D.Disk c.args.one.now c.args.two.now c.in_ok-open.field-0 (sym c.if-is_some.ensures) c.in_ok-open.ensures.images

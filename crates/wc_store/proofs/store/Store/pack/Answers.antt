@@ -6,9 +6,9 @@ use Rattle.wc_record.proofs.Whole.{written_is_read}
 use Rattle.wc_world.specs.Snapshot.{snapshot}
 use Rattle.wc_store.specs.declared.place.Place.{Place}
 use Rattle.wc_store.specs.Writes.{Replaces}
-use Rattle.wc_store.specs.Stores.{other, StandsFor, HasImages}
+use Rattle.wc_store.specs.Stores.{other, StandsFor, PacksTo}
 use Rattle.wc_store.proofs.Committed.{replaced_leaves, replaced_stands}
-use Rattle.wc_store.proofs.Imaged.{images_packed, images_same}
+use Rattle.wc_store.proofs.Imaged.{images_packed}
 use Rattle.wc_store.proofs.store.Store.pack.Goals as goal
 
 pub returns-in-Ok-clause-still : goal.returns-in-Ok-clause-still
@@ -66,9 +66,6 @@ returns-in-Ok-clause-images g c =
     let replaces = subst (λ (m : ℕ). Replaces g.D.Disk (m + 1) p (other s.place c.args.one.now c.args.two.now) (other s.place c.replace_beside.new.one c.replace_beside.new.two) (Ok j)) c.generation-generation.ensures.value c.in-Ok.ensures.replaces in
     let few : s.journal.generation + 1 < 2 ^ 64 = omega (arith, c.in_ok-batch.ensures.fits.few, c.generation-generation.ensures.value) in
     let fits : length p ≤ most_of 2 = subst (λ (v : ℕ). length p ≤ most_of v) batch.version_is c.in_ok-batch.batch.is_small in
-    subst (λ (q : Place). HasImages s → HasImages (record { world = s.world; journal = j; place = q; live = s.live })) (sym c.other-self.ensures)
-    (images_packed s p s.world j s.live (subst (λ (q : List ℕ). whole q (Ok (snapshot s.world.world))) (sym batch.payload) (written_is_read (snapshot s.world.world) batch.written))
+    subst (λ (q : Place). PacksTo s (record { world = s.world; journal = j; place = q; live = s.live })) (sym c.other-self.ensures)
+    (images_packed s p s.world j s.live batch.payload (subst (λ (q : List ℕ). whole q (Ok (snapshot s.world.world))) (sym batch.payload) (written_is_read (snapshot s.world.world) batch.written))
     c.in_ok-batch.ensures.reached fits few refl replaces.version replaces.generation replaces.end)
-
-pub returns-clause-images : goal.returns-clause-images
-returns-clause-images g c = images_same c.args.self.now c.args.self.now.world c.args.self.now.journal c.is_live_after-self.result refl refl refl refl

@@ -67,7 +67,7 @@ TellsAt nothing r = r ≡ refuses cause.NoStore
 TellsAt (damage disk at found) r = r ≡ is_damaged disk at found
 TellsAt (a_world w) r = ⊥
 
--- The disks hold no world, and read as before.
+-- The images hold no world, and are the same at exit.
 pub record HasNoWorld (before after : Images) (r : Reply) : Type 0 where
   pub standing : Standing
   pub held : Hold before standing

@@ -38,11 +38,11 @@ pub record OfVisit (v : Visit) (P : (before after : Images) → Type 0) : Type 0
   pub told : IsTrue v.tells_one → IsTrue v.tells_two → (before ≡ v.before) × (after ≡ v.after)
   pub are : P before after
 
--- what is done on a store, by the world that the disks hold at entry
+-- what is done on a store, by the world that the images hold at entry
 abbrev pub DoneOn : WorkRow → World → Reply → (before after : Images) → Type 0
 DoneOn k w reply before after = Hold before (a_world w) × k.does before w after reply
 
--- what a deed has done, by what the disks hold at entry
+-- what a deed has done, by what the images hold at entry
 abbrev pub Done : Row → Reply → (before after : Images) → Type 0
 Done k reply before after = (s : Standing) × Hold before s × k.does before s after reply
 

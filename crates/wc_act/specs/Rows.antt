@@ -30,9 +30,9 @@ use Rattle.wc_act.specs.Views.{ShowsStill}
 pub record WorkRow : Type 1 where
   -- what it may make of the world, in which images, at any moment
   pub makes : World → World → Images → Type 0
-  -- what it has done, from what the disks read as at entry to what they read as at exit, and its reply
+  -- what it has done, from the images at entry to those at exit, and its reply
   pub does : Images → World → Images → Reply → Type 0
-  -- one reply at most is owed for what the disks read as at entry and at exit
+  -- one reply at most is owed for the images at entry and at exit
   pub certain : Type 0
   -- the statuses with which nothing was written
   pub undone : Status → Type 0
@@ -105,7 +105,7 @@ pub record Row : Type 1 where
   -- with which worlds it may begin a store, at any moment, where there is none
   pub begins : World → Type 0
   pub makes : World → World → Images → Type 0
-  -- what it has done, by what the disks hold at entry
+  -- what it has done, by what the images hold at entry
   pub does : Images → Standing → Images → Reply → Type 0
   pub certain : Type 0
   pub undone : Status → Type 0

@@ -48,13 +48,13 @@ pub record HoldsOnOne (one two : List ℕ) (w : World) (journal : Journal) : Typ
   pub generation : journal.generation ≡ 1
   pub version : journal.version ≡ 2
 
--- The disks read as two images that hold this world so, where they tell their bytes; and whatever two images hold the store, with another image of
+-- The disks read as two images that hold this world so, where they tell their bytes; and whatever two images hold the store, with some image of
 -- disk one they do.
 pub record IsHeldAfter {D : Type 0} (g : disk.Ghosts D) (told : Type 0) (store : Store) (one_new two_new : D) (w : World) (journal : Journal) : Type 0 where
   pub seen : told → HoldsOnOne (g.seen one_new) (g.seen two_new) w journal
   pub beside : (one two : List ℕ) → IsOfImages store one two → (made : List ℕ) × HoldsOnOne made two w journal
 
--- Two images hold nothing, and with another image of disk one they hold this world so: those that the disks read as at entry and at exit, where
+-- Two images hold nothing, and with some image of disk one they hold this world so: those that the disks read as at entry and at exit, where
 -- they tell their bytes.
 pub record IsFilled {D : Type 0} (g : disk.Ghosts D) (one two one_new two_new : D) (w : World) (journal : Journal) : Type 0 where
   pub first : List ℕ

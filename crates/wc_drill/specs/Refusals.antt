@@ -116,8 +116,8 @@ RefusesDrilled Holds seed count Spent = (v : World) × IsSpent seed count v × (
 RefusesDrilled Holds seed count Resting = (v : World) × IsHeldUp seed count v × ((journal : Journal) × Holds v journal)
 RefusesDrilled Holds seed count OutOfMemory = Unit {0}
 
--- Damage is what some two images hold, and a store is there in some two: those that the disks read as, where they tell their bytes. Else a store was
--- made.
+-- Damage is what some two images hold, and a store is there in some two: those that the disks read as, where they tell their bytes. Else
+-- it is that of a store that was made; of a fault and of want of memory nothing is said.
 abbrev pub RefusesDrill : {D : Type 0} → disk.Ghosts D → (seed count : ℕ) → (one two one_new two_new : D) → DrillError → Type 0
 RefusesDrill g seed count one two one_new two_new (Damaged number at found) = OfImages g one two (λ a b. IsHeld a b (damage number at found))
 RefusesDrill g seed count one two one_new two_new AlreadyThere = OfImages g one two HoldsAWorld

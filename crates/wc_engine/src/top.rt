@@ -123,8 +123,8 @@ pub fn serve<R: Shelf, W: Sink, D: Disk, T: Transport, P: Pacer>(
     ensures asked { IsAskedFor T.Transport (turns_of (command_of words.now)) transport.old transport.new }
     // Where a `run` was done, or found the store too full, the world that the disks hold then is what turns and rests make of the one that they
     // held at entry, at most as many as it may take, all of them with Spent, and fewer with Full. They follow each other from the transport and the clock as they were
-    // to those that are left: each turn has the answer to its own call of the transport, at a moment that the clock was asked for once, also the last one, which is refused,
-    // with Full; each rest was counted, and none was taken where a process was ready. Each exit code that is kept since, of a sound
+    // to those that are left: each turn has the answer to its own call of the transport, or none where nothing is needed, at a moment that the clock was asked for once, also the
+    // last one, which is refused, with Full; each rest was counted, and none was taken where a process was ready. Each exit code that is kept since, of a sound
     // world, is that of the job's recorded result for its request, which is the table's where it is told. Where no call of the
     // transport failed, no process got the pause mark and none failed more often. Where each placed directory belonged to a process, each does.
     ensures outside { NeedDisks (R.contents shelf.old) words.now → IsDoneOrFull result → IsTrue (D.tells one.old) → IsTrue (D.tells two.old)

@@ -116,7 +116,7 @@ pub record IsPackedTo (store new : Store) (one two : List ℕ) : Type 0 where
 abbrev pub PacksTo : Store → Store → Type 0
 PacksTo store new = (one two : List ℕ) → IsOfImages store one two → IsPackedTo store new one two
 
--- the two images hold nothing, and with another image of disk one they hold the store
+-- the two images hold nothing, and with some image of disk one they hold the store
 abbrev pub IsMadeOf : Store → (one two : List ℕ) → Type 0
 IsMadeOf store one two = IsHeld one two nothing × ((made : List ℕ) × IsOfImages store made two)
 

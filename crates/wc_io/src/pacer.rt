@@ -1,5 +1,5 @@
 //! A clock that can wait.
-ghost use Rattle.std.specs.Prelude.{◌≡◌, ℕ};
+ghost use Rattle.std.specs.Prelude.{◌≡◌, ◌+◌, ◌*◌, ℕ, Option, None, option_map};
 ghost use Rattle.wc_io.specs.Counts.{RisesByOne};
 
 /// A clock that can wait. It has no error.
@@ -13,6 +13,9 @@ pub trait Pacer {
     /// How many rests were taken.
     ghost rests: { Self → ℕ };
 
+    /// How many nanoseconds all rests were to take, where the pacer tells it.
+    ghost slept: { Self → Option ℕ } = { λ _. None };
+
     /// A moment that was told. Of this relation nothing else is known.
     ghost said: { Self → ℕ → Type 0 };
 
@@ -21,6 +24,7 @@ pub trait Pacer {
         ensures last { last self.new ≡ result }
         ensures told { RisesByOne (told self.old) (told self.new) }
         ensures rests { rests self.new ≡ rests self.old }
+        ensures slept { slept self.new ≡ slept self.old }
         ensures said { said self.new result }
         ensures keeps { (moment : ℕ) → said self.old moment → said self.new moment };
 
@@ -29,5 +33,6 @@ pub trait Pacer {
         ensures last { last self.new ≡ last self.old }
         ensures told { told self.new ≡ told self.old }
         ensures rests { RisesByOne (rests self.old) (rests self.new) }
+        ensures slept { slept self.new ≡ option_map (λ before. before + ms * 1_000_000) (slept self.old) }
         ensures keeps { (moment : ℕ) → said self.old moment → said self.new moment };
 }

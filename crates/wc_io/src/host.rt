@@ -319,7 +319,7 @@ fn sleep<R: Clock>(rt: &R, log: &mut Record, time: Duration)
 }
 
 impl<R: Clock + Drop> Pacer for ClockPacer<R> {
-    ghost use Rattle.std.specs.Prelude.{IsTrue, Some};
+    ghost use Rattle.std.specs.Prelude.{IsTrue, None, Some};
     ghost use Rattle.wc_io.specs.Events.{was_said, all_rests};
 
     ghost last = { λ pacer. pacer.last };
@@ -331,6 +331,8 @@ impl<R: Clock + Drop> Pacer for ClockPacer<R> {
     ghost slept = { λ pacer. Some (all_rests pacer.log.events) };
 
     ghost said = { λ pacer moment. IsTrue (was_said moment pacer.log.events) };
+
+    ghost least = { λ _. None };
 
     /// Where the clock can't be read it is the last moment again.
     fn now(&mut self) -> u64 {

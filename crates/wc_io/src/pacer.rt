@@ -1,6 +1,7 @@
 //! A clock that can wait.
-ghost use Rattle.std.specs.Prelude.{◌≡◌, ◌+◌, ◌*◌, ℕ, Option, None, option_map};
+ghost use Rattle.std.specs.Prelude.{◌≡◌, ◌≤◌, ◌+◌, ◌*◌, ℕ, Option, None, option_map};
 ghost use Rattle.wc_io.specs.Counts.{RisesByOne};
+ghost use Rattle.wc_io.specs.Steady.{StaysSteady, rested};
 
 /// A clock that can wait. It has no error.
 pub trait Pacer {
@@ -19,6 +20,9 @@ pub trait Pacer {
     /// A moment that was told. Of this relation nothing else is known.
     ghost said: { Self → ℕ → Type 0 };
 
+    /// The least moment that it may tell next, where it is steady: its moments never fall then, and a rest lasts as long as it is to.
+    ghost least: { Self → Option ℕ };
+
     /// The moment now, in milliseconds.
     fn now(&mut self) -> u64
         ensures last { last self.new ≡ result }
@@ -26,6 +30,7 @@ pub trait Pacer {
         ensures rests { rests self.new ≡ rests self.old }
         ensures slept { slept self.new ≡ slept self.old }
         ensures said { said self.new result }
+        ensures steady { StaysSteady (λ before now. (before ≤ result) × (now ≡ result)) (least self.old) (least self.new) }
         ensures keeps { (moment : ℕ) → said self.old moment → said self.new moment };
 
     /// Waits for so many milliseconds.
@@ -34,5 +39,6 @@ pub trait Pacer {
         ensures told { told self.new ≡ told self.old }
         ensures rests { RisesByOne (rests self.old) (rests self.new) }
         ensures slept { slept self.new ≡ option_map (λ before. before + ms * 1_000_000) (slept self.old) }
+        ensures steady { StaysSteady (λ before now. rested before ms ≤ now) (least self.old) (least self.new) }
         ensures keeps { (moment : ℕ) → said self.old moment → said self.new moment };
 }

@@ -1,5 +1,5 @@
 -- The runs of calls that add a batch.
-use Rattle.std.proofs.Common.{◌≡◌, inl, inr, ⊎_elim, ℕ, ◌+◌, ◌-◌, ◌<◌, ◌≤◌, Bool, List, [], ◌∷◌, ◌++◌, length, take, drop, get_or, refl, sym, ◌∙◌, ap, subst, arith, length-append, length-drop, append_assoc}
+use Rattle.std.proofs.Common.{◌≡◌, inl, inr, ⊎_elim, ℕ, ◌+◌, ◌-◌, ◌<◌, ◌≤◌, Bool, List, [], ◌∷◌, ◌++◌, length, max, take, drop, get_or, refl, sym, ◌∙◌, ap, subst, arith, length-append, length-drop, append_assoc}
 use Rattle.std.proofs.lemmas.List.{length-take, take-take, take-append-le, take_at, take_all, drop_at, drop_more}
 use Rattle.wc_disk.specs.declared.disk.Disk as disk
 use Rattle.wc_disk.specs.Steps.{overwritten, Torn, Only}
@@ -9,6 +9,7 @@ use Rattle.wc_journal.specs.declared.journal.Journal.{Journal}
 use Rattle.wc_journal.specs.Reading.{Placed, Held, holds, journal_of, batches_of, is_snapshot_place, size_of, end_of}
 use Rattle.wc_journal.specs.Frame.{framed, most_of}
 use Rattle.wc_journal.specs.Journals.{IsSettled, HoldsEither, with_batch}
+use Rattle.wc_journal.specs.Refusals.{size_after}
 use Rattle.wc_journal.proofs.Holding.{end_inside}
 use Rattle.wc_journal.proofs.Appending.{length-framed, kept, gated, opened}
 use Rattle.wc_journal.proofs.Loading.{end_push}
@@ -37,6 +38,10 @@ module _ (file bytes : List ℕ) (end : ℕ) (within : end < length file) where
 
   pub staged_back : drop (end + 1) staged ≡ bytes ++ rest
   staged_back = ap (λ (l : List ℕ). drop (end + 1) l) staged_split ∙ drop_at (take (end + 1) file) (bytes ++ rest) (end + 1) front_size
+
+  pub staged_length : length staged ≤ max (length file) (end + 1 + length bytes)
+  staged_length =
+      omega (arith, ap length staged_split, length-append (take (end + 1) file) (bytes ++ rest), length-append bytes rest, length-drop (end + 1 + length bytes) file, front_size)
 
   -- a write of the one byte at the place leaves what is around it
   pub gate_torn : (image : List ℕ) → Torn end 1 (length staged) staged image → (take end image ≡ take end file) × (drop end image ≡ get_or image end 0 ∷ (bytes ++ rest))
@@ -145,3 +150,25 @@ module _ {D : Type 0} (g : disk.Ghosts D) (old : D) (journal : Journal) (s : Boo
         let b : ℕ × List ℕ = (journal.end + 1 + size_of v, payload) in
         let ends : later.end ≡ end_of (bs ++ b ∷ []) = omega (arith, longer, end_push 16 bs b, ap length adds.is, length-framed v s payload) in
         settled_by g later d2 (bs ++ b ∷ []) only (added_held opening ∙ (λ i. holds (sym version i) (sym generation i) (bs ++ b ∷ []))) ends
+
+  -- ---- how long the file is
+  abbrev most : ℕ
+  most = max (length file) (size_after journal.end v payload)
+
+  abbrev Short : List ℕ → Type 0
+  Short = λ image. length image ≤ most
+
+  size : size_after journal.end v payload ≡ journal.end + 1 + length bytes
+  size = omega (arith, ap length adds.is, length-framed v s payload)
+
+  torn_short : (image : List ℕ) → Torn (journal.end + 1) (length bytes) (length file) file image → Short image
+  torn_short image torn = omega (arith, torn.no_longer, size)
+
+  pub first_short : (d1 : D) → LeavesOnly g old d1 (Torn (journal.end + 1) (length bytes) (length file) file) → LeavesOnly g old d1 Short
+  first_short d1 batch = weaker_run g old d1 (Torn (journal.end + 1) (length bytes) (length file) file) Short batch torn_short
+
+  pub second_short : (d1 d2 : D) → g.seen d1 ≡ overwritten (journal.end + 1) bytes file → LeavesOnly g old d1 (Torn (journal.end + 1) (length bytes) (length file) file)
+      → LeavesOnly g d1 d2 (Torn journal.end 1 (length (g.seen d1)) (g.seen d1)) → LeavesOnly g old d2 Short
+  second_short d1 d2 written batch gate =
+      both_runs g old d1 d2 (Torn (journal.end + 1) (length bytes) (length file) file) (Torn journal.end 1 (length (g.seen d1)) (g.seen d1)) Short batch gate torn_short
+      (λ image torn. omega (arith, torn.no_longer, ap length written, staged_length file bytes journal.end gate_inside, size, gate_inside))

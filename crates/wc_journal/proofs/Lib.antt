@@ -6,6 +6,7 @@ mod Loading
 pub mod Writing
 mod Making
 mod Adding
+pub mod Lengths
 pub mod Growing
 mod Respelled
 mod Rows

@@ -2,6 +2,7 @@
 use Rattle.std.specs.Prelude.{◌≡◌, ◌⊎◌, ◌+◌, ◌≤◌, ◌==◌, ◌||◌, ◌++◌, [], ◌∷◌, Bool, false, ℕ, List, length, max, slice_index, Option, Some, None, if◌then◌else◌}
 use Rattle.wc_disk.specs.declared.disk.Disk as disk
 use Rattle.wc_disk.specs.Steps.{overwritten, Only}
+use Rattle.wc_disk.specs.Images.{LeavesOnly}
 use Rattle.wc_journal.specs.declared.journal.Journal.{Journal}
 use Rattle.wc_journal.specs.declared.journal.Loaded.{Loaded}
 use Rattle.wc_journal.specs.Reading.{Held, Placed, no_journal, holds, journal_of, batches_of, size_of, end_of}
@@ -19,6 +20,11 @@ pub record IsSettled {D : Type 0} (g : disk.Ghosts D) (journal : Journal) (disk 
 -- the journal with one batch more
 abbrev pub with_batch : Journal → Held → List ℕ → Held
 with_batch journal before payload = holds journal.version journal.generation (batches_of before ++ (journal.end + 1 + size_of journal.version, payload) ∷ [])
+
+-- The file has at most so many bytes, and so has each image that a crash from before the call to now leaves.
+pub record StaysWithin {D : Type 0} (g : disk.Ghosts D) (most : ℕ) (old new : D) : Type 0 where
+  pub file : length (g.seen new) ≤ most
+  pub images : LeavesOnly g old new (λ image. length image ≤ most)
 
 -- the image holds the one or the other
 abbrev pub HoldsEither : Held → Held → List ℕ → Type 0

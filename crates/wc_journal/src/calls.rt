@@ -1,5 +1,5 @@
 //! The calls of a journal.
-ghost use Rattle.std.specs.Prelude.{◌≡◌, ◌+◌, ◌-◌, ◌^◌, ◌<◌, ◌≤◌, ◌++◌, [], ◌∷◌, ℕ, true, length, min, IfNone, IfSome, IsTrue, IsErrOf, IfOk, IfErr, OnOk, OnErr};
+ghost use Rattle.std.specs.Prelude.{◌≡◌, ◌+◌, ◌-◌, ◌^◌, ◌<◌, ◌≤◌, ◌++◌, [], ◌∷◌, ℕ, true, length, min, max, IfNone, IfSome, IsTrue, IsErrOf, IfOk, IfErr, OnOk, OnErr};
 ghost use Rattle.wc_disk.specs.Steps.{Only};
 ghost use Rattle.wc_disk.specs.Images.{LeavesOnly};
 ghost use Rattle.wc_journal.specs.Reading.{no_journal, holds, journal_of, batches_of, is_snapshot_place};
@@ -7,7 +7,7 @@ ghost use Rattle.wc_journal.specs.Frame.{heading, framed, most_of};
 ghost use Rattle.wc_journal.specs.Spelled.{spelled};
 ghost use Rattle.wc_journal.specs.Refusals.{size_after, RefusesAppend, RefusesImage, RefusesLoad, OnlyDiskFault, RefusesReading, CountsDiskFault, IfRead};
 ghost use Rattle.wc_journal.specs.Batches.{payload_of};
-ghost use Rattle.wc_journal.specs.Journals.{IsSettled, with_batch, HoldsEither, IsReplaced, Gives, StandsFor};
+ghost use Rattle.wc_journal.specs.Journals.{IsSettled, StaysWithin, with_batch, HoldsEither, IsReplaced, Gives, StandsFor};
 ghost use Rattle.wc_journal.specs.Loading.{OfImage};
 
 use crate::batch::Batch;
@@ -153,6 +153,9 @@ impl Journal {
             → journal_of (D.seen disk.new) ≡ with_batch self.old (journal_of (D.seen disk.old)) (payload_of batch.now)) }
         ensures any_moment { IsTrue (D.tells disk.old) → LeavesOnly D.Disk disk.old disk.new
             (HoldsEither (journal_of (D.seen disk.old)) (with_batch self.old (journal_of (D.seen disk.old)) (payload_of batch.now))) }
+        // Nothing is left behind the gate of the batch, but what stood there before.
+        ensures no_longer { IsTrue (D.tells disk.old) → StaysWithin D.Disk
+            (max (length (D.seen disk.old)) (size_after self.old.end self.old.version (payload_of batch.now))) disk.old disk.new }
         ensures fits { OnOk result (size_after self.old.end self.old.version (payload_of batch.now) ≤ limit) }
         ensures refused { IfErr result (RefusesAppend (size_after self.old.end self.old.version (payload_of batch.now)) limit) }
         ensures unwritten { (count most : ℕ) → IsErrOf result (JournalError.Full count most) → disk.new ≡ disk.old }

@@ -17,7 +17,8 @@ pub trait Pacer {
     /// A moment that was told. Of this relation nothing else is known.
     ghost said: { Self → ℕ → Type 0 };
 
-    /// The least moment that it may tell next, where it is steady: its moments never fall then, and a rest lasts as long as it is to.
+    /// The least moment that it may tell next, as far as it is known, where it is steady: its moments never fall then, and after a rest the next
+    /// one is later by the length of the rest, or by more.
     ghost least: { Self → Option ℕ };
 
     /// The moment now, in milliseconds.
@@ -34,6 +35,6 @@ pub trait Pacer {
         ensures last { last self.new ≡ last self.old }
         ensures told { told self.new ≡ told self.old }
         ensures rests { RisesByOne (rests self.old) (rests self.new) }
-        ensures steady { StaysSteady (λ before now. rested before ms ≤ now) (least self.old) (least self.new) }
+        ensures steady { StaysSteady (λ before now. now ≡ rested before ms) (least self.old) (least self.new) }
         ensures keeps { (moment : ℕ) → said self.old moment → said self.new moment };
 }

@@ -170,6 +170,8 @@ impl<R: Files<File = File> + Processes + Drop> Transport for LocalTransport<R> {
 
     ghost gave = { λ _ _ _ _ _. Unit {0} };
 
+    ghost obliging = { λ _. ⊥ };
+
     ghost faults = { λ t. t.faults };
 
     fn upload(&mut self, dir: u32, request: &Request) -> Result<(), TaskError> {

@@ -1,5 +1,4 @@
 mod Keyed
-mod Valued
 mod Parts
 mod Valid
 mod Lowest

@@ -8,3 +8,4 @@ mod turning;
 mod waiting;
 
 pub use turning::calculation_turn;
+pub use wc_cache::{definition_of, recorded_inputs};

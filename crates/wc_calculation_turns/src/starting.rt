@@ -12,13 +12,12 @@ ghost use Rattle.wc_calculation_turns.specs.Courses.{begun, cloned, course_chang
 
 use crate::courses::{Course, End, excepts, own_end};
 use std::alloc::{AllocError, Global};
-use wc_cache::{definition_of, recorded_inputs, source_of};
+use wc_cache::{definition_of, recorded_inputs, source_of, tree_of};
 use wc_expression::Outcome;
 use wc_job::JobStep;
 use wc_semantics::{Parsed, calculate, request_of};
 use wc_state::{JobPart, ProcessRecord, Task};
 use wc_syntax::{Definition, Job};
-use wc_trees::tree_of;
 use wc_value::{Fields, Tree};
 use wc_world::{World, WorldError, reached_worlds_are_consistent};
 

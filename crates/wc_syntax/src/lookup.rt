@@ -5,7 +5,7 @@ ghost use Rattle.std.specs.Option.{option_copied};
 ghost use Rattle.wc_syntax.specs.Findings.{head_of, definition_named};
 
 use crate::definition::{Definition, Head, Library};
-use wc_value::Text;
+use wc_lexer::Text;
 
 /// What a definition begins with.
 pub fn head(definition: &Definition) -> &Head

@@ -15,11 +15,11 @@ use crate::firsts::Firsts;
 use crate::givers::last_result_givers;
 use crate::recorded::retrieved_folder;
 use std::alloc::{AllocError, Global};
-use wc_cache::{definition_of, recorded_inputs};
 use wc_expression::Outcome;
 use wc_semantics::request_of;
 use wc_state::{ProcessKind, ProcessRecord};
 use wc_syntax::Definition;
+use wc_trees::{definition_of, recorded_inputs};
 use wc_value::{Bytes, Fields, JobResult, encode_request};
 use wc_world::{World, reached_worlds_are_consistent};
 

@@ -1,7 +1,7 @@
 //! Whether one process is ready, or will be.
 
 ghost use Rattle.std.specs.Prelude.{◌≡◌};
-ghost use Rattle.wc_readiness.specs.Readiness.{is_past, goes_on, is_ready_past, due_of, waits_later};
+ghost use Rattle.wc_records.specs.Readiness.{is_past, goes_on, is_ready_past, due_of, waits_later};
 
 use wc_state::{Part, ProcessRecord};
 use wc_value::ProcessState;

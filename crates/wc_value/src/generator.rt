@@ -1,6 +1,6 @@
 //! Numbers that look random, the same from each seed.
 ghost use Rattle.std.specs.Prelude.{◌≡◌, ◌/◌, ◌%◌, ◌<◌, ◌^◌, IfOk};
-ghost use Rattle.wc_disk.specs.Noise.{drawn, noise, after_draws};
+ghost use Rattle.wc_value.specs.Draws.{drawn, noise, after_draws};
 
 use std::alloc::{AllocError, Global};
 

@@ -1,7 +1,7 @@
 use Rattle.std.proofs.Common.{ap, ◌∙◌}
 use Rattle.wc_value.specs.Ascending.{goes_last}
-use Rattle.wc_cache.proofs.Valued.{next_goes, alone_next}
-use Rattle.wc_cache.proofs.recorded.values_alone.Goals as goal
+use Rattle.wc_trees.proofs.Valued.{next_goes, alone_next}
+use Rattle.wc_trees.proofs.recorded.values_alone.Goals as goal
 
 pub push-requires : goal.push-requires
 push-requires c =

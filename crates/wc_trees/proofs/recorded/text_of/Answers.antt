@@ -2,7 +2,7 @@ use Rattle.std.proofs.Common.{ap, ◌∙◌}
 use Rattle.std.specs.Prelude.{option_map, option_and_then}
 use Rattle.wc_syntax.specs.Findings.{definition_named}
 use Rattle.wc_syntax.specs.Printing.{printed_definition}
-use Rattle.wc_cache.proofs.recorded.text_of.Goals as goal
+use Rattle.wc_trees.proofs.recorded.text_of.Goals as goal
 
 pub returns : goal.returns
 returns c =

@@ -1,6 +1,6 @@
 -- One more draw of the generator.
 use Rattle.std.proofs.Common.{◌≡◌, ℕ, zero, suc, ◌+◌, ◌/◌, ◌%◌, List, [], ◌∷◌, ◌++◌, length, refl, ap, ◌∙◌, add-one, arith}
-use Rattle.wc_disk.specs.Noise.{drawn, after_draws, noise}
+use Rattle.wc_value.specs.Draws.{drawn, after_draws, noise}
 
 after_suc : (n x : ℕ) → after_draws (suc n) x ≡ drawn (after_draws n x)
 after_suc zero x = refl

@@ -6,12 +6,12 @@ ghost use Rattle.wc_syntax.specs.Bare.{bare_definition};
 ghost use Rattle.wc_syntax.specs.Printing.{printed_definition};
 ghost use Rattle.wc_world.specs.Records.{find_record, library_at};
 ghost use Rattle.wc_world.specs.Trees.{values_alone};
-ghost use Rattle.wc_machine.specs.Recorded.{its_definition, recorded_inputs};
+ghost use Rattle.wc_world.specs.Keys.{its_definition, recorded_inputs};
 
+use crate::environments::env_of;
 use std::alloc::{AllocError, Global};
 use wc_state::{Named, ProcessRecord};
 use wc_syntax::{Checked, Definition, find_definition};
-use wc_trees::env_of;
 use wc_value::{Duplicate, Fields, Text};
 use wc_world::{World, WorldError};
 
@@ -31,7 +31,7 @@ pub fn definition_of<'a>(world: &'a World, process: &ProcessRecord) -> Option<&'
 }
 
 /// The printed text of the definition that a process runs, if it is there. It was made with the library.
-pub(crate) fn text_of<'a>(world: &'a World, process: &ProcessRecord) -> Option<&'a Text>
+pub fn text_of<'a>(world: &'a World, process: &ProcessRecord) -> Option<&'a Text>
     ensures { option_copied result ≡ option_map printed_definition (its_definition world.now.world process.now) }
 {
     let library = library_at(world, process.library)?;

@@ -3,7 +3,7 @@ use Rattle.std.specs.Prelude.{option_map, option_and_then}
 use Rattle.wc_syntax.specs.Bare.{bare_definition}
 use Rattle.wc_syntax.specs.Findings.{definition_named}
 use Rattle.wc_world.proofs.Definitions.{named_bare}
-use Rattle.wc_cache.proofs.recorded.definition_of.Goals as goal
+use Rattle.wc_trees.proofs.recorded.definition_of.Goals as goal
 
 pub returns : goal.returns
 returns c =

@@ -1,3 +1,4 @@
+pub use Rattle.wc_turn_laws.proofs.OneList
 mod Keyed
 mod Parts
 mod Valid

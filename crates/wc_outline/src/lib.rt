@@ -15,3 +15,4 @@ mod statements;
 pub use advancing::{advance, is_chain};
 pub use binding::bind;
 pub use calls::{Advanced, Args, Argument, Call, Calls};
+pub use wc_turn_laws::one_list_of_changes;

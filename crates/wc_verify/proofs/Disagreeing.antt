@@ -18,7 +18,7 @@ use Rattle.wc_world.specs.Records.{find_record}
 use Rattle.wc_world.proofs.ReachedLists.{cond_some_cases, found_node, unique}
 use Rattle.wc_machine.specs.Created.{IsCreatedByInputs}
 use Rattle.wc_machine.specs.Recorded.{HasResult, recorded_request}
-use Rattle.wc_laws.specs.Results.{HasResultsByRequest}
+use Rattle.wc_machine.specs.Results.{HasResultsByRequest}
 use Rattle.wc_verify.specs.Faults.{Disagree, IsLeastDisagreement, IsNotAfter}
 use Rattle.wc_verify.specs.declared.firsts.Firsts.{Firsts}
 use Rattle.wc_verify.specs.Firsts.{AreBelow, AreFirsts, IsPair, IsPairOrNone, Noted, Settles, Stands}

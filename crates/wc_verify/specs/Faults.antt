@@ -10,7 +10,7 @@ use Rattle.wc_world.specs.World.{World}
 use Rattle.wc_world.specs.Records.{find_record, has_ended, is_calculation}
 use Rattle.wc_machine.specs.Created.{IsGiven, IsCreatedByInputs}
 use Rattle.wc_machine.specs.Recorded.{recorded_request, HasResult}
-use Rattle.wc_laws.specs.Results.{HasResultsByRequest}
+use Rattle.wc_machine.specs.Results.{HasResultsByRequest}
 
 -- ---- cycles
 

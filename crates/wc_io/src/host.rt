@@ -192,6 +192,8 @@ fn moment<R: Clock>(rt: &R) -> Option<u64> {
 }
 
 impl<R: Clock + Drop> Pacer for ClockPacer<R> {
+    ghost use Rattle.std.specs.Prelude.{None};
+
     ghost last = { λ pacer. pacer.last };
 
     ghost told = { λ pacer. pacer.told };
@@ -199,6 +201,8 @@ impl<R: Clock + Drop> Pacer for ClockPacer<R> {
     ghost rests = { λ pacer. pacer.rests };
 
     ghost said = { λ _ _. Unit {0} };
+
+    ghost least = { λ _. None };
 
     /// Where the clock can't be read it is the last moment again.
     fn now(&mut self) -> u64 {

@@ -156,7 +156,7 @@ impl MemoryPacer {
 }
 
 impl Pacer for MemoryPacer {
-    ghost use Rattle.std.specs.Prelude.{◌≤◌};
+    ghost use Rattle.std.specs.Prelude.{◌≤◌, Some};
 
     ghost last = { λ pacer. pacer.last };
 
@@ -165,6 +165,8 @@ impl Pacer for MemoryPacer {
     ghost rests = { λ pacer. pacer.rests };
 
     ghost said = { λ pacer moment. moment ≤ pacer.moment };
+
+    ghost least = { λ pacer. Some pacer.moment };
 
     fn now(&mut self) -> u64
         ensures moment { result ≡ self.old.moment }

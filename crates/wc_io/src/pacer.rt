@@ -1,6 +1,7 @@
 //! A clock that can wait.
-ghost use Rattle.std.specs.Prelude.{◌≡◌, ℕ};
+ghost use Rattle.std.specs.Prelude.{◌≡◌, ◌≤◌, ℕ, Option};
 ghost use Rattle.wc_io.specs.Counts.{RisesByOne};
+ghost use Rattle.wc_io.specs.Steady.{StaysSteady, rested};
 
 /// A clock that can wait. It has no error.
 pub trait Pacer {
@@ -16,12 +17,16 @@ pub trait Pacer {
     /// A moment that was told. Of this relation nothing else is known.
     ghost said: { Self → ℕ → Type 0 };
 
+    /// The least moment that it may tell next, where it is steady: its moments never fall then, and a rest lasts as long as it is to.
+    ghost least: { Self → Option ℕ };
+
     /// The moment now, in milliseconds.
     fn now(&mut self) -> u64
         ensures last { last self.new ≡ result }
         ensures told { RisesByOne (told self.old) (told self.new) }
         ensures rests { rests self.new ≡ rests self.old }
         ensures said { said self.new result }
+        ensures steady { StaysSteady (λ before now. (before ≤ result) × (now ≡ result)) (least self.old) (least self.new) }
         ensures keeps { (moment : ℕ) → said self.old moment → said self.new moment };
 
     /// Waits for so many milliseconds.
@@ -29,5 +34,6 @@ pub trait Pacer {
         ensures last { last self.new ≡ last self.old }
         ensures told { told self.new ≡ told self.old }
         ensures rests { RisesByOne (rests self.old) (rests self.new) }
+        ensures steady { StaysSteady (λ before now. rested before ms ≤ now) (least self.old) (least self.new) }
         ensures keeps { (moment : ℕ) → said self.old moment → said self.new moment };
 }

@@ -63,8 +63,11 @@ fn out_of_bounds() -> io::Error {
     io::Error::from(io::ErrorKind::InvalidInput)
 }
 
-/// Locks a file that was just opened, without waiting for a lock that another program holds.
+/// Locks a file that was just opened, without waiting for a lock that another program holds. Its descriptor is none of
+/// the standard streams': where one of those is closed, the system gives its number to the next file that is opened, and
+/// what is printed would be written there. `try_clone` gives a number above these.
 fn locked(file: File) -> io::Result<File> {
+    let file = file.try_clone()?;
     file.try_lock()?;
     Ok(file)
 }

@@ -27,6 +27,7 @@ use Rattle.wc_machine.specs.Sound.{IsSound}
 use Rattle.wc_machine.specs.Sources.{KeepsCacheRule}
 use Rattle.wc_machine.specs.Submitting.{AreInputs, Submits}
 use Rattle.wc_machine.specs.Turning.{TurnGives, first_task, job_set}
+use Rattle.wc_turn_laws.specs.CalculationLaws.{MayStart}
 use Rattle.wc_soundness.specs.Touching.{Touches, MayBeTouched}
 use Rattle.wc_soundness.specs.Coming.{ComesTo}
 use Rattle.wc_soundness.specs.Starting.{EndsAreLater, StartsByRule}

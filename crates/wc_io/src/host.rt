@@ -50,7 +50,7 @@ pub struct FileShelf<R: Drop> {
 impl<R: Files + Drop> FileShelf<R> {
     /// The files that this runtime reaches.
     pub fn new(rt: R) -> FileShelf<R>
-        ensures fresh { (result.faults ≡ 0) × (result.failed ≡ false) }
+        ensures fresh { (result.rt ≡ rt) × (result.faults ≡ 0) × (result.failed ≡ false) }
         ensures unasked { result.log.events ≡ [] }
         ensures untold { ⟦<FileShelf<R> as Shelf>⟧.contents result ≡ None }
     {
@@ -194,7 +194,7 @@ impl<R: Print + Drop> StdoutSink<R> {
 
     /// The standard output of this runtime.
     pub fn new(rt: R) -> StdoutSink<R>
-        ensures fresh { (result.faults ≡ 0) × (result.failed ≡ false) }
+        ensures fresh { (result.rt ≡ rt) × (result.faults ≡ 0) × (result.failed ≡ false) }
         ensures untaken { ⟦<StdoutSink<R> as Sink>⟧.taken result ≡ Some [] }
     {
         StdoutSink {
@@ -276,7 +276,7 @@ pub struct ClockPacer<R: Drop> {
 impl<R: Clock + Drop> ClockPacer<R> {
     /// The clock of this runtime.
     pub fn new(rt: R) -> ClockPacer<R>
-        ensures fresh { (result.last ≡ 0) × (result.told ≡ 0) × (result.rests ≡ 0) }
+        ensures fresh { (result.rt ≡ rt) × (result.last ≡ 0) × (result.told ≡ 0) × (result.rests ≡ 0) }
         ensures unsaid { result.log.events ≡ [] }
     {
         ClockPacer {

@@ -113,9 +113,21 @@ fn make_folder<R: Files<File = File>>(rt: &R, folder: &str) -> io::Result<()> {
     synced
 }
 
+/// Opens a file that is there, for reading alone where it can't be opened for writing. A write to it is a fault then.
+fn open_any<R: Files<File = File>>(rt: &R, path: &str) -> io::Result<File> {
+    match OpenOptions::new().read(true).write(true).open(rt, path) {
+        Err(error)
+            if matches!(
+                error.kind(),
+                io::ErrorKind::PermissionDenied | io::ErrorKind::ReadOnlyFilesystem
+            ) => { fs::open(rt, path) }
+        opened => opened,
+    }
+}
+
 /// The file, whose name is on the disk from then on, or none where it isn't there.
 fn open_existing<R: Files<File = File>>(rt: &R, path: &str) -> io::Result<Option<File>> {
-    match OpenOptions::new().read(true).write(true).open(rt, path) {
+    match open_any(rt, path) {
         Ok(file) => {
             let file = locked(file)?;
             sync_name_of(rt, path)?;

@@ -5,17 +5,22 @@ ghost use Rattle.wc_io.specs.Counts.{counted, CountsFault, CountsReadFault, Rise
 ghost use Rattle.wc_io.specs.Schedule.{fails_next, after_call, Advances};
 
 use crate::pacer::Pacer;
+use crate::record::Record;
 use crate::schedule::{Failing, Schedule};
 use crate::shelf::{Shelf, ShelfError};
 use crate::sink::{Failed, Sink};
 use std::alloc::Global;
 use wc_value::{Bytes, Duplicate, Files, List, Text};
 
+/// A read, by the name that was asked for.
+const ASKED: u64 = 0;
+
 /// Files in memory.
 #[derive(Drop)]
 pub struct MemoryShelf {
     files: Files,
     schedule: Schedule,
+    log: Record,
 }
 
 impl MemoryShelf {
@@ -25,19 +30,26 @@ impl MemoryShelf {
     pub fn new(files: Files, failing: Failing) -> MemoryShelf
         ensures files { files_of result ≡ files }
         ensures schedule { shelf_schedule result ≡ fresh failing }
+        ensures unasked { ⟦<MemoryShelf as Shelf>⟧.asked result ≡ [] }
     {
         MemoryShelf {
             files,
             schedule: Schedule::new(failing),
+            log: Record::new(),
         }
     }
 }
 
 impl Shelf for MemoryShelf {
-    ghost use Rattle.std.specs.Prelude.{Some, IsTrue};
+    ghost use Rattle.std.specs.Prelude.{◌≡◌, ◌++◌, [], ◌∷◌, Some, IsTrue};
     ghost use Rattle.wc_value.specs.Ascending.{lookup};
+    ghost use Rattle.wc_io.specs.Events.{asked_names};
 
     ghost contents = { λ shelf. Some (λ name. lookup name shelf.files) };
+
+    ghost asked = { λ shelf. asked_names shelf.log.events };
+
+    ghost answered = { λ shelf asked answer. answer ≡ lookup asked shelf.files };
 
     ghost faults = { λ shelf. shelf.schedule.faults };
 
@@ -47,10 +59,12 @@ impl Shelf for MemoryShelf {
     fn read(&mut self, _alloc: Global, name: &Text) -> Result<Option<Bytes>, ShelfError>
         ensures content { IfOk result (λ answer. answer ≡ lookup name.now self.old.files) }
         ensures kept { self.new.files ≡ self.old.files }
+        ensures asked { asked_names self.new.log.events ≡ asked_names self.old.log.events ++ (name.now ∷ []) }
         ensures cause { CountsReadFault result self.old.schedule.faults self.new.schedule.faults (IsTrue self.new.schedule.failed) }
         ensures fails { IsErrOf result ShelfError.Failed ↔ IsTrue (fails_next self.old.schedule) }
         ensures schedule { self.new.schedule ≡ after_call self.old.schedule }
     {
+        self.log.note(&[ASKED], name.bytes(), &[]);
         if let Err(Failed) = self.schedule.call() {
             return Err(ShelfError::Failed);
         }

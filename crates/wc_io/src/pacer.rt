@@ -1,5 +1,5 @@
 //! A clock that can wait.
-ghost use Rattle.std.specs.Prelude.{◌≡◌, ◌≤◌, ℕ, Option};
+ghost use Rattle.std.specs.Prelude.{◌≡◌, ◌≤◌, ◌+◌, ◌*◌, ℕ, Option, None, option_map};
 ghost use Rattle.wc_io.specs.Counts.{RisesByOne};
 ghost use Rattle.wc_io.specs.Steady.{StaysSteady, rested};
 
@@ -14,6 +14,9 @@ pub trait Pacer {
     /// How many rests were taken.
     ghost rests: { Self → ℕ };
 
+    /// How many nanoseconds all rests were to take, where the pacer tells it.
+    ghost slept: { Self → Option ℕ } = { λ _. None };
+
     /// A moment that was told. Of this relation nothing else is known.
     ghost said: { Self → ℕ → Type 0 };
 
@@ -26,6 +29,7 @@ pub trait Pacer {
         ensures last { last self.new ≡ result }
         ensures told { RisesByOne (told self.old) (told self.new) }
         ensures rests { rests self.new ≡ rests self.old }
+        ensures slept { slept self.new ≡ slept self.old }
         ensures said { said self.new result }
         ensures steady { StaysSteady (λ before now. (before ≤ result) × (now ≡ result)) (least self.old) (least self.new) }
         ensures keeps { (moment : ℕ) → said self.old moment → said self.new moment };
@@ -35,6 +39,7 @@ pub trait Pacer {
         ensures last { last self.new ≡ last self.old }
         ensures told { told self.new ≡ told self.old }
         ensures rests { RisesByOne (rests self.old) (rests self.new) }
+        ensures slept { slept self.new ≡ option_map (λ before. before + ms * 1_000_000) (slept self.old) }
         ensures steady { StaysSteady (λ before now. now ≡ rested before ms) (least self.old) (least self.new) }
         ensures keeps { (moment : ℕ) → said self.old moment → said self.new moment };
 }

@@ -1,5 +1,5 @@
 //! Files by name.
-ghost use Rattle.std.specs.Prelude.{◌≡◌, ℕ, List, Option, IfOk, IfSome};
+ghost use Rattle.std.specs.Prelude.{◌≡◌, [], ◌∷◌, ◌++◌, ℕ, List, Option, IfOk, IfSome};
 ghost use Rattle.wc_io.specs.Counts.{CountsReadFault};
 
 use std::alloc::{AllocError, AllocFailed, Global};
@@ -44,6 +44,12 @@ pub trait Shelf {
     /// The content of each name, none where the name isn't there. Untold where the shelf doesn't tell.
     ghost contents: { Self → Option (List ℕ → Option (List ℕ)) };
 
+    /// The names that were asked for, the earliest first, whatever was answered.
+    ghost asked: { Self → List (List ℕ) };
+
+    /// This content, or none, was answered for this name.
+    ghost answered: { Self → List ℕ → Option (List ℕ) → Type 0 };
+
     /// How often a read has failed.
     ghost faults: { Self → ℕ };
 
@@ -53,6 +59,9 @@ pub trait Shelf {
     /// The content of a file, or none where the name isn't there.
     fn read(&mut self, alloc: Global, name: &Text) -> Result<Option<Bytes>, ShelfError>
         ensures content { IfOk result (λ answer. IfSome (contents self.old) (λ content. answer ≡ content name.now)) }
+        ensures asked { asked self.new ≡ asked self.old ++ (name.now ∷ []) }
+        ensures answered { IfOk result (λ answer. answered self.new name.now answer) }
+        ensures keeps { (other : List ℕ) (answer : Option (List ℕ)) → answered self.old other answer → answered self.new other answer }
         ensures kept { contents self.new ≡ contents self.old }
         ensures cause { CountsReadFault result (faults self.old) (faults self.new) (failed self.new) };
 }

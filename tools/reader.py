@@ -149,7 +149,6 @@ class World:
     def __init__(self):
         self.nodes, self.libraries, self.batches, self.packed = [], [], 0, 0
         self.generation = 0
-        self.made_at = []
 
     def node(self, number):
         """A node by its number."""
@@ -333,30 +332,88 @@ def chosen(found):
     return 1 if second > first else 0
 
 
-def read(folder=".", at=None):
-    """The world of the store of a folder, behind batch `at` where one is given."""
+def world_of(image, at=None):
+    """The world of an image, behind batch `at` where one is given."""
+    world = World()
+    world.generation = generation_of(image)
+    for payload, _ in batches_of(image):
+        if at is not None and world.batches >= at:
+            break
+        world.apply(payload)
+    for it in world.processes():
+        it.inputs.sort(key=lambda pair: pair[0].encode())
+        it.outputs.sort(key=lambda pair: pair[0].encode())
+    return world
+
+
+def patiently(work):
+    """What work on a copy of the files gives: taken again where they make no store, since another command may be making it, or packing it."""
     for left in (4, 3, 2, 1, 0):
         try:
-            found = images(folder)
-            image = found[chosen(found)]
-            world = World()
-            world.generation = generation_of(image)
-            for payload, _ in batches_of(image):
-                if at is not None and world.batches >= at:
-                    break
-                world.apply(payload)
-            if at is not None and (world.batches < at or world.packed > at):
-                raise Refused(f"unknown batch {at}")
-            for it in world.processes():
-                it.inputs.sort(key=lambda pair: pair[0].encode())
-                it.outputs.sort(key=lambda pair: pair[0].encode())
-            return world
-        except (Damaged, IndexError, KeyError, UnicodeDecodeError):
-            # Another command may be making the store, or packing it.
+            return work()
+        except (Damaged, IndexError, KeyError, UnicodeDecodeError, RecursionError):
             if not left:
                 raise Damaged("store") from None
             time.sleep(0.5)
     raise Damaged("store")
+
+
+def read(folder="."):
+    """The world of the store of a folder."""
+
+    def work():
+        found = images(folder)
+        return world_of(found[chosen(found)])
+
+    return patiently(work)
+
+
+def read_with_past(folder="."):
+    """The world of the store of a folder, in which nodes know their batches also from before the last pack, where the other file tells."""
+
+    def work():
+        found = images(folder)
+        disk = chosen(found)
+        world = world_of(found[disk])
+        if world.packed and generation_of(found[1 - disk]) + 1 == world.generation:
+            try:
+                before = world_of(found[1 - disk])
+            except Damaged:
+                return world
+            if before.batches == world.packed:
+                for node, old in zip(world.nodes, before.nodes):
+                    node.batch = node.batch or old.batch
+        return world
+
+    return patiently(work)
+
+
+def image_at(folder, at):
+    """The image of a store as it stood behind a batch: the file's bytes up to the gate behind it, and that gate closed."""
+
+    def work():
+        found = images(folder)
+        disk = chosen(found)
+        reach = []
+        for image in (found[disk], found[1 - disk]):
+            if not generation_of(image):
+                continue
+            world, count, packed = generation_of(image), 0, 0
+            gates = {}
+            for k, (payload, gate) in enumerate(batches_of(image)):
+                if k == 0 and world > 1:
+                    count = packed = int.from_bytes(payload[-4:], "big")
+                else:
+                    count += 1
+                gates[count] = gate
+            if world == 1:
+                gates[0] = 16
+            if at in gates:
+                return image[: gates[at]] + b"\0"
+            reach += gates
+        raise Refused(f"unknown batch {at}: the files tell of {min(reach)} to {max(reach)}")
+
+    return patiently(work)
 
 
 def program():
@@ -394,3 +451,14 @@ def main(run):
         print(f"tools/{os.path.basename(sys.argv[0])}: {error}", file=sys.stderr)
         status = 8 if error.errno == 28 else 5
     sys.exit(status)
+
+
+def cut_copy():
+    """Words: a batch and a folder. Puts the store as it stood behind this batch into the folder; called by tools/peek."""
+    at, room = sys.argv[1:]
+    with open(f"{room}/one", "wb") as it:
+        it.write(image_at(".", int(at)))
+
+
+if __name__ == "__main__":
+    main(cut_copy)

@@ -6,7 +6,7 @@ use Rattle.wc_state.specs.declared.record.What.{What}
 use Rattle.wc_world.specs.World.{World, empty}
 use Rattle.wc_world.specs.Applied.{applied}
 use Rattle.wc_machine.specs.Machine.{after_changes}
-use Rattle.wc_core.proofs.Happening.{after_some}
+use Rattle.wc_runner.proofs.Happening.{after_some}
 use Rattle.wc_store.specs.Held.{Standing, nothing, damage, a_world}
 use Rattle.wc_store.specs.Laws.{HeldIsReached}
 use Rattle.wc_runner.specs.declared.runs.RunEnd.{RunEnd}

@@ -32,7 +32,7 @@ use Rattle.wc_store.specs.declared.store.Store.{Store}
 use Rattle.wc_store.specs.Held.{is_plain, a_world}
 use Rattle.wc_store.specs.Stores.{StandsFor, HasImages}
 use Rattle.wc_machine.specs.Machine.{Event, pause, play, kill, submits as submits_by}
-use Rattle.wc_core.specs.Refusals.{RefusesMark}
+use Rattle.wc_runner.specs.CoreRefusals.{RefusesMark}
 use Rattle.wc_machine.proofs.Submitted.{data_node, new_nodes, submission_gives}
 use Rattle.wc_act.proofs.Asking.{submission_some, submits_of}
 use Rattle.wc_world.specs.Records.{kind_of_definition, process_node}

@@ -17,8 +17,8 @@ use Rattle.wc_machine.specs.Machine.{after_changes}
 use Rattle.wc_machine.specs.Paths.{kills}
 use Rattle.wc_machine.specs.Resting.{GivesTree, meant}
 use Rattle.wc_machine.specs.Sound.{IsSound, IsMeant}
-use Rattle.wc_laws.specs.EventLaws.{EventsKeepSound}
-use Rattle.wc_core.proofs.Happening.{after_some}
+use Rattle.wc_soundness.specs.EventLaws.{EventsKeepSound}
+use Rattle.wc_runner.proofs.Happening.{after_some}
 use Rattle.wc_drill.specs.Sound.{DrillsAreSound}
 use Rattle.wc_runner.specs.Laws.{StaysSound, WorldsContinueThemselves}
 use Rattle.wc_runner.proofs.ManyTurns.{turns_sound}

@@ -14,7 +14,7 @@ use Rattle.wc_machine.specs.Submitting.{submitted_number}
 use Rattle.wc_machine.specs.Refusals.{HasEndedAs, HasRoom, RefusesSubmission}
 use Rattle.wc_machine.specs.declared.error.TurnError.{TurnError}
 use Rattle.wc_machine.specs.declared.error.TurnError.TheVariants as turn_error
-use Rattle.wc_core.specs.Refusals.{RefusesMark}
+use Rattle.wc_runner.specs.CoreRefusals.{RefusesMark}
 use Rattle.wc_store.specs.declared.error.StoreError.TheVariants as store_error
 use Rattle.wc_store.specs.Held.{a_world}
 use Rattle.wc_store.specs.Refusals.{committed_bytes, RefusesCommit}

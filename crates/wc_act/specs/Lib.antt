@@ -1,3 +1,4 @@
+pub use Rattle.wc_runner.specs.Asked
 pub mod Statuses
 pub mod Counts
 pub mod StoreDeeds

@@ -5,7 +5,7 @@ use Rattle.wc_state.specs.declared.record.Limits.{Limits}
 use Rattle.wc_state.specs.declared.record.What.{What}
 use Rattle.wc_world.specs.World.{World}
 use Rattle.wc_store.specs.Held.{a_world}
-use Rattle.wc_core.specs.Standing.{is_any_live, is_resting}
+use Rattle.wc_runner.specs.Standing.{is_any_live, is_resting}
 use Rattle.wc_runner.specs.declared.error.RunError.TheVariants.{Full}
 use Rattle.wc_runner.specs.declared.runs.RunEnd.{RunEnd}
 use Rattle.wc_runner.specs.declared.runs.RunEnd.TheVariants.{AllEnded, Spent, Resting}

@@ -11,8 +11,8 @@ ghost use Rattle.wc_act.specs.Rows.{row};
 
 use wc_disk::Disk;
 use wc_drill::drills_are_sound;
-use wc_laws::events_keep_sound;
 use wc_runner::worlds_continue_themselves;
+use wc_soundness::events_keep_sound;
 use wc_store::{held_worlds_are_reached, images_hold_one_thing};
 
 /// Two empty disks hold nothing, so they meet what the clause `sound` of the top call asks of each pair of images at entry.

@@ -1,6 +1,6 @@
 -- The dictionary of a key, and the definitions of processes.
 use Rattle.std.proofs.Common.{◌≡◌, ℕ, List, [], ◌∷◌, Option, Some, None, codes, true, refl, sym, subst, ◌∙◌}
-use Rattle.std.specs.Prelude.{IsSome, IfSome}
+use Rattle.std.specs.Prelude.{IsSome}
 use Rattle.wc_value.specs.Ascending.{put}
 use Rattle.wc_value.specs.declared.value.Value.{Value}
 use Rattle.wc_value.specs.declared.value.Value.TheVariants as value
@@ -36,10 +36,6 @@ defined k (Some d) h = refl
 -- in a consistent world each process has its definition
 pub has_definition : (w : World) (pid : ℕ) (r : ProcessRecord) → IsConsistent w → find_record pid w.records ≡ Some r → IsSome (its_definition w r)
 has_definition w pid r c found = defined r.kind (its_definition w r) (found_holds (Stands w) pid w.records r c.records found).defined
-
--- what holds of the one that is found
-pub found_one : (P : ProcessRecord → Type 0) (o : Option ProcessRecord) (r : ProcessRecord) → o ≡ Some r → P r → IfSome o P
-found_one P o r e p = subst (λ (x : Option ProcessRecord). IfSome x P) (sym e) p
 
 -- what is found by a number is there by its own
 pub is_there : (w : World) (pid : ℕ) (r : ProcessRecord) → find_record pid w.records ≡ Some r → IsSome (find_record r.node w.records)

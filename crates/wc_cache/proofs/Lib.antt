@@ -1,5 +1,5 @@
+pub use Rattle.wc_turn_laws.proofs.OneList
 mod Keyed
-mod Valued
 mod Parts
 mod Valid
 mod Lowest

@@ -14,7 +14,7 @@ use Rattle.wc_state.specs.declared.record.ProcessRecord.{ProcessRecord}
 use Rattle.wc_world.specs.World.{World}
 use Rattle.wc_machine.specs.Recorded.{its_definition, recorded_inputs}
 use Rattle.wc_machine.specs.Sources.{HaveEqualKeys}
-use Rattle.wc_laws.proofs.Keys.{equal_keys_run_alike}
+use Rattle.wc_turn_laws.proofs.Keys.{equal_keys_run_alike}
 use Rattle.wc_cache.specs.Keys.{IsKey, IsKeyOf, key_value}
 use Rattle.wc_cache.specs.Laws.{EqualKeysAreEqual, KeysAreOfOne}
 

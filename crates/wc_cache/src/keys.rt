@@ -1,15 +1,15 @@
 //! Keys: the canonical bytes of a definition's text and of input values.
 
-ghost use Rattle.std.specs.Prelude.{◌≡◌, true, Some, IfOk, IfSome, IsSome, option_map};
-ghost use Rattle.wc_world.specs.Records.{find_record, is_calculation};
+ghost use Rattle.std.specs.Prelude.{◌≡◌, IfOk, IsSome};
+ghost use Rattle.wc_world.specs.Records.{find_record};
 ghost use Rattle.wc_machine.specs.Recorded.{its_definition};
 ghost use Rattle.wc_cache.specs.Keys.{IsKey, IsKeyOf, key_value};
 
-use crate::recorded::{recorded_inputs, text_of};
 use std::alloc::{AllocError, Global};
 use wc_state::ProcessRecord;
+use wc_trees::{recorded_inputs, text_of};
 use wc_value::{Bytes, Duplicate, Fields, Text, Value, encode};
-use wc_world::{World, reached_worlds_are_consistent};
+use wc_world::World;
 
 /// The dictionary of a definition's text and of inputs.
 fn dictionary_of(alloc: Global, text: Text, inputs: Fields) -> Result<Value, AllocError>
@@ -42,18 +42,4 @@ pub(crate) fn key_of_process(
     let text = text_of(world, process).unwrap();
     let inputs = recorded_inputs(alloc, world, process.node)?;
     key_with(alloc, text, inputs)
-}
-
-/// The key of a calculation: the canonical bytes of the dictionary with the printed text of its definition at
-/// `definition`, and the dictionary of its input values at `inputs`.
-pub fn key_of(alloc: Global, world: &World, pid: u32) -> Result<Bytes, AllocError>
-    // The number is that of a calculation.
-    requires { option_map (λ r. is_calculation r.kind) (find_record pid world.now.world.records) ≡ Some true }
-    ensures { IfOk result (λ key. IfSome (find_record pid world.now.world.records) (λ r. IsKeyOf world.now.world r key)) }
-{
-    // A reached world is consistent, so that each of its processes has a definition.
-    let _ = world.graph();
-    reached_worlds_are_consistent();
-    let process = world.record_of(pid).unwrap();
-    key_of_process(alloc, world, process)
 }

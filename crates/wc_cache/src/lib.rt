@@ -4,10 +4,8 @@
 mod finding;
 mod keys;
 mod laws;
-mod recorded;
 mod sources;
 
 pub use finding::{find, source_of};
-pub use keys::key_of;
 pub use laws::{equal_keys_are_equal, keys_are_of_one};
-pub use recorded::{definition_of, recorded_inputs};
+pub use wc_trees::{definition_of, recorded_inputs, tree_of};

@@ -6,10 +6,10 @@ ghost use Rattle.wc_machine.specs.Recorded.{its_definition};
 ghost use Rattle.wc_machine.specs.Sources.{IsValidSource, marks};
 ghost use Rattle.wc_cache.specs.Finding.{is_unmarked, is_unmarked_by};
 
-use crate::recorded::definition_of;
 use wc_fits::is_calculation;
 use wc_state::ProcessRecord;
 use wc_syntax::{Definition, head};
+use wc_trees::definition_of;
 use wc_value::ProcessState;
 use wc_world::World;
 

@@ -24,7 +24,7 @@ use Rattle.wc_world.specs.Records.{find_record, is_calculation}
 use Rattle.wc_world.specs.Trees.{Branch, branches, recorded_tree, tree_with, tree_within}
 use Rattle.wc_world.proofs.FoundRecords.{found_holds}
 use Rattle.wc_world.proofs.SnapshotLists.{number_of_found}
-use Rattle.wc_laws.specs.CachingLaws.{MayStart}
+use Rattle.wc_cache.specs.CalculationLaws.{MayStart}
 use Rattle.wc_machine.specs.declared.answer.TaskAnswer.TheVariants.{Nothing}
 use Rattle.wc_machine.specs.Ending.{ends, TakesSource}
 use Rattle.wc_machine.specs.Recorded.{its_definition, recorded_inputs, recorded_outputs}

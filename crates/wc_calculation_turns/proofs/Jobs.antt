@@ -35,7 +35,7 @@ use Rattle.wc_machine.specs.Asking.{Need, fits, fits_task, need, need_at, with_r
 use Rattle.wc_machine.specs.Ending.{ends}
 use Rattle.wc_machine.specs.Recorded.{its_definition, recorded_inputs, recorded_request, request_by}
 use Rattle.wc_machine.specs.Turning.{TurnGives, gives_up, moves, parses}
-use Rattle.wc_job.specs.Steps.{moved}
+use Rattle.wc_calculation_turns.specs.Steps.{moved}
 use Rattle.wc_calculation_turns.specs.declared.courses.Course.{Course}
 use Rattle.wc_calculation_turns.specs.Courses.{HasMoved, LeadsOn, course_changes, own_end}
 use Rattle.wc_calculation_turns.specs.Waiting.{MayGoOn, task_of}

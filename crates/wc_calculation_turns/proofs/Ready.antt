@@ -15,7 +15,7 @@ use Rattle.wc_world.specs.Consistent.{IsConsistent, Stands}
 use Rattle.wc_world.specs.Fits.{fails_fit, part_fits}
 use Rattle.wc_world.specs.Records.{find_record, is_calculation}
 use Rattle.wc_world.proofs.FoundRecords.{found_holds, left, right}
-use Rattle.wc_laws.specs.CachingLaws.{MayStart}
+use Rattle.wc_cache.specs.CalculationLaws.{MayStart}
 use Rattle.wc_machine.specs.declared.answer.TaskAnswer.{TaskAnswer}
 use Rattle.wc_machine.specs.declared.answer.TaskAnswer.TheVariants as answer
 use Rattle.wc_machine.specs.Asking.{fits, is_nothing, need, need_at}

@@ -7,7 +7,7 @@ use Rattle.wc_world.specs.Consistent.{IsConsistent}
 use Rattle.wc_world.specs.Records.{find_record}
 use Rattle.wc_machine.specs.declared.answer.TaskAnswer.{TaskAnswer}
 use Rattle.wc_machine.specs.Turning.{TurnGives}
-use Rattle.wc_laws.proofs.OneList.{one_list}
+use Rattle.wc_cache.proofs.OneList.{one_list}
 use Rattle.wc_machine.specs.Refusals.{AreFew, FullOf, HasRoom, NoneHolds, RefusesCounts}
 use Rattle.wc_machine.specs.declared.error.TurnError.{TurnError}
 use Rattle.wc_machine.proofs.Rooms.{full_for, has_room_for, none_full}

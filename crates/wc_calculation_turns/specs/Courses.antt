@@ -16,8 +16,8 @@ use Rattle.wc_machine.specs.declared.answer.TaskAnswer.TheVariants as answer
 use Rattle.wc_machine.specs.Ending.{come_to, ends}
 use Rattle.wc_machine.specs.Tasks.{after}
 use Rattle.wc_machine.specs.Turning.{first_task, job_set}
-use Rattle.wc_job.specs.declared.tasks.JobStep.{JobStep}
-use Rattle.wc_job.specs.Steps.{moved}
+use Rattle.wc_calculation_turns.specs.declared.tasks.JobStep.{JobStep}
+use Rattle.wc_calculation_turns.specs.Steps.{moved}
 use Rattle.wc_calculation_turns.specs.declared.courses.Course.{Course}
 use Rattle.wc_calculation_turns.specs.declared.courses.Course.TheVariants as course
 

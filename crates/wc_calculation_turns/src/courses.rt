@@ -4,8 +4,8 @@ ghost use Rattle.std.specs.Prelude.{◌≡◌, []};
 ghost use Rattle.wc_semantics.specs.Outcomes.{excepted};
 ghost use Rattle.wc_calculation_turns.specs.Courses.{added_nodes, own_end};
 
+use crate::tasks::JobStep;
 use std::alloc::Global;
-use wc_job::JobStep;
 use wc_semantics::Parsed;
 use wc_value::{Fields, ProcessState, Reason};
 

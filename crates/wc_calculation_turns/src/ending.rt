@@ -7,9 +7,9 @@ ghost use Rattle.wc_machine.specs.Turning.{job_set};
 ghost use Rattle.wc_calculation_turns.specs.Courses.{added_nodes, course_changes};
 
 use crate::courses::{Course, End};
+use crate::tasks::JobStep;
 use std::alloc::{AllocError, Global};
 use wc_graph::{Link, LinkType};
-use wc_job::JobStep;
 use wc_state::{Part, ProcessRecord};
 use wc_value::{Duplicate, Fields, ProcessState};
 use wc_world::{Change, Changes, SetProcess, World};

@@ -4,21 +4,20 @@ ghost use Rattle.std.specs.Prelude.{◌≡◌, ℕ, Some, None, IfOk, IsSome};
 ghost use Rattle.wc_semantics.specs.Requests.{request};
 ghost use Rattle.wc_state.specs.declared.record.ProcessRecord.{ProcessRecord};
 ghost use Rattle.wc_world.specs.Records.{find_record};
-ghost use Rattle.wc_laws.specs.CachingLaws.{MayStart};
+ghost use Rattle.wc_cache.specs.CalculationLaws.{MayStart};
 ghost use Rattle.wc_machine.specs.declared.answer.TaskAnswer.TheVariants.{Nothing};
 ghost use Rattle.wc_machine.specs.Ending.{TakesSource};
 ghost use Rattle.wc_machine.specs.Turning.{TurnGives};
 ghost use Rattle.wc_calculation_turns.specs.Courses.{begun, cloned, course_changes};
 
 use crate::courses::{Course, End, excepts, own_end};
+use crate::tasks::JobStep;
 use std::alloc::{AllocError, Global};
-use wc_cache::{definition_of, recorded_inputs, source_of};
+use wc_cache::{definition_of, recorded_inputs, source_of, tree_of};
 use wc_expression::Outcome;
-use wc_job::JobStep;
 use wc_semantics::{Parsed, calculate, request_of};
 use wc_state::{JobPart, ProcessRecord, Task};
 use wc_syntax::{Definition, Job};
-use wc_trees::tree_of;
 use wc_value::{Fields, Tree};
 use wc_world::{World, WorldError, reached_worlds_are_consistent};
 

@@ -7,10 +7,10 @@ ghost use Rattle.wc_calculation_turns.specs.Courses.{course_changes, LeadsOn};
 ghost use Rattle.wc_calculation_turns.specs.Waiting.{MayGoOn, task_of};
 
 use crate::courses::{Course, End, excepts};
+use crate::tasks::{Answer, after};
 use std::alloc::{AllocError, Global};
 use wc_cache::{definition_of, recorded_inputs};
 use wc_expression::Outcome;
-use wc_job::{Answer, after};
 use wc_machine::TaskAnswer;
 use wc_semantics::{parse_result, request_of};
 use wc_state::{JobPart, Part, ProcessRecord};

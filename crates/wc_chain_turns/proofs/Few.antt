@@ -14,7 +14,7 @@ use Rattle.wc_world.specs.Fits.{calls_from}
 use Rattle.wc_world.specs.Records.{is_call_from}
 use Rattle.wc_world.specs.World.{World}
 use Rattle.wc_machine.proofs.Frames.{node_number, target_is_node}
-use Rattle.wc_laws.proofs.CalledLabels.{OneCaller, targets, distinct}
+use Rattle.wc_changes.proofs.CalledLabels.{OneCaller, targets, distinct}
 
 module _ (pid : ℕ) where
   below : (n : ℕ) (ls : List Link) → All (λ l. l.target ≤ n) ls → (q : ℕ) → list_any (λ y. q == y) (targets pid ls) ≡ true → q < suc n

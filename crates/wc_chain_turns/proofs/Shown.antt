@@ -21,7 +21,7 @@ use Rattle.wc_machine.specs.Calling as calling
 use Rattle.wc_machine.specs.Calling.{Arguments, kind_named, call_link, caching_in, plain_data, argument_links, kind_of_callee, called_number, call_changes, calls_changes, awaits, returns, advanced}
 use Rattle.wc_machine.specs.Stepping.{node, plain, Call}
 use Rattle.wc_machine.specs.Submitting.{input_link}
-use Rattle.wc_outline.specs.Shown.{shown_arguments, shown_call, shown}
+use Rattle.wc_changes.specs.Shown.{shown_arguments, shown_call, shown}
 use Rattle.wc_changes.specs.declared.children.Caller.{Caller}
 use Rattle.wc_changes.specs.Called.{data_of, links_of, number_at, waited, kind_at, one_call, all_calls}
 use Rattle.wc_changes.specs.Coming.{Outs, is_now, is_missing, lacks, status, return_link, comes_to}

@@ -31,14 +31,14 @@ use Rattle.wc_machine.specs.Calling.{caching_of, caching_in, bound, fuel_of, adv
 use Rattle.wc_machine.specs.Recorded.{its_definition}
 use Rattle.wc_machine.specs.Tasks.{saturated}
 use Rattle.wc_machine.specs.Turning.{TurnGives, StandsAt, advances, binds}
-use Rattle.wc_outline.specs.declared.calls.Advanced.{Advanced}
-use Rattle.wc_outline.specs.Places.{chain_of}
-use Rattle.wc_outline.specs.Shown.{shown}
+use Rattle.wc_changes.specs.Advanced.{Advanced}
+use Rattle.wc_changes.specs.Places.{chain_of}
+use Rattle.wc_changes.specs.Shown.{shown}
 use Rattle.wc_machine.specs.Refusals.{FullOf, HasRoom, NoneHolds}
 use Rattle.wc_machine.specs.declared.error.TurnError.{TurnError}
 use Rattle.wc_machine.specs.declared.error.TurnError.TheVariants as error
 use Rattle.wc_machine.proofs.Rooms.{none_full}
-use Rattle.wc_laws.specs.TurnLaws.{OneListOfChanges}
+use Rattle.wc_changes.specs.TurnLaws.{OneListOfChanges}
 use Rattle.wc_changes.specs.declared.children.Caller.{Caller}
 use Rattle.wc_changes.specs.Known.{known_at}
 use Rattle.wc_changes.specs.Coming.{is_now, comes_to, CallsFew}

@@ -5,8 +5,8 @@ ghost use Rattle.wc_world.specs.Records.{find_record};
 ghost use Rattle.wc_world.specs.Trees.{environment_at};
 
 use std::alloc::{AllocError, Global};
+use wc_changes::env_of;
 use wc_state::Env;
-use wc_trees::env_of;
 use wc_world::{World, WorldError};
 
 /// The environment of a process that is there.

@@ -15,10 +15,8 @@ ghost use Rattle.wc_chain_turns.specs.Turned.{Gives, HasChain, HasCheckpoint, Is
 use crate::binding::bound_fuel;
 use crate::environment::environment;
 use std::alloc::Global;
-use wc_changes::{caller_of, come_to, going, known_at};
-use wc_laws::one_list_of_changes;
+use wc_changes::{advance, bind, caller_of, come_to, going, known_at, one_list_of_changes};
 use wc_machine::TurnError;
-use wc_outline::{advance, bind};
 use wc_state::{Checkpoint, Limits, Part, ProcessRecord};
 use wc_value::{Duplicate, ProcessState};
 use wc_world::{Changes, World, reached_worlds_are_consistent};

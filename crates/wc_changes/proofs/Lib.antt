@@ -1,3 +1,3 @@
+pub use Rattle.wc_outline.proofs.CalledLabels
 pub mod Named
 pub mod Counted
-pub mod Parts

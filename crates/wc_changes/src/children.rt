@@ -4,12 +4,13 @@ ghost use Rattle.std.specs.Prelude.{◌≡◌, ℕ, ◌++◌, ◌+◌, ◌<◌, 
 ghost use Rattle.wc_changes.specs.Called.{data_of, added, number_at, waited, kind_at, child, link_to, one_call, all_calls};
 
 use crate::arguments::{count_data, put_data, put_links};
-use crate::known::{call_link, input_link, is_among, kind_named};
+use crate::known::{call_link, kind_named};
 use std::alloc::{AllocError, Global};
 use wc_graph::Link;
+use wc_machine::input_link;
 use wc_outline::{Call, Calls};
 use wc_state::{Await, Awaits, ProcessKind, ProcessRecord};
-use wc_syntax::Checked;
+use wc_syntax::{Checked, is_among};
 use wc_value::{Duplicate, Words};
 use wc_world::{Change, Changes, Known, NewProcess};
 

@@ -2,15 +2,14 @@
 
 ghost use Rattle.std.specs.Prelude.{◌≡◌};
 ghost use Rattle.std.specs.Option.{option_copied};
-ghost use Rattle.wc_syntax.specs.Findings.{definition_named, is_among};
+ghost use Rattle.wc_syntax.specs.Findings.{definition_named};
 ghost use Rattle.wc_machine.specs.Calling.{kind_named, call_link};
-ghost use Rattle.wc_machine.specs.Submitting.{input_link};
 ghost use Rattle.wc_changes.specs.Known.{known_at};
 
 use wc_graph::LinkType;
 use wc_state::ProcessKind;
 use wc_syntax::{Checked, Definition, find_definition};
-use wc_value::{Text, Words};
+use wc_value::Text;
 use wc_world::{Known, World};
 
 /// The library with this number, with the names that have caching on, if there is one.
@@ -40,28 +39,6 @@ pub fn kind_named(library: &Checked, name: &Text) -> ProcessKind
     ensures { result ≡ kind_named (definition_named name.now library.now) }
 {
     kind_of(find_definition(library.library(), name))
-}
-
-/// Whether a name is one of these.
-pub fn is_among(name: &Text, names: &Words) -> bool
-    ensures { result ≡ is_among name.now names.now }
-{
-    for one in names.as_slice() {
-        if one.bytes() == name.bytes() {
-            return true;
-        }
-    }
-    false
-}
-
-/// How an input is linked to a process of this kind.
-pub fn input_link(kind: ProcessKind) -> LinkType
-    ensures { result ≡ input_link kind }
-{
-    match kind {
-        ProcessKind::Function | ProcessKind::Job => LinkType::InputCalc,
-        ProcessKind::Chain => LinkType::InputWork,
-    }
 }
 
 /// How a process of this kind is linked to its caller.

@@ -1,5 +1,4 @@
-//! What a work chain comes to, as changes of a world: it goes on, submits calls and waits for them, or ends; and the changes of a
-//! kill, by which a process and all that it called end, called ones first.
+//! What a work chain comes to, as changes of a world: it goes on, submits calls and waits for them, or ends.
 #![tactic(auto)]
 
 mod arguments;
@@ -8,13 +7,12 @@ mod children;
 mod coming;
 mod counting;
 mod ending;
-mod fuel;
-mod kills;
 mod known;
 mod room;
 mod setting;
 
 pub use children::caller_of;
 pub use coming::{come_to, going};
-pub use kills::kill;
 pub use known::known_at;
+pub use wc_outline::{advance, bind, one_list_of_changes};
+pub use wc_trees::env_of;

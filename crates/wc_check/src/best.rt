@@ -59,6 +59,7 @@ pub enum Told<'a> {
 }
 
 impl<'a> Told<'a> {
+    /// The bytes of what a refusal names.
     fn bytes(&self) -> &[u8]
         ensures { result.now ≡ told self.now }
     {
@@ -68,6 +69,7 @@ impl<'a> Told<'a> {
         }
     }
 
+    /// What a refusal names, as a text of its own.
     fn text(self, alloc: Global) -> Result<Text, AllocError>
         ensures { IfOk result (λ text. text ≡ told self.entry) }
     {
@@ -90,6 +92,7 @@ pub struct Finding<'a> {
 }
 
 impl<'a> Finding<'a> {
+    /// The refusal that says this finding.
     fn refusal(self, alloc: Global) -> Result<CheckError, AllocError>
         ensures { IfOk result (λ e. Says e (finding_seen self.entry)) }
     {
@@ -99,6 +102,7 @@ impl<'a> Finding<'a> {
     }
 }
 
+/// The refusal for a fault, with the name and the place that it says.
 fn refusal_of(fault: Fault, name: Text, at: u32) -> CheckError
     ensures { Says result (record { number = number_of fault; name = name; at = at }) }
 {

@@ -24,12 +24,14 @@ fn unknown_callee<'a>(best: &mut Best<'a>, signatures: &Signatures<'a>, call: &'
     }
 }
 
+/// Offers that a call at a place doesn't give one required port.
 fn missing_port<'a>(best: &mut Best<'a>, given: &Names, at: u32, name: &'a str)
     ensures { best.new ≡ least_after best.old (missing_port given.now at name.now) }
 {
     best.offer_unless(given.has(name), Fault::PortMissing, name, at);
 }
 
+/// Offers each required port that a call at a place doesn't give, in their order.
 fn missing_among<'a>(best: &mut Best<'a>, given: &Names, at: u32, required: &[&'a str])
     ensures { best.new ≡ least_after best.old (flat_map (missing_port given.now at) (behind required.now)) }
 {
@@ -60,6 +62,7 @@ fn missing_of<'a>(
     }
 }
 
+/// Offers the port of one argument where the called definition has none of the name.
 fn unknown_port<'a>(best: &mut Best<'a>, ports: &Names, arg: &'a CallArg)
     ensures { best.new ≡ least_after best.old (unknown_port ports.now arg.now) }
 {
@@ -67,6 +70,7 @@ fn unknown_port<'a>(best: &mut Best<'a>, ports: &Names, arg: &'a CallArg)
     best.offer_unless(ports.has(name), Fault::PortUnknown, name, arg.port.at);
 }
 
+/// Offers each argument whose port the called definition doesn't have.
 fn unknown_among<'a>(best: &mut Best<'a>, ports: &Names, args: &'a [CallArg])
     ensures { best.new ≡ least_after best.old (flat_map (unknown_port ports.now) args.now) }
 {
@@ -102,6 +106,7 @@ fn find_in_call<'a>(
     repeats(alloc, best, call.args.as_slice())
 }
 
+/// Offers what is wrong with the call of a piece, where the piece is one.
 #[tactic(auto, using(crate::proofs::Leasts::least_ended))]
 fn call_of_piece<'a>(
     alloc: Global,

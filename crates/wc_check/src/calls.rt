@@ -57,6 +57,7 @@ fn required_of<'a>(alloc: Global, ports: &'a [Port]) -> Result<Vec<&'a str>, All
     Ok(required)
 }
 
+/// The names of all ports, and of those that a call has to give.
 fn signature_of<'a>(alloc: Global, ports: &'a [Port]) -> Result<Signature<'a>, AllocError>
     ensures { IfOk result (λ s. IsSignature s ports.now) }
 {
@@ -103,6 +104,7 @@ fn put_signature<'a>(
     Ok(())
 }
 
+/// The signature of each definition by its name; of two with one name that of the first.
 fn all_signatures<'a>(
     alloc: Global,
     library: &'a [Definition],

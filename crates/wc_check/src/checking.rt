@@ -52,6 +52,7 @@ fn misformed_in<'a>(alloc: Global, best: &mut Best<'a>, parts: &Parts<'a>) -> Re
     Ok(())
 }
 
+/// Offers all that is wrong with one definition that was taken apart.
 fn findings_among<'a>(
     alloc: Global,
     best: &mut Best<'a>,
@@ -80,6 +81,7 @@ fn findings_in<'a>(
     findings_among(alloc, best, signatures, &parts)
 }
 
+/// Offers all that is wrong with each definition of a library.
 fn findings_in_each<'a>(
     alloc: Global,
     best: &mut Best<'a>,

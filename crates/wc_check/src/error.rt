@@ -43,6 +43,7 @@ pub enum CheckError {
 impl From<AllocError> for CheckError {
     ghost from_gives = { λ _ e. e ≡ OutOfMemory };
 
+    /// Memory ran out.
     fn from(_error: AllocError) -> CheckError {
         CheckError::OutOfMemory
     }
@@ -51,6 +52,7 @@ impl From<AllocError> for CheckError {
 impl<T: Drop> From<AllocFailed<T>> for CheckError {
     ghost from_gives = { λ _ e. e ≡ OutOfMemory };
 
+    /// Memory ran out before a value could be handed on.
     fn from(_error: AllocFailed<T>) -> CheckError {
         CheckError::OutOfMemory
     }

@@ -48,6 +48,7 @@ pub fn bad_file_names<'a>(best: &mut Best<'a>, definition: &'a Definition)
     }
 }
 
+/// Offers each file that a job writes whose name isn't that of a file, or is that of an output.
 fn bad_written<'a>(best: &mut Best<'a>, files: &'a [JobFile])
     ensures { best.new ≡ least_after best.old (flat_map bad_written files.now) }
 {
@@ -58,6 +59,7 @@ fn bad_written<'a>(best: &mut Best<'a>, files: &'a [JobFile])
     }
 }
 
+/// Offers each file that a job fetches whose name isn't that of a file.
 fn bad_fetched<'a>(best: &mut Best<'a>, files: &'a [Fetch])
     ensures { best.new ≡ least_after best.old (flat_map bad_fetched files.now) }
 {
@@ -86,6 +88,7 @@ fn is_file_name(name: &str) -> bool
         && !bytes.starts_with(b"_wc".as_slice())
 }
 
+/// Whether each of these bytes may stand in the name of a file.
 fn are_file_bytes(bytes: &[u8]) -> bool
     ensures { result ≡ list_all is_file_byte bytes.now }
 {

@@ -54,6 +54,7 @@ pub fn reserved_ports<'a>(best: &mut Best<'a>, definition: &'a Definition)
     }
 }
 
+/// Offers each port that has a reserved name.
 fn reserved_in<'a>(best: &mut Best<'a>, ports: &'a [Port])
     ensures { best.new ≡ least_after best.old (flat_map reserved_port ports.now) }
 {
@@ -70,6 +71,7 @@ pub fn bad_declared(best: &mut Best<'_>, definition: &Definition)
     bad_ranges(best, head_of(definition).codes.as_slice());
 }
 
+/// Offers each declared status that lies outside of the range of statuses.
 fn bad_ranges(best: &mut Best<'_>, codes: &[ExitCode])
     ensures { best.new ≡ least_after best.old (flat_map bad_range (map (λ c. c.status) codes.now)) }
 {
@@ -91,6 +93,7 @@ pub fn repeated_statuses(
     repeated_codes(alloc, best, head_of(definition).codes.as_slice())
 }
 
+/// Offers each status that was declared before.
 fn repeated_codes(alloc: Global, best: &mut Best<'_>, codes: &[ExitCode]) -> Result<(), AllocError>
     ensures { OnOk result (best.new ≡ least_after best.old (repeated_statuses_after [] (map (λ c. c.status) codes.now))) }
 {

@@ -33,6 +33,7 @@ pub fn long_name<'a>(best: &mut Best<'a>, name: &'a Name)
     best.offer_unless(is_short, Fault::BadName, name.text.as_str(), name.at);
 }
 
+/// Offers what is too long among the names of a definition and its ports.
 #[tactic(auto, using(crate::proofs::Leasts::least_joined))]
 fn long_in_head<'a>(best: &mut Best<'a>, head: &'a Head)
     ensures { best.new ≡ least_after best.old (long_name head.now.name ++ (flat_map (λ p. long_name p.name) head.now.inputs ++ flat_map (λ p. long_name p.name) head.now.outputs)) }
@@ -42,6 +43,7 @@ fn long_in_head<'a>(best: &mut Best<'a>, head: &'a Head)
     long_in_ports(best, head.outputs.as_slice());
 }
 
+/// Offers each port whose name is too long.
 fn long_in_ports<'a>(best: &mut Best<'a>, ports: &'a [Port])
     ensures { best.new ≡ least_after best.old (flat_map (λ p. long_name p.name) ports.now) }
 {
@@ -50,6 +52,7 @@ fn long_in_ports<'a>(best: &mut Best<'a>, ports: &'a [Port])
     }
 }
 
+/// Offers the name that a rule sets, where it is too long.
 #[tactic(auto, using(crate::proofs::Leasts::least_ended))]
 fn long_rule_name<'a>(best: &mut Best<'a>, rule: &'a Rule)
     ensures { best.new ≡ least_after best.old (flat_map long_name (rule_name rule.now)) }
@@ -61,6 +64,7 @@ fn long_rule_name<'a>(best: &mut Best<'a>, rule: &'a Rule)
     }
 }
 
+/// Offers what is too long among the names that a rule sets and mentions.
 #[tactic(auto, using(crate::proofs::Leasts::least_joined))]
 fn long_in_rule<'a>(best: &mut Best<'a>, rule: &'a Rule)
     ensures { best.new ≡ least_after best.old (long_in_rule rule.now) }
@@ -69,6 +73,7 @@ fn long_in_rule<'a>(best: &mut Best<'a>, rule: &'a Rule)
     find_in_rule(best, &Search::Long, rule);
 }
 
+/// Offers what is too long among the names of rules.
 fn long_in_rules<'a>(best: &mut Best<'a>, rules: &'a [Rule])
     ensures { best.new ≡ least_after best.old (flat_map long_in_rule rules.now) }
 {
@@ -77,6 +82,7 @@ fn long_in_rules<'a>(best: &mut Best<'a>, rules: &'a [Rule])
     }
 }
 
+/// Offers each argument whose port has too long a name.
 fn long_in_args<'a>(best: &mut Best<'a>, args: &'a [CallArg])
     ensures { best.new ≡ least_after best.old (flat_map long_name (map (λ a. a.port) args.now)) }
 {
@@ -85,6 +91,7 @@ fn long_in_args<'a>(best: &mut Best<'a>, args: &'a [CallArg])
     }
 }
 
+/// Offers what is too long among the names that a statement sets, calls or gives.
 #[tactic(auto, using(crate::proofs::Leasts::least_ended, crate::proofs::Leasts::least_both))]
 fn long_stmt_names<'a>(best: &mut Best<'a>, stmt: &'a Stmt)
     ensures { best.new ≡ least_after best.old (flat_map long_name (stmt_names stmt.now)) }
@@ -101,6 +108,7 @@ fn long_stmt_names<'a>(best: &mut Best<'a>, stmt: &'a Stmt)
     }
 }
 
+/// Offers what is too long among the names that a piece has beside its expressions.
 #[tactic(auto, using(crate::proofs::Leasts::least_ended))]
 fn long_piece_names<'a>(best: &mut Best<'a>, piece: Piece<'a>)
     ensures { best.new ≡ least_after best.old (flat_map long_name (piece_names (seen_piece piece.entry))) }
@@ -114,6 +122,7 @@ fn long_piece_names<'a>(best: &mut Best<'a>, piece: Piece<'a>)
     }
 }
 
+/// Offers what is too long among all names of a piece, those in its expressions too.
 #[tactic(auto, using(crate::proofs::Leasts::least_joined))]
 fn long_in_piece<'a>(best: &mut Best<'a>, piece: Piece<'a>)
     ensures { best.new ≡ least_after best.old (long_in_piece (seen_piece piece.entry)) }
@@ -122,6 +131,7 @@ fn long_in_piece<'a>(best: &mut Best<'a>, piece: Piece<'a>)
     find_in_piece(best, &Search::Long, piece);
 }
 
+/// Offers what is too long among the names of an outline's pieces.
 fn long_in_pieces<'a>(best: &mut Best<'a>, pieces: &[Piece<'a>])
     ensures { best.new ≡ least_after best.old (flat_map long_in_piece (seen_pieces pieces.now)) }
 {

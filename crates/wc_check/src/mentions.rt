@@ -39,6 +39,7 @@ pub enum Search<'s, 'p> {
     Long,
 }
 
+/// The name that is mentioned.
 fn mentioned<'a>(mention: Mention<'a>) -> &'a Name
     ensures { result.now ≡ mentioned (seen_mention mention.entry) }
 {
@@ -132,6 +133,7 @@ pub fn find_in_rule<'a>(best: &mut Best<'a>, search: &Search<'_, '_>, rule: &'a 
     }
 }
 
+/// Offers what is searched for in a condition, where there is one.
 fn find_in_condition<'a>(best: &mut Best<'a>, search: &Search<'_, '_>, condition: &'a Option<Expr>)
     ensures { best.new ≡ least_after best.old (flat_map (found_at search.now) (condition_mentions condition.now)) }
 {
@@ -141,6 +143,7 @@ fn find_in_condition<'a>(best: &mut Best<'a>, search: &Search<'_, '_>, condition
     }
 }
 
+/// Offers what is searched for in the values of a call's arguments.
 fn find_in_args<'a>(best: &mut Best<'a>, search: &Search<'_, '_>, args: &'a [CallArg])
     ensures { best.new ≡ least_after best.old (flat_map (found_at search.now) (flat_map (λ a. mentions a.value) args.now)) }
 {
@@ -149,6 +152,7 @@ fn find_in_args<'a>(best: &mut Best<'a>, search: &Search<'_, '_>, args: &'a [Cal
     }
 }
 
+/// Offers what is searched for in the expressions of a statement.
 fn find_in_stmt<'a>(best: &mut Best<'a>, search: &Search<'_, '_>, stmt: &'a Stmt)
     ensures { best.new ≡ least_after best.old (flat_map (found_at search.now) (stmt_mentions stmt.now)) }
 {
@@ -197,6 +201,7 @@ pub fn find_in_lines<'a>(best: &mut Best<'a>, search: &Search<'_, '_>, definitio
     }
 }
 
+/// Offers what is searched for in the expressions of a job's arguments.
 fn find_in_job_args<'a>(best: &mut Best<'a>, search: &Search<'_, '_>, lines: &'a [JobLine])
     ensures { best.new ≡ least_after best.old (flat_map (λ l. flat_map (found_at search.now) (mentions l.value)) lines.now) }
 {
@@ -205,6 +210,7 @@ fn find_in_job_args<'a>(best: &mut Best<'a>, search: &Search<'_, '_>, lines: &'a
     }
 }
 
+/// Offers what is searched for in the contents of the files that a job writes.
 fn find_in_files<'a>(best: &mut Best<'a>, search: &Search<'_, '_>, files: &'a [JobFile])
     ensures { best.new ≡ least_after best.old (flat_map (λ f. flat_map (found_at search.now) (mentions f.value)) files.now) }
 {

@@ -39,6 +39,7 @@ fn put_piece<'a>(found: &mut Vec<Piece<'a>>, piece: Piece<'a>) -> Result<(), All
     Ok(())
 }
 
+/// Puts the pieces of a block behind those that were found.
 #[cycle(pieces)]
 fn put_block<'a>(found: &mut Vec<Piece<'a>>, block: &'a Block) -> Result<(), AllocError>
     ensures { OnOk result (seen_pieces found.new.items ≡ seen_pieces found.old.items ++ pieces block.now) }
@@ -49,6 +50,7 @@ fn put_block<'a>(found: &mut Vec<Piece<'a>>, block: &'a Block) -> Result<(), All
     Ok(())
 }
 
+/// Puts the pieces of an instruction behind those that were found.
 #[cycle(pieces)]
 fn put_instr<'a>(found: &mut Vec<Piece<'a>>, instr: &'a Instr) -> Result<(), AllocError>
     ensures { OnOk result (seen_pieces found.new.items ≡ seen_pieces found.old.items ++ pieces_of_instr instr.now) }
@@ -85,6 +87,7 @@ fn put_instr<'a>(found: &mut Vec<Piece<'a>>, instr: &'a Instr) -> Result<(), All
     }
 }
 
+/// Puts the pieces of the arms of an `if` behind those that were found.
 #[cycle(pieces)]
 fn put_arms<'a>(found: &mut Vec<Piece<'a>>, arms: &'a Arms) -> Result<(), AllocError>
     ensures { OnOk result (seen_pieces found.new.items ≡ seen_pieces found.old.items ++ flat_map pieces_of_arm arms.now) }
@@ -96,6 +99,7 @@ fn put_arms<'a>(found: &mut Vec<Piece<'a>>, arms: &'a Arms) -> Result<(), AllocE
     Ok(())
 }
 
+/// Puts the pieces of a step behind those that were found.
 fn put_step<'a>(found: &mut Vec<Piece<'a>>, step: &'a Step) -> Result<(), AllocError>
     ensures { OnOk result (seen_pieces found.new.items ≡ seen_pieces found.old.items ++ step_pieces step.now) }
 {
@@ -105,6 +109,7 @@ fn put_step<'a>(found: &mut Vec<Piece<'a>>, step: &'a Step) -> Result<(), AllocE
     Ok(())
 }
 
+/// Puts a piece for each statement behind those that were found.
 fn put_stmts<'a>(found: &mut Vec<Piece<'a>>, stmts: &'a [Stmt]) -> Result<(), AllocError>
     ensures { OnOk result (seen_pieces found.new.items ≡ seen_pieces found.old.items ++ map Does stmts.now) }
 {

@@ -20,6 +20,7 @@ pub fn places(alloc: Global, parts: &Parts<'_>) -> Result<Vec<u32>, AllocError>
     Ok(found)
 }
 
+/// Puts where the lines of a job begin behind the places that were found; other definitions have none.
 fn put_line_places(found: &mut Vec<u32>, definition: &Definition) -> Result<(), AllocError>
     ensures { OnOk result (found.new.items ≡ found.old.items ++ line_places definition.now) }
 {
@@ -36,6 +37,7 @@ fn put_line_places(found: &mut Vec<u32>, definition: &Definition) -> Result<(), 
     }
 }
 
+/// Puts where a job's arguments begin behind the places that were found.
 fn put_arg_places(found: &mut Vec<u32>, lines: &[JobLine]) -> Result<(), AllocError>
     ensures { OnOk result (found.new.items ≡ found.old.items ++ map (λ l. l.at) lines.now) }
 {
@@ -45,6 +47,7 @@ fn put_arg_places(found: &mut Vec<u32>, lines: &[JobLine]) -> Result<(), AllocEr
     Ok(())
 }
 
+/// Puts where the lines of written files begin behind the places that were found.
 fn put_file_places(found: &mut Vec<u32>, files: &[JobFile]) -> Result<(), AllocError>
     ensures { OnOk result (found.new.items ≡ found.old.items ++ map (λ f. f.at) files.now) }
 {
@@ -54,6 +57,7 @@ fn put_file_places(found: &mut Vec<u32>, files: &[JobFile]) -> Result<(), AllocE
     Ok(())
 }
 
+/// Puts where the lines of fetched files begin behind the places that were found.
 fn put_fetch_places(found: &mut Vec<u32>, files: &[Fetch]) -> Result<(), AllocError>
     ensures { OnOk result (found.new.items ≡ found.old.items ++ map (λ f. f.at) files.now) }
 {
@@ -63,6 +67,7 @@ fn put_fetch_places(found: &mut Vec<u32>, files: &[Fetch]) -> Result<(), AllocEr
     Ok(())
 }
 
+/// Puts where rules begin behind the places that were found.
 fn put_rule_places(found: &mut Vec<u32>, rules: &[Rule]) -> Result<(), AllocError>
     ensures { OnOk result (found.new.items ≡ found.old.items ++ map rule_at rules.now) }
 {
@@ -72,6 +77,7 @@ fn put_rule_places(found: &mut Vec<u32>, rules: &[Rule]) -> Result<(), AllocErro
     Ok(())
 }
 
+/// Where a rule begins, in bytes.
 fn rule_at(rule: &Rule) -> u32
     ensures { result ≡ rule_at rule.now }
 {
@@ -82,6 +88,7 @@ fn rule_at(rule: &Rule) -> u32
     }
 }
 
+/// Puts where the instructions and statements of an outline begin behind the places that were found.
 fn put_piece_places(found: &mut Vec<u32>, pieces: &[Piece<'_>]) -> Result<(), AllocError>
     ensures { OnOk result (found.new.items ≡ found.old.items ++ flat_map piece_places (seen_pieces pieces.now)) }
 {
@@ -91,6 +98,7 @@ fn put_piece_places(found: &mut Vec<u32>, pieces: &[Piece<'_>]) -> Result<(), Al
     Ok(())
 }
 
+/// Puts where a piece begins behind the places that were found, where it is an instruction or a statement.
 fn put_piece_place(found: &mut Vec<u32>, piece: &Piece<'_>) -> Result<(), AllocError>
     ensures { OnOk result (found.new.items ≡ found.old.items ++ piece_places (seen_piece piece.now)) }
 {
@@ -109,6 +117,7 @@ fn put_piece_place(found: &mut Vec<u32>, piece: &Piece<'_>) -> Result<(), AllocE
     }
 }
 
+/// Where a statement begins, in bytes.
 fn stmt_at(stmt: &Stmt) -> u32
     ensures { result ≡ stmt_at stmt.now }
 {

@@ -30,10 +30,12 @@ impl Placed for Port {
 
     ghost placed = { λ p. placed p.name };
 
+    /// The name of a port.
     fn name(&self) -> &str {
         self.name.text.as_str()
     }
 
+    /// Where that name begins, in bytes.
     fn at(&self) -> u32 {
         self.name.at
     }
@@ -44,10 +46,12 @@ impl Placed for CallArg {
 
     ghost placed = { λ a. placed a.port };
 
+    /// The port that an argument names.
     fn name(&self) -> &str {
         self.port.text.as_str()
     }
 
+    /// Where that name begins, in bytes.
     fn at(&self) -> u32 {
         self.port.at
     }
@@ -58,10 +62,12 @@ impl Placed for JobFile {
 
     ghost placed = { λ f. placed_quoted f.name };
 
+    /// The name of a file that a job writes.
     fn name(&self) -> &str {
         self.name.text.as_str()
     }
 
+    /// Where that name begins, in bytes.
     fn at(&self) -> u32 {
         self.name.at
     }
@@ -72,10 +78,12 @@ impl Placed for Fetch {
 
     ghost placed = { λ f. placed_quoted f.name };
 
+    /// The name of a file that a job fetches.
     fn name(&self) -> &str {
         self.name.text.as_str()
     }
 
+    /// Where that name begins, in bytes.
     fn at(&self) -> u32 {
         self.name.at
     }
@@ -97,10 +105,12 @@ impl Placed for Definition {
 
     ghost placed = { λ d. placed (head_of d).name };
 
+    /// The name of a definition.
     fn name(&self) -> &str {
         head_of(self).name.text.as_str()
     }
 
+    /// Where that name begins, in bytes.
     fn at(&self) -> u32 {
         head_of(self).name.at
     }

@@ -26,6 +26,7 @@ const MOST_CODES: usize = 64;
 
 const MOST_ITEMS: usize = 512;
 
+/// Offers a name that is no output.
 fn unknown_output<'a>(best: &mut Best<'a>, outputs: &Names, name: &'a Name)
     ensures { best.new ≡ least_after best.old (unknown_output outputs.now name.now) }
 {
@@ -33,6 +34,7 @@ fn unknown_output<'a>(best: &mut Best<'a>, outputs: &Names, name: &'a Name)
     best.offer_unless(outputs.has(text), Fault::Unknown, text, name.at);
 }
 
+/// Offers the output that a rule sets, where there is none of the name.
 #[tactic(auto, using(crate::proofs::Leasts::least_ended))]
 fn output_of_rule<'a>(best: &mut Best<'a>, outputs: &Names, rule: &'a Rule)
     ensures { best.new ≡ least_after best.old (flat_map (unknown_output outputs.now) (rule_output rule.now)) }
@@ -44,6 +46,7 @@ fn output_of_rule<'a>(best: &mut Best<'a>, outputs: &Names, rule: &'a Rule)
     }
 }
 
+/// Offers each output that rules set and that isn't there.
 fn outputs_of_rules<'a>(best: &mut Best<'a>, outputs: &Names, rules: &'a [Rule])
     ensures { best.new ≡ least_after best.old (flat_map (λ r. flat_map (unknown_output outputs.now) (rule_output r)) rules.now) }
 {
@@ -78,6 +81,7 @@ fn output_of_piece<'a>(best: &mut Best<'a>, outputs: &Names, piece: Piece<'a>)
     }
 }
 
+/// Offers each output that an outline sets and that isn't there.
 fn outputs_of_pieces<'a>(best: &mut Best<'a>, outputs: &Names, pieces: &[Piece<'a>])
     ensures { best.new ≡ least_after best.old (flat_map (outputs_at outputs.now) (seen_pieces pieces.now)) }
 {
@@ -100,6 +104,7 @@ pub fn bad_outputs<'a>(
     Ok(())
 }
 
+/// Offers a status that is neither 0 nor declared.
 fn undeclared(best: &mut Best<'_>, declared: &Statuses, status: Number)
     ensures { best.new ≡ least_after best.old (undeclared declared.now status) }
 {
@@ -107,6 +112,7 @@ fn undeclared(best: &mut Best<'_>, declared: &Statuses, status: Number)
     best.offer_unless(is_known, Fault::BadStatus, "", status.at);
 }
 
+/// Offers the status of a rule's exit, where it isn't declared.
 #[tactic(auto, using(crate::proofs::Leasts::least_ended))]
 fn exit_of_rule(best: &mut Best<'_>, declared: &Statuses, rule: &Rule)
     ensures { best.new ≡ least_after best.old (flat_map (undeclared declared.now) (rule_status rule.now)) }
@@ -118,6 +124,7 @@ fn exit_of_rule(best: &mut Best<'_>, declared: &Statuses, rule: &Rule)
     }
 }
 
+/// Offers each status that rules end with and that isn't declared.
 fn exits_of_rules(best: &mut Best<'_>, declared: &Statuses, rules: &[Rule])
     ensures { best.new ≡ least_after best.old (flat_map (λ r. flat_map (undeclared declared.now) (rule_status r)) rules.now) }
 {
@@ -126,6 +133,7 @@ fn exits_of_rules(best: &mut Best<'_>, declared: &Statuses, rules: &[Rule])
     }
 }
 
+/// Offers the status that a piece ends with, where it isn't declared.
 #[tactic(auto, using(crate::proofs::Leasts::least_ended))]
 fn exit_of_piece(best: &mut Best<'_>, declared: &Statuses, piece: &Piece<'_>)
     ensures { best.new ≡ least_after best.old (flat_map (undeclared declared.now) (piece_status (seen_piece piece.now))) }
@@ -143,6 +151,7 @@ fn exit_of_piece(best: &mut Best<'_>, declared: &Statuses, piece: &Piece<'_>)
     }
 }
 
+/// Offers each status that an outline ends with and that isn't declared.
 fn exits_of_pieces(best: &mut Best<'_>, declared: &Statuses, pieces: &[Piece<'_>])
     ensures { best.new ≡ least_after best.old (flat_map (λ p. flat_map (undeclared declared.now) (piece_status p)) (seen_pieces pieces.now)) }
 {
@@ -161,6 +170,7 @@ pub fn bad_exits(alloc: Global, best: &mut Best<'_>, parts: &Parts<'_>) -> Resul
     Ok(())
 }
 
+/// Offers the first port above the greatest number of them.
 fn over_ports(best: &mut Best<'_>, ports: &[Port])
     ensures { best.new ≡ least_after best.old (over 32 (map (λ p. p.at) ports.now)) }
 {
@@ -169,6 +179,7 @@ fn over_ports(best: &mut Best<'_>, ports: &[Port])
     }
 }
 
+/// Offers the first exit code above the greatest number of them.
 fn over_codes(best: &mut Best<'_>, codes: &[ExitCode])
     ensures { best.new ≡ least_after best.old (over 64 (map (λ c. c.at) codes.now)) }
 {
@@ -177,6 +188,7 @@ fn over_codes(best: &mut Best<'_>, codes: &[ExitCode])
     }
 }
 
+/// Offers the place of the first item above the greatest number of them.
 fn over_items(best: &mut Best<'_>, places: &[u32])
     ensures { best.new ≡ least_after best.old (over 512 places.now) }
 {

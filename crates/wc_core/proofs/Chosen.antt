@@ -4,7 +4,7 @@ use Rattle.std.specs.Prelude.{◌/◌, ◌%◌, nat_lt, unwrap_or, slice_get, �
 use Rattle.std.specs.List.{find}
 use Rattle.std.specs.Option.{option_or}
 use Rattle.std.specs.Result.{IfOk}
-use Rattle.wc_disk.specs.declared.generator.Generator.{Generator}
+use Rattle.wc_value.specs.declared.generator.Generator.{Generator}
 use Rattle.wc_records.specs.Ready as records
 use Rattle.wc_core.specs.Order.{IsNextOf, IsDrawn}
 use Rattle.wc_core.specs.declared.order.Order.{Order}

@@ -7,9 +7,8 @@ use Rattle.wc_value.specs.declared.process.ProcessState.TheVariants as state
 use Rattle.wc_state.specs.declared.record.Part.{Part}
 use Rattle.wc_state.specs.declared.record.Part.TheVariants as part
 use Rattle.wc_state.specs.declared.record.ProcessRecord.{ProcessRecord}
-use Rattle.wc_readiness.specs.Readiness as readiness
-use Rattle.wc_readiness.specs.Readiness.{waits_later}
-use Rattle.wc_records.specs.Readiness.{AreDues}
+use Rattle.wc_records.specs.Readiness as readiness
+use Rattle.wc_records.specs.Readiness.{waits_later, AreDues}
 use Rattle.wc_records.proofs.Moments.{ready_by_parts, is_due}
 use Rattle.wc_records.proofs.Waiting.{Waits, first_is_least, first_waits, never_ready, nobody_waits}
 use Rattle.wc_world.specs.World.{World}

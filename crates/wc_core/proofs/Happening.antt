@@ -11,12 +11,12 @@ use Rattle.wc_world.proofs.ReachedWorlds.{reached_is_consistent}
 use Rattle.wc_machine.specs.Laws.{HasPlaces}
 use Rattle.wc_machine.specs.Machine.{Event, Leads, after_changes}
 use Rattle.wc_machine.specs.Sound.{IsSound}
-use Rattle.wc_laws.specs.ListLaws.{AreItsChanges}
-use Rattle.wc_laws.proofs.Happening.{events_have_changes}
-use Rattle.wc_laws.specs.EventLaws.{HasRoomFor, LeavesSound}
-use Rattle.wc_laws.proofs.SoundEvents.{events_keep_sound}
-use Rattle.wc_laws.specs.AcceptedLaws.{IsPlain}
-use Rattle.wc_laws.proofs.Parts.{events_are_plain}
+use Rattle.wc_soundness.specs.ListLaws.{AreItsChanges}
+use Rattle.wc_soundness.proofs.Happening.{events_have_changes}
+use Rattle.wc_soundness.specs.EventLaws.{HasRoomFor, LeavesSound}
+use Rattle.wc_soundness.proofs.SoundEvents.{events_keep_sound}
+use Rattle.wc_soundness.specs.AcceptedLaws.{IsPlain}
+use Rattle.wc_soundness.proofs.Parts.{events_are_plain}
 use Rattle.wc_machine.specs.Refusals.{HasRoom}
 use Rattle.wc_machine.proofs.Counted.{HasNoCount, one_batch}
 use Rattle.wc_machine.proofs.Rooms.{has_places}

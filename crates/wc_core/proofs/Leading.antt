@@ -11,7 +11,7 @@ use Rattle.wc_machine.specs.Sound.{IsSound}
 use Rattle.wc_machine.specs.Submitting.{Submits, submitted_number}
 use Rattle.wc_machine.proofs.SubmittedAccepted.{submissions_are_accepted}
 use Rattle.wc_machine.proofs.SubmittedContinues.{submissions_continue}
-use Rattle.wc_laws.proofs.Submissions.{any_submission}
+use Rattle.wc_soundness.proofs.Submissions.{any_submission}
 use Rattle.wc_machine.specs.Refusals.{HasRoom}
 use Rattle.wc_machine.proofs.Rooms.{has_places}
 use Rattle.wc_core.proofs.Counted.{nodes_submitted, batches_submitted}

@@ -15,3 +15,4 @@ mod NextReady
 mod Due
 mod Chosen
 mod Going
+mod KillParts

@@ -16,9 +16,9 @@ use Rattle.wc_machine.specs.Killing.{kill_changes}
 use Rattle.wc_machine.specs.Laws.{HasPlaces}
 use Rattle.wc_machine.specs.Machine.{Event, IsLive, Leads, after_changes, kill, kills, marked, pause, pauses, pause_changes, play, plays, play_changes, renewed}
 use Rattle.wc_machine.specs.Sound.{IsSound}
-use Rattle.wc_laws.proofs.KillOrder.{all_below, change_of, changes_are}
-use Rattle.wc_laws.proofs.CalculationEvents.{pause_accepted, play_accepted}
-use Rattle.wc_laws.proofs.AcceptedKills.{kill_accepted}
+use Rattle.wc_soundness.proofs.KillOrder.{all_below, change_of, changes_are}
+use Rattle.wc_soundness.proofs.CalculationEvents.{pause_accepted, play_accepted}
+use Rattle.wc_soundness.proofs.AcceptedKills.{kill_accepted}
 use Rattle.wc_machine.specs.Refusals.{FullOfBatches, NoneHolds, RefusesLive}
 use Rattle.wc_machine.specs.declared.error.TurnError.{TurnError}
 use Rattle.wc_machine.specs.declared.error.TurnError.TheVariants as error

@@ -24,12 +24,12 @@ use Rattle.wc_machine.specs.Machine.{Leads, turn, turns}
 use Rattle.wc_machine.specs.Readiness.{is_ready}
 use Rattle.wc_machine.specs.Sound.{IsSound, OutputsAscend}
 use Rattle.wc_machine.specs.Turning.{TurnGives, calculates, clones, begins, excepts, gives_up, moves, parses, advances, binds}
-use Rattle.wc_laws.specs.ListLaws.{AreItsChanges}
-use Rattle.wc_laws.proofs.NoChanges.{turn_some}
-use Rattle.wc_laws.proofs.AcceptedBindings.{binding_accepted}
-use Rattle.wc_laws.proofs.CalculationEvents.{begins_accepted, clones_accepted, excepts_accepted, function_accepted, job_lives, parse_accepted, task_accepted}
-use Rattle.wc_laws.proofs.Calls.{calls_accepted}
-use Rattle.wc_laws.proofs.Chains.{IsTurn, end_accepted, loop_accepted, on_accepted}
+use Rattle.wc_soundness.specs.ListLaws.{AreItsChanges}
+use Rattle.wc_soundness.proofs.NoChanges.{turn_some}
+use Rattle.wc_soundness.proofs.AcceptedBindings.{binding_accepted}
+use Rattle.wc_soundness.proofs.CalculationEvents.{begins_accepted, clones_accepted, excepts_accepted, function_accepted, job_lives, parse_accepted, task_accepted}
+use Rattle.wc_soundness.proofs.Calls.{calls_accepted}
+use Rattle.wc_soundness.proofs.Chains.{IsTurn, end_accepted, loop_accepted, on_accepted}
 use Rattle.wc_machine.specs.Refusals.{FullOf, HasRoom, NoneHolds}
 use Rattle.wc_machine.specs.declared.error.TurnError.{TurnError}
 use Rattle.wc_machine.specs.declared.error.TurnError.TheVariants as error

@@ -1,8 +1,8 @@
 -- Which of the ready processes comes next.
 use Rattle.std.specs.Prelude.{◌≡◌, ◌≢◌, ℕ, ◌<◌, ◌/◌, ◌%◌, nat_lt, List, [], length, get_or, unwrap_or, Option, Some, None}
 use Rattle.std.specs.List.{find}
-use Rattle.wc_disk.specs.declared.generator.Generator.{Generator}
-use Rattle.wc_disk.specs.Noise.{drawn}
+use Rattle.wc_value.specs.declared.generator.Generator.{Generator}
+use Rattle.wc_value.specs.Draws.{drawn}
 use Rattle.wc_world.specs.World.{World}
 use Rattle.wc_machine.specs.Readiness.{ready_at}
 use Rattle.wc_core.specs.declared.next.Next.{Next}

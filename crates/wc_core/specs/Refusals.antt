@@ -5,7 +5,7 @@ use Rattle.wc_world.specs.World.{World}
 use Rattle.wc_world.specs.Records.{find_record}
 use Rattle.wc_machine.specs.declared.answer.TaskAnswer.{TaskAnswer}
 use Rattle.wc_machine.specs.Machine.{Event, turn, Leads}
-use Rattle.wc_laws.specs.ListLaws.{AreItsChanges}
+use Rattle.wc_soundness.specs.ListLaws.{AreItsChanges}
 use Rattle.wc_machine.specs.Refusals.{FullOf, FullOfBatches, HasEndedAs}
 use Rattle.wc_machine.specs.declared.error.TurnError.{TurnError}
 use Rattle.wc_machine.specs.declared.error.TurnError.TheVariants as error

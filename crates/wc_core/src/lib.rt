@@ -2,6 +2,8 @@
 //! changes of each event, as values of a world.
 #![tactic(auto)]
 
+mod fuel;
+mod kills;
 mod marks;
 mod needs;
 mod next;

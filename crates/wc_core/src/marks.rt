@@ -10,9 +10,9 @@ ghost use Rattle.wc_machine.specs.Sound.{IsSound};
 ghost use Rattle.wc_machine.specs.Refusals.{FullOfBatches, NoneHolds};
 ghost use Rattle.wc_core.specs.Refusals.{AreChangesOf, RefusesMark};
 
+use crate::kills::kill;
 use std::alloc::{AllocError, Global};
-use wc_changes::kill;
-use wc_job::anew;
+use wc_calculation_turns::anew;
 use wc_machine::{TurnError, check_batch, live_process};
 use wc_state::{Part, ProcessRecord};
 use wc_value::Duplicate;

@@ -9,7 +9,7 @@ ghost use Rattle.wc_core.specs.Asks.{asks_of, asks_task, task_at, IsNeedAt};
 ghost use Rattle.wc_core.specs.Refusals.{RefusesNeed};
 
 use std::alloc::{AllocError, Global};
-use wc_cache::{definition_of, recorded_inputs};
+use wc_calculation_turns::{definition_of, recorded_inputs};
 use wc_expression::Outcome;
 use wc_machine::TurnError;
 use wc_semantics::request_of;

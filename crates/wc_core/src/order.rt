@@ -7,7 +7,7 @@ ghost use Rattle.wc_machine.specs.Readiness.{ready_at};
 ghost use Rattle.wc_core.specs.Order.{IsOf, IsNextOf, IsDrawn};
 
 use std::alloc::{AllocError, Global};
-use wc_disk::Generator;
+use wc_value::Generator;
 use wc_world::World;
 
 /// In which order processes have their turns.

@@ -2,7 +2,6 @@
 
 ghost use Rattle.std.specs.Prelude.{◌≡◌, ◌++◌, ◌+◌, ◌<◌, ◌≤◌, ◌^◌, true, suc, map, length, All, None, IfOk, IfErr, OnOk};
 ghost use Rattle.wc_value.specs.Spelling.{depth};
-ghost use Rattle.wc_syntax.specs.Findings.{is_among};
 ghost use Rattle.wc_syntax.specs.declared.definition.Definition.{Definition};
 ghost use Rattle.wc_world.specs.Fits.{names_ascend};
 ghost use Rattle.wc_world.specs.Applied.{applied};
@@ -10,7 +9,7 @@ ghost use Rattle.wc_world.specs.Records.{kind_of_definition};
 ghost use Rattle.wc_world.specs.Accepted.{IsAccepted};
 ghost use Rattle.wc_machine.specs.Continues.{Continues};
 ghost use Rattle.wc_machine.specs.Sound.{IsSound};
-ghost use Rattle.wc_machine.specs.Submitting.{data_change, input_link, links_from, submitted_number, submission, Submits};
+ghost use Rattle.wc_machine.specs.Submitting.{data_change, links_from, submitted_number, submission, Submits};
 ghost use Rattle.wc_state.specs.Ranges.{AreLimits};
 ghost use Rattle.wc_machine.specs.Refusals.{HasRoom, NoneHolds, RefusesSubmission, RefusesName};
 ghost use Rattle.wc_core.specs.Submitted.{root, Takes};
@@ -18,10 +17,10 @@ ghost use Rattle.wc_core.specs.Submitted.{root, Takes};
 use std::alloc::{AllocError, Global};
 use wc_fits::kind_of_definition;
 use wc_graph::{Link, LinkType};
-use wc_machine::{TurnError, check_room};
+use wc_machine::{TurnError, check_room, input_link};
 use wc_meaning::find_bad_input;
 use wc_state::{Limits, ProcessKind};
-use wc_syntax::{Checked, find_definition, head};
+use wc_syntax::{Checked, find_definition, head, is_among};
 use wc_value::{Duplicate, Fields, Text, Words};
 use wc_world::{Change, Changes, NewProcess, World};
 
@@ -36,28 +35,6 @@ fn kind_named(library: &Checked, name: &Text, inputs: &Fields) -> Result<Process
     match find_bad_input(head(definition).inputs.as_slice(), inputs) {
         Some(port) => Err(TurnError::BadInputs(port.copy()?)),
         None => Ok(kind_of_definition(definition)),
-    }
-}
-
-/// Whether a name is one of these.
-fn is_among(name: &Text, names: &Words) -> bool
-    ensures { result ≡ is_among name.now names.now }
-{
-    for one in names.as_slice() {
-        if one.bytes() == name.bytes() {
-            return true;
-        }
-    }
-    false
-}
-
-/// How an input is linked to a process of this kind.
-fn input_link(kind: ProcessKind) -> LinkType
-    ensures { result ≡ input_link kind }
-{
-    match kind {
-        ProcessKind::Function | ProcessKind::Job => LinkType::InputCalc,
-        ProcessKind::Chain => LinkType::InputWork,
     }
 }
 

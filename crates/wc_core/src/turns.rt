@@ -11,7 +11,7 @@ ghost use Rattle.wc_machine.specs.Machine.{turn};
 ghost use Rattle.wc_machine.specs.Readiness.{is_ready};
 ghost use Rattle.wc_machine.specs.Sound.{IsSound, OutputsAscend};
 ghost use Rattle.wc_machine.specs.Turning.{TurnGives};
-ghost use Rattle.wc_laws.specs.ListLaws.{AreItsChanges};
+ghost use Rattle.wc_soundness.specs.ListLaws.{AreItsChanges};
 ghost use Rattle.wc_machine.specs.Refusals.{FullOf, HasRoom, NoneHolds};
 ghost use Rattle.wc_core.specs.Asks.{FitsAt};
 ghost use Rattle.wc_core.specs.Refusals.{RefusesTurn};

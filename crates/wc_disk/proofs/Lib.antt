@@ -1,5 +1,4 @@
 pub mod Outcomes
 mod Times
-mod Draws
 mod Replaying
 pub mod Runs

@@ -8,8 +8,9 @@ use Rattle.wc_disk.specs.declared.pick.Pick.TheVariants.{Old, New, Noise}
 use Rattle.wc_disk.specs.Picked.{IsPicked}
 use Rattle.wc_disk.specs.Volume.{Volume, settled, after_call, after_calls, bytes_after, AllSpare, IsImage}
 use Rattle.wc_disk.specs.Replay.{spared, reads_as_image}
-use Rattle.wc_disk.specs.Noise.{noise, held, scattered, noised, HasNoSync, EndsInSync, IsSinceSync}
-use Rattle.wc_disk.proofs.Draws.{length-noise}
+use Rattle.wc_value.specs.Draws.{noise}
+use Rattle.wc_disk.specs.Noise.{held, scattered, noised, HasNoSync, EndsInSync, IsSinceSync}
+use Rattle.wc_value.proofs.Draws.{length-noise}
 use Rattle.wc_disk.proofs.Times.{after_push}
 
 pub seen_after : (c : Call) (v : Volume) → (after_call c v).seen ≡ bytes_after c v.seen

@@ -1,21 +1,9 @@
--- The numbers of the generator, and the bytes that it scatters over a disk.
-use Rattle.std.specs.Prelude.{◌≡◌, ◌⊎◌, ◌++◌, Bool, true, false, ℕ, zero, suc, ◌+◌, ◌-◌, ◌*◌, ◌/◌, ◌%◌, ◌^◌, List, [], ◌∷◌, length, min}
+-- The bytes that the generator scatters over a disk.
+use Rattle.std.specs.Prelude.{◌≡◌, ◌⊎◌, ◌++◌, Bool, true, false, ℕ, ◌-◌, List, [], ◌∷◌, length, min}
+use Rattle.wc_value.specs.Draws.{noise, after_draws}
 use Rattle.wc_disk.specs.declared.calls.Call.{Call}
 use Rattle.wc_disk.specs.declared.calls.Call.TheVariants.{Write, Cut, Sync}
 use Rattle.wc_disk.specs.Steps.{overwritten}
-
--- the generator's state after one draw; what it draws is this by 65536
-abbrev pub drawn : ℕ → ℕ
-drawn x = (x * 1103515245 + 12345) % 2 ^ 31
-
-abbrev pub after_draws : ℕ → ℕ → ℕ
-after_draws zero x = x
-after_draws (suc n) x = after_draws n (drawn x)
-
--- n bytes, each a draw modulo 256
-abbrev pub noise : ℕ → ℕ → List ℕ
-noise zero x = []
-noise (suc n) x = (drawn x / 65536) % 256 ∷ noise n (drawn x)
 
 -- how many bytes of a written range the disk holds
 abbrev pub held : ℕ → ℕ → List ℕ → ℕ

@@ -13,13 +13,15 @@ use wc_value::Text;
 
 /// A file of the system, opened once and locked from then on. It is made, with its folder, at the first write, unless
 /// that is out of bounds. A missing file has length 0, and a sync of it does nothing. A lock that is refused counts as
-/// a fault. The opening brings the file's name to the disk, and that of its folder, also where they were there: a program
-/// that was killed may have made them without. Of several missing folders, the last one's name alone is brought to the disk.
+/// a fault, and so does a file that another program has made since it was missing. The opening brings the file's name to
+/// the disk, and that of its folder, also where they were there: a program that was killed may have made them without.
+/// Of several missing folders, the last one's name alone is brought to the disk.
 #[derive(Drop)]
 pub struct FileDisk<R: Drop> {
     rt: R,
     path: Text,
     file: Option<File>,
+    looked: bool,
     faults: u64,
     failed: bool,
 }
@@ -34,6 +36,7 @@ impl<R: Files<File = File> + Drop> FileDisk<R> {
             rt,
             path,
             file: None,
+            looked: false,
             faults: 0,
             failed: false,
         }
@@ -63,8 +66,16 @@ fn out_of_bounds() -> io::Error {
     io::Error::from(io::ErrorKind::InvalidInput)
 }
 
-/// Locks a file that was just opened, without waiting for a lock that another program holds.
+/// The fault of a file that was missing, and that another program has made or written since.
+fn overtaken() -> io::Error {
+    io::Error::from(io::ErrorKind::AlreadyExists)
+}
+
+/// Locks a file that was just opened, without waiting for a lock that another program holds. Its descriptor is none of
+/// the standard streams': where one of those is closed, the system gives its number to the next file that is opened, and
+/// what is printed would be written there. `try_clone` gives a number above these.
 fn locked(file: File) -> io::Result<File> {
+    let file = file.try_clone()?;
     file.try_lock()?;
     Ok(file)
 }
@@ -102,9 +113,21 @@ fn make_folder<R: Files<File = File>>(rt: &R, folder: &str) -> io::Result<()> {
     synced
 }
 
+/// Opens a file that is there, for reading alone where it can't be opened for writing. A write to it is a fault then.
+fn open_any<R: Files<File = File>>(rt: &R, path: &str) -> io::Result<File> {
+    match OpenOptions::new().read(true).write(true).open(rt, path) {
+        Err(error)
+            if matches!(
+                error.kind(),
+                io::ErrorKind::PermissionDenied | io::ErrorKind::ReadOnlyFilesystem
+            ) => { fs::open(rt, path) }
+        opened => opened,
+    }
+}
+
 /// The file, whose name is on the disk from then on, or none where it isn't there.
 fn open_existing<R: Files<File = File>>(rt: &R, path: &str) -> io::Result<Option<File>> {
-    match OpenOptions::new().read(true).write(true).open(rt, path) {
+    match open_any(rt, path) {
         Ok(file) => {
             let file = locked(file)?;
             sync_name_of(rt, path)?;
@@ -115,7 +138,8 @@ fn open_existing<R: Files<File = File>>(rt: &R, path: &str) -> io::Result<Option
     }
 }
 
-/// Makes the file, and its folder, for a first write at this offset, and brings the file's name to the disk.
+/// Makes the file, and its folder, for a first write at this offset, and brings the file's name to the disk. Another
+/// program may have written it since it was looked for, so it is looked at once more under the lock: it has to be empty.
 fn make<R: Files<File = File>>(rt: &R, path: &str, at: u64) -> io::Result<File> {
     if at > 0 {
         return Err(out_of_bounds());
@@ -127,18 +151,29 @@ fn make<R: Files<File = File>>(rt: &R, path: &str, at: u64) -> io::Result<File> 
         .create(true)
         .open(rt, path)?;
     let file = locked(file)?;
+    if file.metadata()?.len() > 0 {
+        return Err(overtaken());
+    }
     sync_name_of(rt, path)?;
     Ok(file)
 }
 
-/// Opens the file, where it is there and isn't open yet.
+/// Opens the file, where it is there, at the first call. One that was missing then has to be missing at each later call,
+/// until it is made here.
 fn open_once<R: Files<File = File>>(
     rt: &R,
     path: &Text,
+    looked: &mut bool,
     file: &mut Option<File>,
 ) -> io::Result<()> {
-    if file.is_none() {
+    if file.is_some() {
+        return Ok(());
+    }
+    if !*looked {
         *file = open_existing(rt, path.as_str())?;
+        *looked = true;
+    } else if fs::exists(rt, path.as_str())? {
+        return Err(overtaken());
     }
     Ok(())
 }
@@ -209,13 +244,13 @@ impl<R: Files<File = File> + Drop> Disk for FileDisk<R> {
     ghost only_now = { λ d image left. left };
 
     fn len(&mut self) -> Result<u64, Failed> {
-        let outcome = open_once(&self.rt, &self.path, &mut self.file);
+        let outcome = open_once(&self.rt, &self.path, &mut self.looked, &mut self.file);
         count_fault(outcome, &mut self.faults, &mut self.failed)?;
         count_fault(length(&self.file), &mut self.faults, &mut self.failed)
     }
 
     fn read(&mut self, at: u64, into: &mut [u8]) -> Result<(), Failed> {
-        let outcome = open_once(&self.rt, &self.path, &mut self.file);
+        let outcome = open_once(&self.rt, &self.path, &mut self.looked, &mut self.file);
         count_fault(outcome, &mut self.faults, &mut self.failed)?;
         count_fault(
             read_at(&self.file, at, into),
@@ -225,7 +260,7 @@ impl<R: Files<File = File> + Drop> Disk for FileDisk<R> {
     }
 
     fn write_at(&mut self, at: u64, bytes: &[u8]) -> Result<(), Failed> {
-        let outcome = open_once(&self.rt, &self.path, &mut self.file);
+        let outcome = open_once(&self.rt, &self.path, &mut self.looked, &mut self.file);
         count_fault(outcome, &mut self.faults, &mut self.failed)?;
         if self.file.is_none() {
             let made = make(&self.rt, self.path.as_str(), at);
@@ -242,13 +277,13 @@ impl<R: Files<File = File> + Drop> Disk for FileDisk<R> {
     }
 
     fn cut(&mut self, len: u64) -> Result<(), Failed> {
-        let outcome = open_once(&self.rt, &self.path, &mut self.file);
+        let outcome = open_once(&self.rt, &self.path, &mut self.looked, &mut self.file);
         count_fault(outcome, &mut self.faults, &mut self.failed)?;
         count_fault(cut_to(&self.file, len), &mut self.faults, &mut self.failed)
     }
 
     fn sync(&mut self) -> Result<(), Failed> {
-        let outcome = open_once(&self.rt, &self.path, &mut self.file);
+        let outcome = open_once(&self.rt, &self.path, &mut self.looked, &mut self.file);
         count_fault(outcome, &mut self.faults, &mut self.failed)?;
         count_fault(sync_all(&self.file), &mut self.faults, &mut self.failed)
     }

@@ -6,8 +6,8 @@ ghost use Rattle.wc_disk.specs.Noise.{noised, scattered, is_sync, HasNoSync, End
 
 use crate::calls::Call;
 use crate::edits::write_over;
-use crate::generator::Generator;
 use std::alloc::{AllocError, Global};
+use wc_value::Generator;
 
 fn is_sync(call: &Call) -> bool
     ensures { result ≡ is_sync call.now }

@@ -1,6 +1,6 @@
 -- Two draws more.
 use Rattle.std.proofs.Common.{◌≡◌, ℕ, zero, suc, ◌+◌, ◌*◌, ◌/◌, ◌%◌, refl, sym, ap, ◌∙◌, add-one, arith}
-use Rattle.wc_disk.specs.Noise.{drawn, after_draws}
+use Rattle.wc_value.specs.Draws.{drawn, after_draws}
 use Rattle.wc_drill.specs.Draws.{first_number, second_number, sum_of_squares}
 
 after_suc : (n x : ℕ) → after_draws (suc n) x ≡ drawn (after_draws n x)

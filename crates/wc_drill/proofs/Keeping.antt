@@ -10,9 +10,9 @@ use Rattle.wc_machine.specs.Laws.{HasPlaces}
 use Rattle.wc_machine.specs.Machine.{Event, after_changes}
 use Rattle.wc_machine.specs.Sound.{IsSound}
 use Rattle.wc_machine.proofs.EmptyWorld.{empty_is_sound}
-use Rattle.wc_laws.proofs.NoChanges.{only_marks_change_nothing}
-use Rattle.wc_laws.specs.EventLaws.{LeavesSound}
-use Rattle.wc_laws.proofs.SoundEvents.{events_keep_sound}
+use Rattle.wc_soundness.proofs.NoChanges.{only_marks_change_nothing}
+use Rattle.wc_soundness.specs.EventLaws.{LeavesSound}
+use Rattle.wc_soundness.proofs.SoundEvents.{events_keep_sound}
 use Rattle.wc_runner.specs.Laws.{StaysSound}
 use Rattle.wc_runner.proofs.Continuing.{continues_itself, continues_on}
 use Rattle.wc_runner.proofs.ManyTurns.{turns_sound}

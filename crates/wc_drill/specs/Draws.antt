@@ -1,6 +1,6 @@
 -- What is drawn from a seed for chains.
 use Rattle.std.specs.Prelude.{ℕ, zero, suc, ◌+◌, ◌*◌, ◌/◌, ◌%◌}
-use Rattle.wc_disk.specs.Noise.{drawn, after_draws}
+use Rattle.wc_value.specs.Draws.{drawn, after_draws}
 
 -- the draw of this number, counted from 0
 abbrev pub draw : (at seed : ℕ) → ℕ

@@ -6,7 +6,7 @@ use Rattle.wc_world.specs.World.{World, empty}
 use Rattle.wc_world.specs.Accepted.{IsAccepted}
 use Rattle.wc_world.specs.Applied.{applied}
 use Rattle.wc_machine.specs.Machine.{Event, Leads, submit}
-use Rattle.wc_core.specs.Standing.{is_any_live}
+use Rattle.wc_runner.specs.Standing.{is_any_live}
 use Rattle.wc_runner.specs.Leaves.{SomeTurns}
 use Rattle.wc_runner.specs.Outside.{Outside}
 use Rattle.wc_runner.specs.Runs.{TakesTurns}

@@ -4,7 +4,7 @@ use Rattle.wc_io.specs.Counts.{EitherFailedLast}
 use Rattle.wc_disk.specs.declared.disk.Disk as disk
 use Rattle.wc_journal.specs.declared.journal.Journal.{Journal}
 use Rattle.wc_world.specs.World.{World, empty}
-use Rattle.wc_core.specs.Standing.{is_any_live, is_resting}
+use Rattle.wc_runner.specs.Standing.{is_any_live, is_resting}
 use Rattle.wc_store.specs.Held.{IsHeld, damage}
 use Rattle.wc_store.specs.Sights.{OfImages}
 use Rattle.wc_store.specs.Stores.{HoldsAWorld}

@@ -1,7 +1,7 @@
 -- How the run of a drill ends.
 use Rattle.std.specs.Prelude.{◌≡◌, ℕ, ◌+◌, ◌<◌, true, false}
 use Rattle.wc_world.specs.World.{World}
-use Rattle.wc_core.specs.Standing.{is_any_live, is_resting}
+use Rattle.wc_runner.specs.Standing.{is_any_live, is_resting}
 use Rattle.wc_runner.specs.declared.runs.RunEnd.{RunEnd}
 use Rattle.wc_runner.specs.declared.runs.RunEnd.TheVariants.{AllEnded, Spent, Resting}
 use Rattle.wc_runner.specs.Trips.{Turns}

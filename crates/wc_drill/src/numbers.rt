@@ -1,10 +1,10 @@
 //! The numbers that are drawn for chains.
 
 ghost use Rattle.std.specs.Prelude.{◌≡◌, ◌≤◌, ◌<◌, ◌+◌, ◌*◌, ℕ};
-ghost use Rattle.wc_disk.specs.Noise.{after_draws};
+ghost use Rattle.wc_value.specs.Draws.{after_draws};
 ghost use Rattle.wc_drill.specs.Draws.{first_number, second_number, sum_of_squares};
 
-use wc_disk::Generator;
+use wc_value::Generator;
 
 /// The two numbers of the next chain.
 pub fn next_numbers(draws: &mut Generator) -> (u32, u32)

@@ -16,14 +16,13 @@ ghost use Rattle.wc_drill.specs.Submissions.{IsCrowded, IsOrSubmitted, IsStorabl
 
 use crate::{chain_inputs, chain_name, next_numbers};
 use std::alloc::Global;
-use wc_core::submit_changes;
-use wc_disk::{Disk, Generator};
+use wc_disk::Disk;
 use wc_machine::TurnError;
-use wc_runner::RunError;
+use wc_runner::{RunError, submit_changes};
 use wc_state::Limits;
 use wc_store::{Store, StoreError};
 use wc_syntax::Checked;
-use wc_value::Words;
+use wc_value::{Generator, Words};
 use wc_world::{Changes, World};
 
 /// The limits where none are set.

@@ -4,7 +4,7 @@ ghost use Rattle.std.specs.Prelude.{◌≡◌, IsTrue, IfOk};
 ghost use Rattle.wc_cli.specs.Words.{command_of};
 ghost use Rattle.wc_io.specs.Counts.{RisesByOne, EitherFailedLast};
 ghost use Rattle.wc_io.specs.Forms.{TakesPart};
-ghost use Rattle.wc_runner.specs.Asked.{IsAskedFor};
+ghost use Rattle.wc_act.specs.Asked.{IsAskedFor};
 ghost use Rattle.wc_act.specs.Counts.{CountsReply, status_of};
 ghost use Rattle.wc_act.specs.Crashes.{AreDurable, EachPair, HoldsSound, HoldsTheSame, LeavesMade, Stands, StaySound};
 ghost use Rattle.wc_act.specs.Outside.{exchange, turns_of, ServesOutside, TakesNoTurns};

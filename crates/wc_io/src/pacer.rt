@@ -20,7 +20,8 @@ pub trait Pacer {
     /// A moment that was told. Of this relation nothing else is known.
     ghost said: { Self → ℕ → Type 0 };
 
-    /// The least moment that it may tell next, where it is steady: its moments never fall then, and a rest lasts as long as it is to.
+    /// The least moment that it may tell next, as far as it is known, where it is steady: its moments never fall then, and after a rest the next
+    /// one is later by the length of the rest, or by more.
     ghost least: { Self → Option ℕ };
 
     /// The moment now, in milliseconds.
@@ -39,6 +40,6 @@ pub trait Pacer {
         ensures told { told self.new ≡ told self.old }
         ensures rests { RisesByOne (rests self.old) (rests self.new) }
         ensures slept { slept self.new ≡ option_map (λ before. before + ms * 1_000_000) (slept self.old) }
-        ensures steady { StaysSteady (λ before now. rested before ms ≤ now) (least self.old) (least self.new) }
+        ensures steady { StaysSteady (λ before now. now ≡ rested before ms) (least self.old) (least self.new) }
         ensures keeps { (moment : ℕ) → said self.old moment → said self.new moment };
 }

@@ -1,3 +1,5 @@
+pub use Rattle.wc_fits.proofs.FoundRecords
+pub use Rattle.wc_fits.proofs.Definitions
 pub mod Ports
 pub mod Walked
 pub mod LinkMaps

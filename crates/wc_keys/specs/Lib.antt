@@ -1,3 +1,8 @@
+pub use Rattle.wc_fits.specs.Records
+pub use Rattle.wc_fits.specs.Values
+pub use Rattle.wc_fits.specs.World
+pub use Rattle.wc_fits.specs.Blocks
+pub use Rattle.wc_fits.specs.Fits
 pub mod Keys
 pub mod Ports
 pub mod Beginnings

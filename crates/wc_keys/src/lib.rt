@@ -24,3 +24,7 @@ pub use laws::seals_are_one;
 pub use marking::Sealed;
 pub use sealing::{seal, seals_of, unseal};
 pub use seals::Seals;
+pub use wc_fits::{
+    Known, Libraries, call_fits, caller_of, is_calculation, is_settled, names_ascend, new_fits,
+    node_of_kind, set_fits,
+};

@@ -1,3 +1,4 @@
+pub use Rattle.wc_value.specs.declared.value.Kind as Kind
 pub mod Bounds
 pub mod Cuts
 pub mod Runs

@@ -3,7 +3,7 @@
 use crate::fault::{Failure, Fault, called};
 use crate::script::script_of;
 use std::alloc::{AllocError, Global};
-use std::fs::{File, OpenOptions};
+use std::fs::{File, OpenOptions, TryLockError};
 use std::io::{Read, Write};
 use std::path::Path;
 use std::rt::Files;
@@ -18,13 +18,13 @@ const REQUEST: &str = "_wc_request";
 const SCRIPT: &str = "_wc_run.sh";
 
 /// The folder that the first run of the script makes.
-const LOCK: &str = "_wc_lock";
+pub const LOCK: &str = "_wc_lock";
 
 /// The exit code of the program, once it has ended.
-const STATUS: &str = "_wc_status";
+pub const STATUS: &str = "_wc_status";
 
 /// The last task that failed, and why.
-const FAILED: &str = "_wc_failed";
+pub const FAILED: &str = "_wc_failed";
 
 /// The most bytes that a fetched file may have.
 const MOST_FETCHED: u64 = 4 * 1024 * 1024;
@@ -33,12 +33,12 @@ const MOST_FETCHED: u64 = 4 * 1024 * 1024;
 const MOST_STATUS: u64 = 32;
 
 /// The path of a file in a folder.
-fn path_in(alloc: Global, folder: &str, name: &str) -> Result<String, AllocError> {
+pub fn path_in(alloc: Global, folder: &str, name: &str) -> Result<String, AllocError> {
     format!(in alloc; "{folder}/{name}")
 }
 
 /// The length of a file, or none where no file is there. What isn't a file, as a folder or a pipe, counts as none.
-fn length_of<R: Files>(rt: &R, path: &str) -> Result<Option<u64>, Fault> {
+pub fn length_of<R: Files>(rt: &R, path: &str) -> Result<Option<u64>, Fault> {
     match fs::metadata(rt, path) {
         Ok(found) if found.is_file() => Ok(Some(found.len())),
         Ok(_) => Ok(None),
@@ -48,7 +48,12 @@ fn length_of<R: Files>(rt: &R, path: &str) -> Result<Option<u64>, Fault> {
 }
 
 /// The content of a file, of which one byte more than may be is read at most.
-fn content_of<R: Files>(rt: &R, alloc: Global, path: &str, most: u64) -> Result<Vec<u8>, Fault> {
+pub fn content_of<R: Files>(
+    rt: &R,
+    alloc: Global,
+    path: &str,
+    most: u64,
+) -> Result<Vec<u8>, Fault> {
     let file = called("opening a file", fs::open(rt, path))?;
     let mut content = Vec::new(alloc);
     let count = file.take(most.saturating_add(1)).read_to_end(&mut content);
@@ -57,7 +62,7 @@ fn content_of<R: Files>(rt: &R, alloc: Global, path: &str, most: u64) -> Result<
 }
 
 /// Writes a file.
-fn write_file<R: Files<File = File>>(
+pub fn write_file<R: Files<File = File>>(
     rt: &R,
     alloc: Global,
     folder: &str,
@@ -76,7 +81,7 @@ fn write_file<R: Files<File = File>>(
 }
 
 /// Writes a file, and brings its content to the disk.
-fn place_file<R: Files<File = File>>(
+pub fn place_file<R: Files<File = File>>(
     rt: &R,
     alloc: Global,
     folder: &str,
@@ -123,7 +128,7 @@ fn names_are_of_files(request: &Request) -> bool {
 }
 
 /// The folder that a path lies in.
-fn folder_of(path: &str) -> &str {
+pub fn folder_of(path: &str) -> &str {
     match Path::new(path).parent() {
         Some(parent) if !parent.as_str().is_empty() => parent.as_str(),
         _ => ".",
@@ -234,7 +239,7 @@ pub fn note<R: Files<File = File>>(
 }
 
 /// Whether something of this name is in the folder.
-fn is_there<R: Files>(rt: &R, alloc: Global, folder: &str, name: &str) -> Result<bool, Fault> {
+pub fn is_there<R: Files>(rt: &R, alloc: Global, folder: &str, name: &str) -> Result<bool, Fault> {
     let path = path_in(alloc, folder, name)?;
     called("looking for a file", fs::exists(rt, path.as_str()))
 }
@@ -242,6 +247,16 @@ fn is_there<R: Files>(rt: &R, alloc: Global, folder: &str, name: &str) -> Result
 /// Whether a run of the script has begun that no one has taken back.
 pub fn is_locked<R: Files>(rt: &R, alloc: Global, folder: &str) -> Result<bool, Fault> {
     is_there(rt, alloc, folder, LOCK)
+}
+
+/// Whether a run of the script lives, as far as its lock tells: it is taken by a script that waits or whose program runs, where the command
+/// `flock` is there. That none lives isn't sure, as many file systems keep such a lock to one machine.
+pub fn is_alive<R: Files<File = File>>(rt: &R, alloc: Global, folder: &str) -> Result<bool, Fault> {
+    let path = path_in(alloc, folder, SCRIPT)?;
+    let Ok(script) = fs::open(rt, path.as_str()) else {
+        return Ok(false);
+    };
+    Ok(matches!(script.try_lock_shared(), Err(TryLockError::WouldBlock)))
 }
 
 /// Whether the program has ended.

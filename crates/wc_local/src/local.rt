@@ -5,7 +5,8 @@ ghost use Rattle.wc_transport.specs.Outside.{CountsTaskFault};
 
 use crate::fault::{Failure, Fault, called};
 use crate::folder::{
-    has_ended, holds, is_locked, must_hold, note, place, result_of, sync_names, sync_placed,
+    has_ended, holds, is_alive, is_locked, must_hold, note, place, result_of, sync_names,
+    sync_placed,
 };
 use std::alloc::{AllocError, Global};
 use std::fs::File;
@@ -133,7 +134,7 @@ impl<R: Files<File = File> + Processes + Drop> LocalTransport<R> {
     }
 
     /// Whether the program of a job has ended. Where no run has begun, or its user took that back, the script is started
-    /// again.
+    /// again, unless one lives, as one that waits for a slot: then nothing is started.
     fn progress(&self, dir: u32, request: &Request) -> Result<Progress, Fault> {
         let folder = self.folder_of(dir)?;
         must_hold(&self.rt, self.alloc, folder.as_str(), request)?;
@@ -141,9 +142,12 @@ impl<R: Files<File = File> + Processes + Drop> LocalTransport<R> {
             sync_names(&self.rt, folder.as_str())?;
             return Ok(Progress::Done);
         }
-        if !is_locked(&self.rt, self.alloc, folder.as_str())? {
-            self.start(folder.as_str())?;
+        if is_locked(&self.rt, self.alloc, folder.as_str())?
+            || is_alive(&self.rt, self.alloc, folder.as_str())?
+        {
+            return Ok(Progress::Running);
         }
+        self.start(folder.as_str())?;
         Ok(Progress::Running)
     }
 
@@ -169,6 +173,8 @@ impl<R: Files<File = File> + Processes + Drop> Transport for LocalTransport<R> {
     ghost asked = { λ t. t.asked };
 
     ghost gave = { λ _ _ _ _ _. Unit {0} };
+
+    ghost obliging = { λ _. ⊥ };
 
     ghost faults = { λ t. t.faults };
 

@@ -1,3 +1,4 @@
+pub use Rattle.wc_meaning.proofs.Requests
 pub mod Frames
 pub mod Submitted
 pub mod SubmittedContinues

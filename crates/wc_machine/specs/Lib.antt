@@ -1,3 +1,5 @@
+pub use Rattle.wc_world.specs.Trees
+pub use Rattle.wc_meaning.specs.Inputs
 pub mod Paths
 pub mod Recorded
 pub mod Continues
@@ -20,3 +22,4 @@ pub mod Killing
 pub mod Machine
 pub mod Laws
 pub mod Refusals
+pub mod Results

@@ -16,5 +16,3 @@ pub use calculations::rules;
 pub use inputs::{find_bad_input, least_name, lesser_name};
 pub use replies::{DryError, dry, replay};
 pub use run::mean;
-pub use wc_expression::eval;
-pub use wc_state::{Child, Env, Item};

@@ -1,3 +1,4 @@
+pub use Rattle.wc_turn_laws.proofs.CalledLabels
 pub mod Gathered
 pub mod Opened
 pub mod Popped

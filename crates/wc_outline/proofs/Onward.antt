@@ -10,12 +10,12 @@ use Rattle.wc_state.specs.declared.record.Checkpoint.{Checkpoint}
 use Rattle.wc_semantics.specs.Meaning.{ended}
 use Rattle.wc_machine.specs.Advancing.{Advanced, goes, loops, submits, ends, advance}
 use Rattle.wc_machine.specs.Stepping.{Argument, node, plain, Call}
-use Rattle.wc_laws.specs.OutlineLaws.{remains}
-use Rattle.wc_laws.specs.Nodes.{InArgument, InCall, HoldsAfter}
-use Rattle.wc_laws.specs.View.{View, env_in}
-use Rattle.wc_laws.proofs.Exact.{advances_are_exact}
-use Rattle.wc_laws.proofs.Named.{seen_nodes}
-use Rattle.wc_laws.proofs.Passed.{advance_holds}
+use Rattle.wc_turn_laws.specs.OutlineLaws.{remains}
+use Rattle.wc_turn_laws.specs.Nodes.{InArgument, InCall, HoldsAfter}
+use Rattle.wc_turn_laws.specs.View.{View, env_in}
+use Rattle.wc_turn_laws.proofs.Exact.{advances_are_exact}
+use Rattle.wc_turn_laws.proofs.Named.{seen_nodes}
+use Rattle.wc_turn_laws.proofs.Passed.{advance_holds}
 use Rattle.wc_outline.specs.declared.calls.Advanced.{Advanced as Answered}
 use Rattle.wc_outline.specs.Onward.{with_value, with_values, seen_by, around_at, EndsAlike}
 use Rattle.wc_outline.specs.Shown.{shown_argument, shown_arguments, shown_call, shown}

@@ -8,7 +8,7 @@ use Rattle.wc_syntax.specs.declared.outline.Instr.{Instr, out-Instr, out-roll-In
 use Rattle.wc_syntax.specs.declared.outline.Instr.TheVariants as instr
 use Rattle.wc_syntax.specs.declared.outline.Instr.TheOpen.{Instr-F}
 use Rattle.wc_machine.specs.Outlines.{blocks, blocks_in}
-use Rattle.wc_laws.proofs.Numbering.{opened_blocks, blocks_in_are}
+use Rattle.wc_turn_laws.proofs.Numbering.{opened_blocks, blocks_in_are}
 use Rattle.wc_outline.specs.Places.{arm_blocks, if_blocks}
 
 blocks_if : (i : Instr) (at : ℕ) (arms : List Arm) (other : Option Block) → i ≡ instr.If at arms other → blocks_in i ≡ opened_blocks (Instr-F.If at arms other)

@@ -1,3 +1,4 @@
+pub use Rattle.wc_turn_laws.specs.TurnLaws
 pub mod Shown
 pub mod Arguments
 pub mod Statements

@@ -7,12 +7,12 @@ use Rattle.wc_state.specs.declared.record.Checkpoint.{Checkpoint}
 use Rattle.wc_semantics.specs.Meaning.{ended, around, within}
 use Rattle.wc_semantics.specs.Run.{Around}
 use Rattle.wc_semantics.specs.Tables.{Table, Kills}
-use Rattle.wc_world.specs.Trees.{NamedValues}
+use Rattle.wc_machine.specs.Trees.{NamedValues}
 use Rattle.wc_machine.specs.Advancing as machine
 use Rattle.wc_machine.specs.Stepping as stepping
-use Rattle.wc_laws.specs.Instead.{MadeCalls}
-use Rattle.wc_laws.specs.OutlineLaws.{run_on, remains}
-use Rattle.wc_laws.specs.View.{View, IsSeenRight, env_in}
+use Rattle.wc_turn_laws.specs.Instead.{MadeCalls}
+use Rattle.wc_turn_laws.specs.OutlineLaws.{run_on, remains}
+use Rattle.wc_turn_laws.specs.View.{View, IsSeenRight, env_in}
 use Rattle.wc_outline.specs.declared.calls.Advanced.{Advanced}
 use Rattle.wc_outline.specs.declared.calls.Advanced.TheVariants as advanced
 use Rattle.wc_outline.specs.declared.calls.Argument.{Argument}

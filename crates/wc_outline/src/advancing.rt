@@ -1,6 +1,6 @@
 //! One advance of a work chain.
 
-ghost use Rattle.std.specs.Prelude.{◌≡◌, IfOk, IsSome, Some, is_some, option_map};
+ghost use Rattle.std.specs.Prelude.{◌≡◌, IfOk, IsSome, Some, option_map};
 ghost use Rattle.std.specs.Option.{option_copied};
 ghost use Rattle.wc_syntax.specs.Findings.{definition_named};
 ghost use Rattle.wc_syntax.specs.declared.definition.Chain.{Chain};
@@ -21,23 +21,6 @@ use std::alloc::{AllocError, Global};
 use wc_state::{Checkpoint, Env, Frame};
 use wc_syntax::{Chain, Checked, Definition, Library, find_definition};
 use wc_value::{List, ProcessState, Text};
-
-/// Whether a definition is a work chain.
-fn is_work_chain(definition: Option<&Definition>) -> bool
-    ensures { result ≡ is_some (chain_of (option_copied definition.entry)) }
-{
-    match definition {
-        Some(Definition::Chain(_)) => true,
-        _ => false,
-    }
-}
-
-/// Whether a library has a work chain with this name.
-pub fn is_chain(library: &Checked, name: &Text) -> bool
-    ensures { result ≡ is_some (chain_of (definition_named name.now library.now)) }
-{
-    is_work_chain(find_definition(library.library(), name))
-}
 
 /// The work chain that a definition is.
 fn the_chain<'a>(definition: Option<&'a Definition>) -> &'a Chain

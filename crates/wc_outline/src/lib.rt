@@ -12,6 +12,7 @@ mod instructions;
 mod nodes;
 mod statements;
 
-pub use advancing::{advance, is_chain};
+pub use advancing::advance;
 pub use binding::bind;
 pub use calls::{Advanced, Args, Argument, Call, Calls};
+pub use wc_turn_laws::one_list_of_changes;

@@ -1,7 +1,7 @@
 //! What a call of the program gave, and whether an answer says so.
 
+use crate::deed::Answer;
 use crate::kept::Kept;
-use wc_transcript::Answer;
 use wc_value::Bytes;
 
 /// What a call of the program gave.

@@ -1,9 +1,9 @@
 //! The two disks, in memory.
 
+use crate::deed::{Left, Side};
 use crate::kept::Kept;
 use std::alloc::Global;
 use wc_disk::{MemoryDisk, Pick};
-use wc_transcript::{Left, Side};
 use wc_value::{Bytes, List, put};
 
 /// The two disks.

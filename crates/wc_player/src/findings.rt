@@ -3,9 +3,9 @@
 ghost use Rattle.std.specs.Prelude.{◌≡◌, ◌+◌, ◌==◌, [], length, if◌then◌else◌, IfOk, OnOk};
 
 use crate::called::Called;
+use crate::deed::Answer;
 use crate::kept::Kept;
 use std::alloc::{AllocError, Global};
-use wc_transcript::Answer;
 use wc_value::List;
 
 /// The line of a step, and the number of the repetition.

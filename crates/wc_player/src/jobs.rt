@@ -3,9 +3,10 @@
 use crate::error::PlayError;
 use crate::findings::Place;
 use crate::kept::Kept;
+use crate::number::Number;
 use crate::player::Player;
 use crate::program::Program;
-use wc_transcript::{Number, Row};
+use crate::row::Row;
 use wc_value::{JobResult, Request, Rows, Table};
 
 /// What a program is started with, in a repetition.

@@ -1,8 +1,10 @@
 //! What is made of a transcript's content, and what went wrong in that.
 
+use crate::content::Content;
 use crate::error::PlayError;
+use crate::number::Number;
+use crate::row::Named;
 use std::alloc::{AllocError, Global};
-use wc_transcript::{Content, Named, Number};
 use wc_value::{Bytes, Files, List, Text, Words};
 
 /// Where memory is taken from, and what went wrong first, so that what makes something needs no answer.

@@ -2,13 +2,13 @@
 
 use crate::called::Called;
 use crate::clock::Clock;
+use crate::deed::{Left, Side};
 use crate::disks::Disks;
 use crate::kept::Kept;
 use crate::outside::Outside;
 use crate::program::{Program, Sipping};
 use std::alloc::{AllocError, Global};
 use wc_io::{MemoryShelf, MemorySink};
-use wc_transcript::{Left, Side};
 use wc_value::{Bytes, Duplicate, Files, List, Table, Text, Words, put};
 
 /// A shelf, a sink, two disks, a transport and a clock, on which the program is called.

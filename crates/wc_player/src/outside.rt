@@ -316,6 +316,8 @@ impl Transport for Outside {
 
     ghost gave = { λ _ _ _ _ _. Unit {0} };
 
+    ghost obliging = { λ _. ⊥ };
+
     ghost faults = { λ t. t.faults };
 
     fn upload(&mut self, dir: u32, request: &Request) -> Result<(), TaskError> {

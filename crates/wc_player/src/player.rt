@@ -1,15 +1,17 @@
 //! The player, which takes one step after another.
 
 use crate::called::Called;
+use crate::content::Content;
+use crate::deed::{Answer, Call, Deed, Device, Side, Step};
 use crate::disks::Disks;
 use crate::findings::{Findings, Place, told_bytes};
 use crate::kept::Kept;
 use crate::machine::Machine;
+use crate::number::Number;
 use crate::outside::Outside;
 use crate::program::Program;
 use std::alloc::{AllocError, Global};
 use std::mem;
-use wc_transcript::{Answer, Call, Content, Deed, Device, Number, Side, Step};
 use wc_value::{Bytes, List, put, put_given};
 
 /// The machine, what was found, and what was asked.

@@ -3,6 +3,7 @@
 ghost use Rattle.std.specs.Prelude.{◌≡◌, ◌≢◌, ◌↔◌, length};
 ghost use Rattle.wc_player.specs.declared.report.Verdict.{Verdict};
 
+use crate::deed::Transcript;
 use crate::error::PlayError;
 use crate::findings::Findings;
 use crate::outside::Outside;
@@ -10,7 +11,6 @@ use crate::player::Player;
 use crate::program::Program;
 use std::alloc::Global;
 use std::mem;
-use wc_transcript::Transcript;
 use wc_value::{Rows, Table, let_go};
 
 /// What is to be said of a transcript.

@@ -1,13 +1,14 @@
 //! Sweeps: a block is played with an event at a later and later call, and what was acknowledged has to be there behind it.
 
 use crate::called::Called;
+use crate::deed::{Answer, Call, Deed, Device, Event, Left, Stage, Step};
 use crate::error::PlayError;
 use crate::findings::Place;
 use crate::machine::Machine;
+use crate::number::Number;
 use crate::player::Player;
 use crate::program::Program;
 use std::mem;
-use wc_transcript::{Answer, Call, Deed, Device, Event, Left, Number, Stage, Step};
 use wc_value::{List, let_go, put};
 
 /// What a crash leaves of disk one and of disk two.

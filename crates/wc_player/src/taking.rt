@@ -1,9 +1,10 @@
 //! Steps that are taken one by one.
 
+use crate::content::Content;
+use crate::deed::{Deed, Step};
 use crate::findings::Place;
 use crate::player::{Player, block_of, place_at};
 use crate::program::Program;
-use wc_transcript::{Content, Deed, Step};
 
 impl<P: Program + Drop> Player<P> {
     /// The shelf has a file.

@@ -22,6 +22,7 @@ use wc_syntax::{
     JobLines, Library, Name, PortList, RuleList,
 };
 
+/// The head of a definition that begins with a word, and the tokens behind it.
 fn head(alloc: Global, tokens: &[Spot], word: u8, bound: usize) -> Result<(Head, &[Spot]), Fault>
     ensures { Gives (λ x. (x.0, x.1.now)) result (head_at bound word tokens.now) }
 {
@@ -32,6 +33,7 @@ fn head(alloc: Global, tokens: &[Spot], word: u8, bound: usize) -> Result<(Head,
     head_end(alloc, at, name, inputs, rest, bound)
 }
 
+/// The head whose name and inputs were read: with its outputs and exit codes, and the tokens behind it.
 fn head_end(
     alloc: Global,
     at: u32,
@@ -55,6 +57,7 @@ fn head_end(
     Ok((head, rest))
 }
 
+/// A function, and the tokens behind it.
 fn function(alloc: Global, tokens: &[Spot], bound: usize) -> Result<(Function, &[Spot]), Fault>
     ensures { Gives (λ x. (x.0, x.1.now)) result (function_at bound tokens.now) }
 {
@@ -64,6 +67,7 @@ fn function(alloc: Global, tokens: &[Spot], bound: usize) -> Result<(Function, &
     Ok((Function { head, rules }, rest))
 }
 
+/// A job's line with a word and an expression, and the tokens behind it.
 fn line(alloc: Global, tokens: &[Spot], word: u8, bound: usize) -> Result<(JobLine, &[Spot]), Fault>
     ensures { Gives (λ x. (x.0, x.1.now)) result (line_at word (expr_at bound) tokens.now) }
 {
@@ -73,6 +77,7 @@ fn line(alloc: Global, tokens: &[Spot], word: u8, bound: usize) -> Result<(JobLi
     Ok((JobLine { at, value }, rest))
 }
 
+/// The arguments of a job's program, as many as there are, and the tokens behind them.
 #[tactic(auto, using(crate::proofs::Bounds::turns_at))]
 fn args(alloc: Global, tokens: &[Spot], bound: usize) -> Result<(JobLines, &[Spot]), Fault>
     ensures { Gives (λ x. (x.0, x.1.now)) result (many_at bound (W_ARG ∷ []) (line_at W_ARG (expr_at bound)) tokens.now) }
@@ -93,6 +98,7 @@ fn args(alloc: Global, tokens: &[Spot], bound: usize) -> Result<(JobLines, &[Spo
     Ok((found, rest))
 }
 
+/// The arguments that were found with one more, and the tokens behind it.
 fn next_arg(
     alloc: Global,
     found: JobLines,
@@ -107,6 +113,7 @@ fn next_arg(
     Ok((found, rest))
 }
 
+/// A file that a job writes, and the tokens behind it.
 fn file(alloc: Global, tokens: &[Spot], bound: usize) -> Result<(JobFile, &[Spot]), Fault>
     ensures { Gives (λ x. (x.0, x.1.now)) result (file_at (expr_at bound) tokens.now) }
 {
@@ -118,6 +125,7 @@ fn file(alloc: Global, tokens: &[Spot], bound: usize) -> Result<(JobFile, &[Spot
     Ok((JobFile { at, name, value }, rest))
 }
 
+/// The files that a job writes, as many as there are, and the tokens behind them.
 #[tactic(auto, using(crate::proofs::Bounds::turns_at))]
 fn files(alloc: Global, tokens: &[Spot], bound: usize) -> Result<(JobFiles, &[Spot]), Fault>
     ensures { Gives (λ x. (x.0, x.1.now)) result (many_at bound (W_FILE ∷ []) (file_at (expr_at bound)) tokens.now) }
@@ -138,6 +146,7 @@ fn files(alloc: Global, tokens: &[Spot], bound: usize) -> Result<(JobFiles, &[Sp
     Ok((found, rest))
 }
 
+/// The written files that were found with one more, and the tokens behind it.
 fn next_file(
     alloc: Global,
     found: JobFiles,
@@ -152,6 +161,7 @@ fn next_file(
     Ok((found, rest))
 }
 
+/// A file that a job fetches, and the tokens behind it.
 fn fetch(tokens: &[Spot]) -> Result<(Fetch, &[Spot]), Fault>
     ensures { Gives (λ x. (x.0, x.1.now)) result (fetch_at tokens.now) }
 {
@@ -161,6 +171,7 @@ fn fetch(tokens: &[Spot]) -> Result<(Fetch, &[Spot]), Fault>
     Ok((Fetch { at, name }, rest))
 }
 
+/// The files that a job fetches, as many as there are, and the tokens behind them.
 #[tactic(auto, using(crate::proofs::Bounds::turns_at))]
 fn fetches(alloc: Global, tokens: &[Spot], bound: usize) -> Result<(Fetches, &[Spot]), Fault>
     ensures { Gives (λ x. (x.0, x.1.now)) result (many_at bound (W_FETCH ∷ []) fetch_at tokens.now) }
@@ -181,6 +192,7 @@ fn fetches(alloc: Global, tokens: &[Spot], bound: usize) -> Result<(Fetches, &[S
     Ok((found, rest))
 }
 
+/// The fetched files that were found with one more, and the tokens behind it.
 fn next_fetch(found: Fetches, tokens: &[Spot]) -> Result<(Fetches, &[Spot]), Fault>
     ensures { Gives (λ x. (x.0, x.1.now)) result (as_at fetch_at (λ x. found ++ x ∷ []) tokens.now) }
 {
@@ -190,6 +202,7 @@ fn next_fetch(found: Fetches, tokens: &[Spot]) -> Result<(Fetches, &[Spot]), Fau
     Ok((found, rest))
 }
 
+/// The rules of a job's `parse`, and the tokens behind it.
 fn parse_rules(alloc: Global, tokens: &[Spot], bound: usize) -> Result<(RuleList, &[Spot]), Fault>
     ensures { Gives (λ x. (x.0, x.1.now)) result (parse_at bound (expr_at bound) tokens.now) }
 {
@@ -214,6 +227,7 @@ fn program_after<T: Drop>(
     Ok(((before, read), rest))
 }
 
+/// What was read before with the arguments that follow, and the tokens behind them.
 fn args_after<T: Drop>(
     alloc: Global,
     before: T,
@@ -227,6 +241,7 @@ fn args_after<T: Drop>(
     Ok(((before, read), rest))
 }
 
+/// What was read before with the written files that follow, and the tokens behind them.
 fn files_after<T: Drop>(
     alloc: Global,
     before: T,
@@ -240,6 +255,7 @@ fn files_after<T: Drop>(
     Ok(((before, read), rest))
 }
 
+/// What was read before with the fetched files that follow, and the tokens behind them.
 fn fetches_after<T: Drop>(
     alloc: Global,
     before: T,
@@ -253,6 +269,7 @@ fn fetches_after<T: Drop>(
     Ok(((before, read), rest))
 }
 
+/// What was read before with the rules of `parse` that follow, and the tokens behind them.
 fn parse_rules_after<T: Drop>(
     alloc: Global,
     before: T,
@@ -266,6 +283,7 @@ fn parse_rules_after<T: Drop>(
     Ok(((before, read), rest))
 }
 
+/// A job, and the tokens behind it.
 fn job(alloc: Global, tokens: &[Spot], bound: usize) -> Result<(Job, &[Spot]), Fault>
     ensures { Gives (λ x. (x.0, x.1.now)) result (job_at bound tokens.now) }
 {
@@ -274,6 +292,7 @@ fn job(alloc: Global, tokens: &[Spot], bound: usize) -> Result<(Job, &[Spot]), F
     job_body(alloc, start, rest, bound)
 }
 
+/// The job whose head and program were read, and the tokens behind it.
 fn job_body(
     alloc: Global,
     start: (Head, JobLine),
@@ -299,6 +318,7 @@ fn job_body(
     Ok((job, rest))
 }
 
+/// A work chain, and the tokens behind it.
 fn chain(alloc: Global, tokens: &[Spot], bound: usize) -> Result<(Chain, &[Spot]), Fault>
     ensures { Gives (λ x. (x.0, x.1.now)) result (chain_at bound tokens.now) }
 {
@@ -309,6 +329,7 @@ fn chain(alloc: Global, tokens: &[Spot], bound: usize) -> Result<(Chain, &[Spot]
     Ok((Chain { head, outline }, rest))
 }
 
+/// A definition of any kind, and the tokens behind it.
 fn definition(alloc: Global, tokens: &[Spot], bound: usize) -> Result<(Definition, &[Spot]), Fault>
     ensures { Gives (λ x. (x.0, x.1.now)) result (definition_at bound tokens.now) }
 {
@@ -345,6 +366,7 @@ pub fn library(alloc: Global, tokens: &[Spot], bound: usize) -> Result<(Library,
     Ok((found, rest))
 }
 
+/// The definitions that were found with one more, and the tokens behind it.
 fn next_definition(
     alloc: Global,
     found: Library,

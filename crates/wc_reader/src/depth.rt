@@ -26,6 +26,7 @@ pub struct Walk {
     pub called: bool,
 }
 
+/// Whether a `(` behind this token opens the arguments of a call.
 fn is_called(token: &Token) -> bool
     ensures { result ≡ is_called token.now }
 {
@@ -51,6 +52,7 @@ fn is_called(token: &Token) -> bool
     }
 }
 
+/// What a symbol adds to the weight of its statement: 1 for what makes an expression deeper, behind a called word also `(`.
 fn symbol_weight(called: bool, symbol: Symbol) -> u32
     ensures { result ≡ weight_of called (Token.Symbol symbol) }
 {
@@ -72,6 +74,7 @@ fn symbol_weight(called: bool, symbol: Symbol) -> u32
     }
 }
 
+/// What a token adds to the weight of its statement: 0 or 1.
 fn weight_of(called: bool, token: &Token) -> u32
     ensures value { result ≡ weight_of called token.now }
     ensures small { result ≤ 1 }
@@ -83,6 +86,7 @@ fn weight_of(called: bool, token: &Token) -> u32
     }
 }
 
+/// The weight of the statement behind a token; a statement's end begins again at 0.
 fn weight_after(weight: u32, called: bool, token: &Token) -> u32
     requires { weight ≤ MOST_WEIGHT }
     ensures { result ≡ weight_after weight called token.now }
@@ -93,6 +97,7 @@ fn weight_after(weight: u32, called: bool, token: &Token) -> u32
     }
 }
 
+/// How many braces are open behind a token.
 fn braces_after(braces: u32, token: &Token) -> u32
     requires { braces ≤ MOST_BRACES }
     ensures { result ≡ braces_after braces token.now }
@@ -104,6 +109,7 @@ fn braces_after(braces: u32, token: &Token) -> u32
     }
 }
 
+/// How many round and square brackets are open behind a token.
 fn brackets_after(brackets: u32, token: &Token) -> u32
     requires { brackets ≤ MOST_BRACKETS }
     ensures { result ≡ brackets_after brackets token.now }
@@ -115,6 +121,7 @@ fn brackets_after(brackets: u32, token: &Token) -> u32
     }
 }
 
+/// Whether one of the three bounds was passed.
 fn is_past(walk: Walk) -> bool
     ensures { result ≡ is_past walk }
 {

@@ -17,6 +17,7 @@ use wc_grammar::{Fault, expr, number, sign, starts};
 use wc_lexer::Spot;
 use wc_syntax::{Arm, Arms, Block, Instr, Instrs, Number};
 
+/// A status, where a number stands, and the tokens behind it.
 fn status(tokens: &[Spot]) -> Result<(Option<Number>, &[Spot]), Fault>
     ensures { Gives (λ x. (x.0, x.1.now)) result (status_at tokens.now) }
 {
@@ -27,6 +28,7 @@ fn status(tokens: &[Spot]) -> Result<(Option<Number>, &[Spot]), Fault>
     Ok((Some(status), rest))
 }
 
+/// A `return`, and the tokens behind it.
 fn return_instr(tokens: &[Spot]) -> Result<(Instr, &[Spot]), Fault>
     ensures { Gives (λ x. (x.0, x.1.now)) result (return_at tokens.now) }
 {
@@ -36,6 +38,7 @@ fn return_instr(tokens: &[Spot]) -> Result<(Instr, &[Spot]), Fault>
     Ok((Instr::Return(at, status), rest))
 }
 
+/// A step or a `return`, and the tokens behind it.
 fn plain(alloc: Global, tokens: &[Spot], bound: usize) -> Result<(Instr, &[Spot]), Fault>
     ensures { Gives (λ x. (x.0, x.1.now)) result (plain_at bound (expr_at bound) tokens.now) }
 {
@@ -46,6 +49,7 @@ fn plain(alloc: Global, tokens: &[Spot], bound: usize) -> Result<(Instr, &[Spot]
     return_instr(tokens)
 }
 
+/// An instruction, and the tokens behind it.
 #[cycle(instr)]
 #[tactic(auto, using(crate::proofs::Bounds::instr_is))]
 fn instr(alloc: Global, tokens: &[Spot], bound: usize) -> Result<(Instr, &[Spot]), Fault>
@@ -57,6 +61,7 @@ fn instr(alloc: Global, tokens: &[Spot], bound: usize) -> Result<(Instr, &[Spot]
     plain(alloc, tokens, bound)
 }
 
+/// An `if` or a `while` within so many nestings, and the tokens behind it; at 0 the bound is reached.
 #[cycle(instr)]
 #[tactic(auto, using(crate::proofs::Bounds::branch_below))]
 fn branch(alloc: Global, tokens: &[Spot], bound: usize) -> Result<(Instr, &[Spot]), Fault>
@@ -68,6 +73,7 @@ fn branch(alloc: Global, tokens: &[Spot], bound: usize) -> Result<(Instr, &[Spot
     branch_in(alloc, tokens, bound - 1)
 }
 
+/// An `if` or a `while` whose blocks nest at most so deep, and the tokens behind it.
 #[cycle(instr)]
 fn branch_in(alloc: Global, tokens: &[Spot], bound: usize) -> Result<(Instr, &[Spot]), Fault>
     ensures { Gives (λ x. (x.0, x.1.now)) result (branch_within bound (expr_at bound) (block_at bound (instr_at bound)) tokens.now) }
@@ -78,6 +84,7 @@ fn branch_in(alloc: Global, tokens: &[Spot], bound: usize) -> Result<(Instr, &[S
     while_instr(alloc, tokens, bound)
 }
 
+/// The arms of an `if` that has one.
 fn one_arm(alloc: Global, arm: Arm) -> Result<Arms, Fault>
     ensures value { IfOk result (λ arms. arms ≡ arm ∷ []) }
     ensures fault { Gives (λ x. x) result (Ok (arm ∷ [])) }
@@ -87,6 +94,7 @@ fn one_arm(alloc: Global, arm: Arm) -> Result<Arms, Fault>
     Ok(arms)
 }
 
+/// An `if` with its other arms, and the tokens behind it.
 #[cycle(instr)]
 fn if_instr(alloc: Global, tokens: &[Spot], bound: usize) -> Result<(Instr, &[Spot]), Fault>
     ensures { Gives (λ x. (x.0, x.1.now)) result (if_at bound (expr_at bound) (block_at bound (instr_at bound)) tokens.now) }
@@ -97,6 +105,7 @@ fn if_instr(alloc: Global, tokens: &[Spot], bound: usize) -> Result<(Instr, &[Sp
     end_if(alloc, at, arms, rest, bound)
 }
 
+/// The `if` whose arms were read, with its `else` where it has one, and the tokens behind it.
 #[cycle(instr)]
 fn end_if(
     alloc: Global,
@@ -111,6 +120,7 @@ fn end_if(
     Ok((Instr::If(at, arms, other), rest))
 }
 
+/// A condition with its block behind a word, where it begins, and the tokens behind it.
 #[cycle(instr)]
 fn arm(
     alloc: Global,
@@ -126,6 +136,7 @@ fn arm(
     Ok(((at, Arm { condition, block }), rest))
 }
 
+/// The arms of an `if` with those that `elif` adds, and the tokens behind them.
 #[cycle(instr)]
 #[tactic(auto, using(crate::proofs::Bounds::turns_at))]
 fn elifs(
@@ -152,6 +163,7 @@ fn elifs(
     Ok((found, rest))
 }
 
+/// The arms that were found with one more, and the tokens behind it.
 #[cycle(instr)]
 fn next_elif(
     alloc: Global,
@@ -167,6 +179,7 @@ fn next_elif(
     Ok((found, rest))
 }
 
+/// The block of an `else`, where there is one, and the tokens behind it.
 #[cycle(instr)]
 fn otherwise(
     alloc: Global,
@@ -183,6 +196,7 @@ fn otherwise(
     Ok((Some(block), rest))
 }
 
+/// A `while`, and the tokens behind it.
 #[cycle(instr)]
 fn while_instr(alloc: Global, tokens: &[Spot], bound: usize) -> Result<(Instr, &[Spot]), Fault>
     ensures { Gives (λ x. (x.0, x.1.now)) result (while_at (expr_at bound) (block_at bound (instr_at bound)) tokens.now) }
@@ -193,6 +207,7 @@ fn while_instr(alloc: Global, tokens: &[Spot], bound: usize) -> Result<(Instr, &
     Ok((Instr::While(at, condition, block), rest))
 }
 
+/// A block in braces, and the tokens behind it.
 #[cycle(instr)]
 fn block(alloc: Global, tokens: &[Spot], bound: usize) -> Result<(Block, &[Spot]), Fault>
     ensures { Gives (λ x. (x.0, x.1.now)) result (block_at bound (instr_at bound) tokens.now) }
@@ -225,6 +240,7 @@ pub fn instrs(alloc: Global, tokens: &[Spot], bound: usize) -> Result<(Instrs, &
     Ok((found, rest))
 }
 
+/// The instructions that were found with one more, and the tokens behind it.
 #[cycle(instr)]
 fn next_instr(
     alloc: Global,

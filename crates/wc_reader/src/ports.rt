@@ -16,6 +16,7 @@ use wc_lexer::Spot;
 use wc_syntax::{ExitCode, ExitCodes, Port, PortList};
 use wc_value::Kind;
 
+/// A port with its kind, and the tokens behind it.
 fn port(tokens: &[Spot]) -> Result<(Port, &[Spot]), Fault>
     ensures { Gives (λ x. (x.0, x.1.now)) result (port_at tokens.now) }
 {
@@ -43,6 +44,7 @@ fn port(tokens: &[Spot]) -> Result<(Port, &[Spot]), Fault>
     Ok((port, rest))
 }
 
+/// Ports between commas, perhaps none, and the tokens behind them.
 fn some_ports(alloc: Global, tokens: &[Spot], bound: usize) -> Result<(PortList, &[Spot]), Fault>
     ensures { Gives (λ x. (x.0, x.1.now)) result (between_at bound S_COMMA (K_NAME ∷ []) port_at tokens.now) }
 {
@@ -55,6 +57,7 @@ fn some_ports(alloc: Global, tokens: &[Spot], bound: usize) -> Result<(PortList,
     more_ports(found, rest, bound)
 }
 
+/// The ports that were found with those behind further commas, and the tokens behind them.
 #[tactic(auto, using(crate::proofs::Bounds::turns_at))]
 fn more_ports(first: PortList, tokens: &[Spot], bound: usize) -> Result<(PortList, &[Spot]), Fault>
     ensures { Gives (λ x. (x.0, x.1.now)) result (turns bound (S_COMMA ∷ []) (next_at S_COMMA port_at) first tokens.now) }
@@ -75,6 +78,7 @@ fn more_ports(first: PortList, tokens: &[Spot], bound: usize) -> Result<(PortLis
     Ok((found, rest))
 }
 
+/// The ports that were found with the one behind a comma, and the tokens behind it.
 fn next_port(found: PortList, tokens: &[Spot]) -> Result<(PortList, &[Spot]), Fault>
     ensures { Gives (λ x. (x.0, x.1.now)) result (next_at S_COMMA port_at found tokens.now) }
 {
@@ -95,6 +99,7 @@ pub fn ports(alloc: Global, tokens: &[Spot], bound: usize) -> Result<(PortList, 
     Ok((ports, rest))
 }
 
+/// An exit code, and the tokens behind it.
 fn code(tokens: &[Spot]) -> Result<(ExitCode, &[Spot]), Fault>
     ensures { Gives (λ x. (x.0, x.1.now)) result (code_at tokens.now) }
 {
@@ -133,6 +138,7 @@ pub fn codes(alloc: Global, tokens: &[Spot], bound: usize) -> Result<(ExitCodes,
     Ok((found, rest))
 }
 
+/// The exit codes that were found with one more, and the tokens behind it.
 fn next_code(found: ExitCodes, tokens: &[Spot]) -> Result<(ExitCodes, &[Spot]), Fault>
     ensures { Gives (λ x. (x.0, x.1.now)) result (as_at code_at (λ x. found ++ x ∷ []) tokens.now) }
 {

@@ -12,6 +12,7 @@ use wc_grammar::Fault;
 use wc_lexer::Spot;
 use wc_syntax::Library;
 
+/// The library that all tokens stand for, read within a bound of nestings and items.
 fn read_within(alloc: Global, tokens: &[Spot], bound: usize) -> Result<Library, Fault>
     ensures { Gives (λ x. x) result (whole bound tokens.now) }
 {
@@ -22,6 +23,7 @@ fn read_within(alloc: Global, tokens: &[Spot], bound: usize) -> Result<Library, 
     }
 }
 
+/// The library that all tokens stand for: the bound is one above their number, which no reading reaches.
 fn read_whole(alloc: Global, tokens: &[Spot]) -> Result<Library, ReadError>
     ensures { Sees result (whole (length tokens.now + 1) tokens.now) }
 {

@@ -11,6 +11,7 @@ use wc_grammar::{Fault, closed, expr, name, number, sign, starts};
 use wc_lexer::Spot;
 use wc_syntax::{Exit, Expr, Name, Rule, RuleList};
 
+/// The condition behind an `if`, where there is one, and the tokens behind it.
 fn condition(alloc: Global, tokens: &[Spot], bound: usize) -> Result<(Option<Expr>, &[Spot]), Fault>
     ensures { Gives (λ x. (x.0, x.1.now)) result (condition_at (expr_at bound) tokens.now) }
 {
@@ -55,6 +56,7 @@ pub fn set(
     Ok(((at, name, value), rest))
 }
 
+/// A rule, and the tokens behind it.
 fn rule(alloc: Global, tokens: &[Spot], bound: usize) -> Result<(Rule, &[Spot]), Fault>
     ensures { Gives (λ x. (x.0, x.1.now)) result (rule_at (expr_at bound) tokens.now) }
 {
@@ -91,6 +93,7 @@ pub fn rules(alloc: Global, tokens: &[Spot], bound: usize) -> Result<(RuleList, 
     Ok((found, rest))
 }
 
+/// The rules that were found with one more, and the tokens behind it.
 fn next_rule(
     alloc: Global,
     found: RuleList,

@@ -16,6 +16,7 @@ use wc_grammar::{Fault, closed, expr, member, name, pick, sign, starts};
 use wc_lexer::Spot;
 use wc_syntax::{CallArg, CallArgs, CallStmt, Name, Step, Stmt, Stmts};
 
+/// An argument of a call, and the tokens behind it.
 fn arg(alloc: Global, tokens: &[Spot], bound: usize) -> Result<(CallArg, &[Spot]), Fault>
     ensures { Gives (λ x. (x.0, x.1.now)) result (arg_at (expr_at bound) tokens.now) }
 {
@@ -25,6 +26,7 @@ fn arg(alloc: Global, tokens: &[Spot], bound: usize) -> Result<(CallArg, &[Spot]
     Ok((CallArg { port, value }, rest))
 }
 
+/// Arguments between commas, perhaps none, and the tokens behind them.
 fn some_args(alloc: Global, tokens: &[Spot], bound: usize) -> Result<(CallArgs, &[Spot]), Fault>
     ensures { Gives (λ x. (x.0, x.1.now)) result (between_at bound S_COMMA (K_NAME ∷ []) (arg_at (expr_at bound)) tokens.now) }
 {
@@ -37,6 +39,7 @@ fn some_args(alloc: Global, tokens: &[Spot], bound: usize) -> Result<(CallArgs, 
     more_args(alloc, found, rest, bound)
 }
 
+/// The arguments that were found with those behind further commas, and the tokens behind them.
 #[tactic(auto, using(crate::proofs::Bounds::turns_at))]
 fn more_args(
     alloc: Global,
@@ -62,6 +65,7 @@ fn more_args(
     Ok((found, rest))
 }
 
+/// The arguments that were found with the one behind a comma, and the tokens behind it.
 fn next_arg(
     alloc: Global,
     found: CallArgs,
@@ -77,6 +81,7 @@ fn next_arg(
     Ok((found, rest))
 }
 
+/// Where a call's process is kept: whether it is appended and under which key, and the tokens behind it.
 fn target(tokens: &[Spot]) -> Result<((bool, Name), &[Spot]), Fault>
     ensures { Gives (λ x. (x.0, x.1.now)) result (target_at tokens.now) }
 {
@@ -86,6 +91,7 @@ fn target(tokens: &[Spot]) -> Result<((bool, Name), &[Spot]), Fault>
     Ok(((append, key), rest))
 }
 
+/// A call with its arguments and its target, and the tokens behind it.
 fn call(alloc: Global, tokens: &[Spot], bound: usize) -> Result<(CallStmt, &[Spot]), Fault>
     ensures { Gives (λ x. (x.0, x.1.now)) result (call_at bound (expr_at bound) tokens.now) }
 {
@@ -105,6 +111,7 @@ fn call(alloc: Global, tokens: &[Spot], bound: usize) -> Result<(CallStmt, &[Spo
     Ok((call, rest))
 }
 
+/// A statement that sets a key of the context, and the tokens behind it.
 fn assign(alloc: Global, tokens: &[Spot], bound: usize) -> Result<(Stmt, &[Spot]), Fault>
     ensures { Gives (λ x. (x.0, x.1.now)) result (assign_at (expr_at bound) tokens.now) }
 {
@@ -115,6 +122,7 @@ fn assign(alloc: Global, tokens: &[Spot], bound: usize) -> Result<(Stmt, &[Spot]
     Ok((Stmt::Ctx(at, key, value), rest))
 }
 
+/// A statement, and the tokens behind it.
 fn stmt(alloc: Global, tokens: &[Spot], bound: usize) -> Result<(Stmt, &[Spot]), Fault>
     ensures { Gives (λ x. (x.0, x.1.now)) result (stmt_at bound (expr_at bound) tokens.now) }
 {
@@ -133,6 +141,7 @@ fn stmt(alloc: Global, tokens: &[Spot], bound: usize) -> Result<(Stmt, &[Spot]),
     Ok((Stmt::Call(call), rest))
 }
 
+/// The statements of a step, as many as there are, and the tokens behind them.
 #[tactic(auto, using(crate::proofs::Bounds::turns_at))]
 fn stmts(alloc: Global, tokens: &[Spot], bound: usize) -> Result<(Stmts, &[Spot]), Fault>
     ensures { Gives (λ x. (x.0, x.1.now)) result (many_at bound STMT (stmt_at bound (expr_at bound)) tokens.now) }
@@ -153,6 +162,7 @@ fn stmts(alloc: Global, tokens: &[Spot], bound: usize) -> Result<(Stmts, &[Spot]
     Ok((found, rest))
 }
 
+/// The statements that were found with one more, and the tokens behind it.
 fn next_stmt(
     alloc: Global,
     found: Stmts,

@@ -43,6 +43,7 @@ pub enum RecordError {
 impl From<AllocError> for RecordError {
     ghost from_gives = { λ _ e. e ≡ OutOfMemory };
 
+    /// Memory ran out.
     fn from(_error: AllocError) -> RecordError {
         RecordError::OutOfMemory
     }
@@ -51,6 +52,7 @@ impl From<AllocError> for RecordError {
 impl<T: Drop> From<AllocFailed<T>> for RecordError {
     ghost from_gives = { λ _ e. e ≡ OutOfMemory };
 
+    /// Memory ran out before a value could be handed on.
     fn from(_error: AllocFailed<T>) -> RecordError {
         RecordError::OutOfMemory
     }
@@ -59,6 +61,7 @@ impl<T: Drop> From<AllocFailed<T>> for RecordError {
 impl From<ValueError> for RecordError {
     ghost from_gives = { λ v e. e ≡ moved v };
 
+    /// Why the bytes of a value are none of changes: the same refusal at the same byte.
     fn from(error: ValueError) -> RecordError {
         match error {
             ValueError::OutOfMemory => RecordError::OutOfMemory,

@@ -15,6 +15,7 @@ use wc_state::ProcessKind;
 use wc_value::{ProcessState, Reason};
 use wc_world::{Change, Kept, NewProcess, SetProcess};
 
+/// The kind of a process at a byte, and where the next field begins.
 fn kind_at(bytes: &[u8], at: usize) -> Result<(ProcessKind, usize), RecordError>
     requires { at ≤ length bytes.now }
     ensures answer { Answers result (kind_of_process bytes.now at) }
@@ -29,6 +30,7 @@ fn kind_at(bytes: &[u8], at: usize) -> Result<(ProcessKind, usize), RecordError>
     }
 }
 
+/// The type of a link at a byte, and where the next field begins.
 fn link_type_at(bytes: &[u8], at: usize) -> Result<(LinkType, usize), RecordError>
     requires { at ≤ length bytes.now }
     ensures answer { Answers result (type_of_link bytes.now at) }
@@ -86,6 +88,7 @@ fn state_with_zero_at(
     }
 }
 
+/// The finished state whose status stands at a byte, and where the next field begins.
 fn finished_at(bytes: &[u8], at: usize) -> Result<(ProcessState, usize), RecordError>
     requires { at ≤ length bytes.now }
     ensures answer { Answers result (built states.Finished u32 bytes.now at) }
@@ -113,6 +116,7 @@ fn state_at(bytes: &[u8], at: usize) -> Result<(ProcessState, usize), RecordErro
     }
 }
 
+/// A program's status at a byte, where one is kept, and where the next field begins.
 fn code_at(bytes: &[u8], at: usize) -> Result<(Option<i64>, usize), RecordError>
     requires { at ≤ length bytes.now }
     ensures answer { Answers result (code_if_any bytes.now at) }
@@ -129,6 +133,7 @@ fn code_at(bytes: &[u8], at: usize) -> Result<(Option<i64>, usize), RecordError>
     }
 }
 
+/// The change that makes data of the value at a byte, and where the next one begins.
 fn data_at(alloc: Global, bytes: &[u8], at: usize) -> Result<(Change, usize), RecordError>
     requires { at ≤ length bytes.now }
     ensures answer { Answers result (built changes.Data value bytes.now at) }
@@ -138,6 +143,7 @@ fn data_at(alloc: Global, bytes: &[u8], at: usize) -> Result<(Change, usize), Re
     Ok((Change::Data(value), next))
 }
 
+/// The change that makes a process, with its fields at a byte, and where the next one begins.
 fn new_process_at(alloc: Global, bytes: &[u8], at: usize) -> Result<(Change, usize), RecordError>
     requires { at ≤ length bytes.now }
     ensures answer { Answers result (built changes.Process new_process bytes.now at) }
@@ -162,6 +168,7 @@ fn new_process_at(alloc: Global, bytes: &[u8], at: usize) -> Result<(Change, usi
     ))
 }
 
+/// The change that makes a link, with its fields at a byte, and where the next one begins.
 fn link_at(alloc: Global, bytes: &[u8], at: usize) -> Result<(Change, usize), RecordError>
     requires { at ≤ length bytes.now }
     ensures answer { Answers result (built changes.Link link bytes.now at) }
@@ -182,6 +189,7 @@ fn link_at(alloc: Global, bytes: &[u8], at: usize) -> Result<(Change, usize), Re
     ))
 }
 
+/// The change that sets what a process has come to, with its fields at a byte, and where the next one begins.
 fn set_at(alloc: Global, bytes: &[u8], at: usize) -> Result<(Change, usize), RecordError>
     requires { at ≤ length bytes.now }
     ensures answer { Answers result (built changes.Set set_process bytes.now at) }
@@ -208,6 +216,7 @@ fn set_at(alloc: Global, bytes: &[u8], at: usize) -> Result<(Change, usize), Rec
     ))
 }
 
+/// The change that says how many batches were counted, at a byte, and where the next one begins.
 fn count_at(bytes: &[u8], at: usize) -> Result<(Change, usize), RecordError>
     requires { at ≤ length bytes.now }
     ensures answer { Answers result (built changes.Count u32 bytes.now at) }
@@ -217,6 +226,7 @@ fn count_at(bytes: &[u8], at: usize) -> Result<(Change, usize), RecordError>
     Ok((Change::Count(count), next))
 }
 
+/// The change that says in which batches a process started and ended, at a byte, and where the next one begins.
 fn kept_at(bytes: &[u8], at: usize) -> Result<(Change, usize), RecordError>
     requires { at ≤ length bytes.now }
     ensures answer { Answers result (built changes.Kept kept bytes.now at) }

@@ -14,6 +14,7 @@ use wc_state::{
 };
 use wc_value::Text;
 
+/// A frame at a byte, and where the next field begins.
 fn frame_at(bytes: &[u8], at: usize) -> Result<(Frame, usize), RecordError>
     requires { at ≤ length bytes.now }
     ensures answer { Answers result (frame bytes.now at) }
@@ -24,6 +25,7 @@ fn frame_at(bytes: &[u8], at: usize) -> Result<(Frame, usize), RecordError>
     Ok((Frame { block, next }, behind))
 }
 
+/// Frames with their number at a byte, and where the next field begins.
 #[tactic(auto, using(crate::proofs::Readings::several_at))]
 fn frames_at(alloc: Global, bytes: &[u8], at: usize) -> Result<(Frames, usize), RecordError>
     requires { at ≤ length bytes.now }
@@ -41,6 +43,7 @@ fn frames_at(alloc: Global, bytes: &[u8], at: usize) -> Result<(Frames, usize), 
     Ok((frames, place))
 }
 
+/// Numbers of nodes with their number at a byte, and where the next field begins.
 #[tactic(auto, using(crate::proofs::Readings::several_at))]
 fn ids_at(alloc: Global, bytes: &[u8], at: usize) -> Result<(Ids, usize), RecordError>
     requires { at ≤ length bytes.now }
@@ -118,6 +121,7 @@ fn pair_at(
     Ok(((key, held), next))
 }
 
+/// A context with the number of its keys at a byte, and where the next field begins.
 #[tactic(auto, using(crate::proofs::Readings::several_at, crate::proofs::Keys::set_last))]
 fn context_at(alloc: Global, bytes: &[u8], at: usize) -> Result<(Context, usize), RecordError>
     requires { at ≤ length bytes.now }
@@ -135,6 +139,7 @@ fn context_at(alloc: Global, bytes: &[u8], at: usize) -> Result<(Context, usize)
     Ok((context, place))
 }
 
+/// A process that is awaited, with its key, at a byte, and where the next field begins.
 fn await_at(alloc: Global, bytes: &[u8], at: usize) -> Result<(Await, usize), RecordError>
     requires { at ≤ length bytes.now }
     ensures answer { Answers result (await bytes.now at) }
@@ -146,6 +151,7 @@ fn await_at(alloc: Global, bytes: &[u8], at: usize) -> Result<(Await, usize), Re
     Ok((Await { key, append, pid }, next))
 }
 
+/// The processes that are awaited with their number at a byte, and where the next field begins.
 #[tactic(auto, using(crate::proofs::Readings::several_at))]
 fn awaits_at(alloc: Global, bytes: &[u8], at: usize) -> Result<(Awaits, usize), RecordError>
     requires { at ≤ length bytes.now }
@@ -180,6 +186,7 @@ fn output_at(
     Ok(((label, node), next))
 }
 
+/// The outputs set so far with their number at a byte, and where the next field begins.
 #[tactic(auto, using(crate::proofs::Readings::several_at))]
 fn outputs_at(alloc: Global, bytes: &[u8], at: usize) -> Result<(Outs, usize), RecordError>
     requires { at ≤ length bytes.now }
@@ -197,6 +204,7 @@ fn outputs_at(alloc: Global, bytes: &[u8], at: usize) -> Result<(Outs, usize), R
     Ok((outputs, place))
 }
 
+/// A work chain's checkpoint at a byte, and where the next field begins.
 fn checkpoint_at(alloc: Global, bytes: &[u8], at: usize) -> Result<(Checkpoint, usize), RecordError>
     requires { at ≤ length bytes.now }
     ensures answer { Answers result (checkpoint bytes.now at) }
@@ -219,6 +227,7 @@ fn checkpoint_at(alloc: Global, bytes: &[u8], at: usize) -> Result<(Checkpoint, 
     ))
 }
 
+/// A job's task at a byte, and where the next field begins.
 fn task_at(bytes: &[u8], at: usize) -> Result<(Task, usize), RecordError>
     requires { at ≤ length bytes.now }
     ensures answer { Answers result (job_task bytes.now at) }
@@ -234,6 +243,7 @@ fn task_at(bytes: &[u8], at: usize) -> Result<(Task, usize), RecordError>
     }
 }
 
+/// Where a job stands, at a byte: its task, its failures and when it is due; and where the next field begins.
 fn job_at(bytes: &[u8], at: usize) -> Result<(JobPart, usize), RecordError>
     requires { at ≤ length bytes.now }
     ensures answer { Answers result (job bytes.now at) }

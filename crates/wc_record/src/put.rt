@@ -67,6 +67,7 @@ pub fn put_bool(out: &mut Bytes, truth: bool) -> Result<(), AllocError>
     out.push(if truth { 1 } else { 0 })
 }
 
+/// Puts a frame.
 fn put_frame(out: &mut Bytes, frame: &Frame) -> Result<(), AllocError>
     ensures bytes { OnOk result (out.new ≡ out.old ++ frame_bytes frame.now) }
     ensures fits { OnOk result (IsFrame frame.now) }
@@ -75,6 +76,7 @@ fn put_frame(out: &mut Bytes, frame: &Frame) -> Result<(), AllocError>
     put_u32(out, frame.next)
 }
 
+/// Puts frames behind their number.
 fn put_frames(out: &mut Bytes, frames: &Frames) -> Result<(), AllocError>
     ensures bytes { OnOk result (out.new ≡ out.old ++ list frame_bytes frames.now) }
     ensures fits { OnOk result (IsList IsFrame frames.now) }
@@ -86,6 +88,7 @@ fn put_frames(out: &mut Bytes, frames: &Frames) -> Result<(), AllocError>
     Ok(())
 }
 
+/// Puts numbers of nodes behind their number.
 fn put_ids(out: &mut Bytes, ids: &Ids) -> Result<(), AllocError>
     ensures bytes { OnOk result (out.new ≡ out.old ++ list u32_bytes ids.now) }
     ensures fits { OnOk result (IsList IsNumber ids.now) }
@@ -97,6 +100,7 @@ fn put_ids(out: &mut Bytes, ids: &Ids) -> Result<(), AllocError>
     Ok(())
 }
 
+/// Puts what a context holds under a key: a value, a process or several.
 fn put_held(out: &mut Bytes, held: &CtxRef) -> Result<(), AllocError>
     ensures bytes { OnOk result (out.new ≡ out.old ++ held_bytes held.now) }
     ensures fits { OnOk result (IsShallow held.now → IsHeld held.now) }
@@ -136,6 +140,7 @@ fn put_pair(out: &mut Bytes, context: &Context, at: usize) -> Result<(), AllocEr
     put_held(out, held)
 }
 
+/// Puts a context, its keys in ascending order, behind their number.
 fn put_context(out: &mut Bytes, context: &Context) -> Result<(), AllocError>
     ensures bytes { OnOk result (out.new ≡ out.old ++ list pair_bytes context.now) }
     ensures fits { OnOk result (IsReadable context.now → IsList IsPair context.now) }
@@ -152,6 +157,7 @@ fn put_context(out: &mut Bytes, context: &Context) -> Result<(), AllocError>
     Ok(())
 }
 
+/// Puts a process that is awaited, with its key.
 fn put_await(out: &mut Bytes, awaited: &Await) -> Result<(), AllocError>
     ensures bytes { OnOk result (out.new ≡ out.old ++ await_bytes awaited.now) }
     ensures fits { OnOk result (IsAwait awaited.now) }
@@ -161,6 +167,7 @@ fn put_await(out: &mut Bytes, awaited: &Await) -> Result<(), AllocError>
     put_u32(out, awaited.pid)
 }
 
+/// Puts the processes that are awaited behind their number.
 fn put_awaits(out: &mut Bytes, awaits: &Awaits) -> Result<(), AllocError>
     ensures bytes { OnOk result (out.new ≡ out.old ++ list await_bytes awaits.now) }
     ensures fits { OnOk result (IsList IsAwait awaits.now) }
@@ -172,6 +179,7 @@ fn put_awaits(out: &mut Bytes, awaits: &Awaits) -> Result<(), AllocError>
     Ok(())
 }
 
+/// Puts the outputs set so far, which ascend, behind their number.
 fn put_outputs(out: &mut Bytes, outputs: &Outs) -> Result<(), AllocError>
     ensures bytes { OnOk result (out.new ≡ out.old ++ list output_bytes outputs.now) }
     ensures fits { OnOk result (IsList IsOutput outputs.now) }
@@ -185,6 +193,7 @@ fn put_outputs(out: &mut Bytes, outputs: &Outs) -> Result<(), AllocError>
     Ok(())
 }
 
+/// Puts a work chain's checkpoint.
 fn put_checkpoint(out: &mut Bytes, checkpoint: &Checkpoint) -> Result<(), AllocError>
     ensures bytes { OnOk result (out.new ≡ out.old ++ checkpoint_bytes checkpoint.now) }
     ensures fits { OnOk result (IsReadable checkpoint.now.ctx → IsCheckpoint checkpoint.now) }
@@ -196,6 +205,7 @@ fn put_checkpoint(out: &mut Bytes, checkpoint: &Checkpoint) -> Result<(), AllocE
     put_outputs(out, &checkpoint.outputs)
 }
 
+/// The byte of a job's task.
 fn task_byte(task: Task) -> u8
     ensures { result ≡ task_byte task }
 {
@@ -207,6 +217,7 @@ fn task_byte(task: Task) -> u8
     }
 }
 
+/// Puts where a job stands: its task, its failures and when it is due, in milliseconds.
 fn put_job(out: &mut Bytes, job: &JobPart) -> Result<(), AllocError>
     requires { job.now.fails ≤ 5 }
     ensures bytes { OnOk result (out.new ≡ out.old ++ job_bytes job.now) }

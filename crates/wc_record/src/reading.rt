@@ -32,6 +32,7 @@ fn library_change_at(
     Ok((Change::Library(library, names), next))
 }
 
+/// The change at a byte, and where the next one begins; a library with the text of the last one is shared with it.
 fn change_at(
     alloc: Global,
     bytes: &[u8],

@@ -32,6 +32,7 @@ fn number_of(pid: Option<u32>) -> u32
     }
 }
 
+/// Puts a change for each library that a world keeps.
 fn put_libraries(alloc: Global, out: &mut Bytes, libraries: &[Known]) -> Result<(), AllocError>
     requires { All (λ known. names_ascend known.1 ≡ true) libraries.now }
     ensures bytes { OnOk result (out.new ≡ out.old ++ flat_map change_bytes (map library_change libraries.now)) }
@@ -102,6 +103,7 @@ fn put_nodes(
     Ok(())
 }
 
+/// Puts a change for each link.
 fn put_links(out: &mut Bytes, links: &[Link]) -> Result<(), AllocError>
     ensures bytes { OnOk result (out.new ≡ out.old ++ flat_map change_bytes (map change.Link links.now)) }
     ensures fits { OnOk result (All IsChange (map change.Link links.now)) }
@@ -123,6 +125,7 @@ fn put_set(out: &mut Bytes, process: &ProcessRecord) -> Result<(), AllocError>
     put_progress(out, cached_from, process.fuel, process.code, &process.part)
 }
 
+/// Puts a change for what each process has come to.
 fn put_sets(out: &mut Bytes, records: &[ProcessRecord]) -> Result<(), AllocError>
     requires fails { All (λ r. FailsFit r.part) records.now }
     requires readable { All (λ r. IsReadablePart r.part) records.now }
@@ -148,6 +151,7 @@ fn put_times(out: &mut Bytes, process: &ProcessRecord) -> Result<(), AllocError>
     put_kept(out, &kept)
 }
 
+/// Puts a change for the batches in which each process started and ended.
 fn put_kepts(out: &mut Bytes, records: &[ProcessRecord]) -> Result<(), AllocError>
     ensures bytes { OnOk result (out.new ≡ out.old ++ flat_map change_bytes (map kept_change records.now)) }
     ensures fits { OnOk result (All IsChange (map kept_change records.now)) }

@@ -19,6 +19,7 @@ use wc_syntax::{Checked, offsets_are_not_printed, print};
 use wc_value::{Bytes, ProcessState, Reason, Text, Value, Words, put_value};
 use wc_world::{Change, Changes, Kept, NewProcess, SetProcess};
 
+/// The byte of a process's kind.
 fn kind_byte(kind: ProcessKind) -> u8
     ensures { result ≡ kind_byte kind }
 {
@@ -29,6 +30,7 @@ fn kind_byte(kind: ProcessKind) -> u8
     }
 }
 
+/// The byte of a link's type.
 fn type_byte(link: LinkType) -> u8
     ensures { result ≡ type_byte link }
 {
@@ -42,6 +44,7 @@ fn type_byte(link: LinkType) -> u8
     }
 }
 
+/// The number of the reason why a process excepted.
 fn reason_number(reason: Reason) -> u32
     ensures { result ≡ reason_number reason }
 {
@@ -66,6 +69,7 @@ fn put_numbered(out: &mut Bytes, tag: u8, number: u32) -> Result<(), AllocError>
     put_u32(out, number)
 }
 
+/// Puts a process's state.
 fn put_state(out: &mut Bytes, state: ProcessState) -> Result<(), AllocError>
     ensures bytes { OnOk result (out.new ≡ out.old ++ state_bytes state) }
     ensures fits { OnOk result (IsState state) }
@@ -80,6 +84,7 @@ fn put_state(out: &mut Bytes, state: ProcessState) -> Result<(), AllocError>
     }
 }
 
+/// Puts a program's status, where there is one.
 fn put_code(out: &mut Bytes, code: Option<i64>) -> Result<(), AllocError>
     ensures bytes { OnOk result (out.new ≡ out.old ++ code_bytes code) }
     ensures fits { OnOk result (IsCode code) }
@@ -115,6 +120,7 @@ pub(crate) fn put_process(
     put_bool(out, caching)
 }
 
+/// Puts the fields of a new process behind the byte of their change.
 fn put_new(out: &mut Bytes, new: &NewProcess) -> Result<(), AllocError>
     ensures bytes { OnOk result (out.new ≡ out.old ++ 3 ∷ new_bytes new.now) }
     ensures fits { OnOk result (IsNew new.now) }
@@ -180,6 +186,7 @@ pub(crate) fn put_progress(
     put_part(out, part)
 }
 
+/// Puts the fields of what a process has come to behind the byte of their change.
 fn put_set(out: &mut Bytes, set: &SetProcess) -> Result<(), AllocError>
     requires { FailsFit set.now.part }
     ensures bytes { OnOk result (out.new ≡ out.old ++ 5 ∷ set_bytes set.now) }
@@ -209,6 +216,7 @@ pub(crate) fn put_kept(out: &mut Bytes, kept: &Kept) -> Result<(), AllocError>
     put_u32(out, kept.ended)
 }
 
+/// Puts names behind their number.
 fn put_names(out: &mut Bytes, names: &Words) -> Result<(), AllocError>
     ensures bytes { OnOk result (out.new ≡ out.old ++ list text_bytes names.now) }
     ensures fits { OnOk result (IsList IsText names.now) }

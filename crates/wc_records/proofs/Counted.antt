@@ -10,8 +10,7 @@ use Rattle.wc_state.specs.declared.record.ProcessRecord.{ProcessRecord}
 use Rattle.wc_records.specs.Ascending.{AreAscending, IsCut, is_numbered}
 use Rattle.wc_records.proofs.Halving.{ascending_rises}
 use Rattle.wc_records.specs.Marked.{IsSorted, marked}
-use Rattle.wc_records.specs.Readiness.{ended_at, is_ready, ready_at}
-use Rattle.wc_readiness.specs.Readiness.{is_ready_past}
+use Rattle.wc_records.specs.Readiness.{ended_at, is_ready, ready_at, is_ready_past}
 use Rattle.wc_records.specs.Index.{ended_first, passed_by, chosen, AreCounted, is_other}
 use Rattle.wc_records.proofs.Passed.{past_is_ready}
 use Rattle.wc_records.proofs.Chosen.{answers, chosen_same, chosen_marked, chosen_short, chosen_sorted, apart, mapped_all}

@@ -7,8 +7,7 @@ use Rattle.wc_state.specs.declared.record.ProcessRecord.{ProcessRecord}
 use Rattle.wc_records.specs.Records.{find_record}
 use Rattle.wc_records.specs.Ascending.{AreAscending}
 use Rattle.wc_records.specs.Marked.{IsSorted, marked}
-use Rattle.wc_readiness.specs.Readiness.{due_of, waits_later}
-use Rattle.wc_records.specs.Readiness.{waits_until, sooner, is_due_in, AreDues}
+use Rattle.wc_records.specs.Readiness.{due_of, waits_later, waits_until, sooner, is_due_in, AreDues}
 use Rattle.wc_records.specs.Index.{without_due, with_due}
 use Rattle.wc_records.proofs.Marks.{Tests, sorted_marked}
 use Rattle.wc_records.proofs.Standing.{stands_itself, stands_other, as_number, length_marked}

@@ -10,8 +10,7 @@ use Rattle.wc_records.specs.declared.index.Index.{Index}
 use Rattle.wc_records.specs.Records.{find_record, has_ended}
 use Rattle.wc_records.specs.Changes.{made}
 use Rattle.wc_records.specs.Marked.{IsSorted}
-use Rattle.wc_readiness.specs.Readiness.{waits_later}
-use Rattle.wc_records.specs.Readiness.{is_over, ended_at, is_ready, sooner, is_due_in, waits_until, AreDues}
+use Rattle.wc_records.specs.Readiness.{waits_later, is_over, ended_at, is_ready, sooner, is_due_in, waits_until, AreDues}
 use Rattle.wc_records.specs.Index.{passed_by, IsIndexOf}
 use Rattle.wc_records.proofs.Chosen.{chosen_same}
 use Rattle.wc_records.proofs.Counted.{first_alike, ready_alike}

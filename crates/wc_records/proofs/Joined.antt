@@ -12,8 +12,7 @@ use Rattle.wc_state.specs.declared.record.ProcessRecord.{ProcessRecord}
 use Rattle.wc_records.specs.Records.{find_record}
 use Rattle.wc_records.specs.Ascending.{AreAscending}
 use Rattle.wc_records.specs.Marked.{AllAfter, IsSorted}
-use Rattle.wc_readiness.specs.Readiness.{due_of, waits_later}
-use Rattle.wc_records.specs.Readiness.{is_ready, ready_at, waits_until, sooner, is_due_in, AreDues}
+use Rattle.wc_records.specs.Readiness.{due_of, waits_later, is_ready, ready_at, waits_until, sooner, is_due_in, AreDues}
 use Rattle.wc_records.specs.Ready.{due_by}
 use Rattle.wc_records.specs.Orders.{dues_in_order}
 use Rattle.wc_records.proofs.Standing.{as_number}

@@ -7,8 +7,7 @@ use Rattle.wc_records.specs.declared.change.Kept.{Kept}
 use Rattle.wc_records.specs.declared.index.Index.{Index}
 use Rattle.wc_records.specs.Records.{find_record, at_process, has_ended}
 use Rattle.wc_records.specs.Changes.{keep}
-use Rattle.wc_readiness.specs.Readiness.{waits_later}
-use Rattle.wc_records.specs.Readiness.{is_over, is_ready, waits_until, awaits_of}
+use Rattle.wc_records.specs.Readiness.{waits_later, is_over, is_ready, waits_until, awaits_of}
 use Rattle.wc_records.specs.Index.{passed_by, chosen, IsIndexOf}
 use Rattle.wc_records.proofs.Chosen.{chosen_same}
 use Rattle.wc_records.proofs.Counted.{first_alike, ready_alike}

@@ -11,8 +11,7 @@ use Rattle.wc_state.specs.declared.record.Part.TheVariants as part
 use Rattle.wc_state.specs.declared.record.ProcessRecord.{ProcessRecord}
 use Rattle.wc_records.specs.Records.{find_record}
 use Rattle.wc_records.specs.Ascending.{AreAscending}
-use Rattle.wc_readiness.specs.Readiness.{due_of, is_waiting, waits_later}
-use Rattle.wc_records.specs.Readiness.{ended_at, may_go, is_ready, ready_at, waits_until, is_due_in, AreDues}
+use Rattle.wc_records.specs.Readiness.{due_of, is_waiting, waits_later, ended_at, may_go, is_ready, ready_at, waits_until, is_due_in, AreDues}
 use Rattle.wc_records.specs.Index.{chosen}
 use Rattle.wc_records.specs.Ready.{first_above, due_by}
 use Rattle.wc_records.specs.Rounds.{first_with}

@@ -9,8 +9,7 @@ use Rattle.wc_state.specs.declared.record.Await.{Await}
 use Rattle.wc_state.specs.declared.record.Part.{Part}
 use Rattle.wc_state.specs.declared.record.Part.TheVariants as part
 use Rattle.wc_state.specs.declared.record.ProcessRecord.{ProcessRecord}
-use Rattle.wc_records.specs.Readiness.{ended_at, is_through, may_go, is_ready, awaits_of}
-use Rattle.wc_readiness.specs.Readiness.{is_past, goes_on, is_ready_past}
+use Rattle.wc_records.specs.Readiness.{ended_at, is_through, may_go, is_ready, awaits_of, is_past, goes_on, is_ready_past}
 use Rattle.wc_records.specs.Index.{ended_first, passed_by}
 
 -- ---- the count

@@ -12,8 +12,7 @@ use Rattle.wc_records.specs.Records.{has_ended}
 use Rattle.wc_records.specs.Changes as changes
 use Rattle.wc_records.specs.Ascending.{AreAscending, is_numbered}
 use Rattle.wc_records.specs.Marked.{IsSorted, marked}
-use Rattle.wc_readiness.specs.Readiness.{waits_later}
-use Rattle.wc_records.specs.Readiness.{is_over, ended_at, is_ready, ready_at, sooner, awaits_of, awaits, IsAwaitedBy, live_in, AreDues}
+use Rattle.wc_records.specs.Readiness.{waits_later, is_over, ended_at, is_ready, ready_at, sooner, awaits_of, awaits, IsAwaitedBy, live_in, AreDues}
 use Rattle.wc_records.specs.Index.{passed_by, AreCounted, AreNotAbove, is_other, IsIndexOf, without_due, with_due}
 use Rattle.wc_records.proofs.Halving.{number_read}
 use Rattle.wc_records.proofs.Chosen.{chosen_sorted}

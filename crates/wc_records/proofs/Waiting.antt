@@ -8,8 +8,7 @@ use Rattle.std.proofs.lemmas.List.Sums.{sum_by-cons}
 use Rattle.wc_state.specs.declared.record.ProcessRecord.{ProcessRecord}
 use Rattle.wc_records.specs.Records.{find_record, has_ended}
 use Rattle.wc_records.specs.Marked.{AllAfter}
-use Rattle.wc_readiness.specs.Readiness.{due_of, waits_later}
-use Rattle.wc_records.specs.Readiness.{is_ready, waits_until, sooner, is_due_in, AreDues, live_in}
+use Rattle.wc_records.specs.Readiness.{due_of, waits_later, is_ready, waits_until, sooner, is_due_in, AreDues, live_in}
 use Rattle.wc_records.proofs.Moments.{ready_by_parts, is_due}
 
 -- ---- a process that waits for a moment

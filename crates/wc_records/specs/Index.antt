@@ -3,8 +3,7 @@ use Rattle.std.specs.Prelude.{◌≡◌, ℕ, suc, ◌<◌, ◌≤◌, ◌==◌,
 use Rattle.wc_state.specs.declared.record.Await.{Await}
 use Rattle.wc_state.specs.declared.record.ProcessRecord.{ProcessRecord}
 use Rattle.wc_records.specs.declared.index.Index.{Index}
-use Rattle.wc_readiness.specs.Readiness.{waits_later, due_of}
-use Rattle.wc_records.specs.Readiness.{ended_at, is_ready, ready_at, AreDues, awaits_of, live_in, sooner}
+use Rattle.wc_records.specs.Readiness.{waits_later, due_of, ended_at, is_ready, ready_at, AreDues, awaits_of, live_in, sooner}
 use Rattle.wc_records.specs.Marked.{marked}
 
 -- how many of these processes, from the first one on, have ended

@@ -13,9 +13,9 @@ use crate::change::SetProcess;
 use crate::in_place;
 use crate::places::{is_numbered, place_of};
 use crate::processes::has_ended;
+use crate::readiness::{due_of, is_ready_past, waits_later};
 use crate::window::Window;
 use std::alloc::{AllocError, Global};
-use wc_readiness::{due_of, is_ready_past, waits_later};
 use wc_state::ProcessRecord;
 
 /// What tells of records, without a look at each, which processes are ready.

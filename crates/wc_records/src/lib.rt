@@ -11,6 +11,7 @@ mod index;
 mod order;
 mod places;
 mod processes;
+mod readiness;
 mod ready;
 mod records;
 mod rounds;

@@ -9,8 +9,8 @@ ghost use Rattle.wc_records.specs.Index.{passed_by};
 ghost use Rattle.wc_records.specs.Ready.{is_ready_at, due_by};
 
 use crate::places::{is_numbered, place_of};
+use crate::readiness::is_ready_past;
 use std::alloc::{AllocError, Global};
-use wc_readiness::is_ready_past;
 use wc_state::ProcessRecord;
 
 /// Whether the process with this number is there and is ready at a moment, where it is known of each process how many of

@@ -10,8 +10,8 @@ use Rattle.wc_world.specs.World.{World}
 use Rattle.wc_world.specs.Applied.{applied}
 use Rattle.wc_machine.specs.declared.answer.TaskAnswer.{TaskAnswer}
 use Rattle.wc_machine.specs.Machine.{Leads, turn}
-use Rattle.wc_laws.specs.AcceptedLaws.{IsPlain}
-use Rattle.wc_laws.proofs.Parts.{events_are_plain}
+use Rattle.wc_soundness.specs.AcceptedLaws.{IsPlain}
+use Rattle.wc_soundness.proofs.Parts.{events_are_plain}
 use Rattle.wc_machine.specs.declared.error.TurnError.{TurnError}
 use Rattle.wc_machine.specs.declared.error.TurnError.TheVariants as turn_error
 use Rattle.wc_core.specs.Ready.{is_ready_at}

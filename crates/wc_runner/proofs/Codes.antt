@@ -54,12 +54,12 @@ use Rattle.wc_machine.proofs.CalculatedOutputs.{concluded_set, nothing_set, rule
 use Rattle.wc_machine.proofs.Endings.{applied_ends, end_record, ended_world}
 use Rattle.wc_machine.proofs.EndedWorlds.{found_end, inputs_kept, outputs_of_end}
 use Rattle.wc_machine.proofs.Frames.{library_stays}
-use Rattle.wc_laws.proofs.FreeNames.{retrieved_is_free}
-use Rattle.wc_laws.proofs.Retrieved.{retrieved_stays}
-use Rattle.wc_laws.proofs.Tasks.{job_waits}
-use Rattle.wc_laws.specs.Results.{result_of, table_of}
-use Rattle.wc_laws.proofs.FoundResults.{its_table_agrees, results_are_found}
-use Rattle.wc_laws.proofs.LaterTables.{later_tables_agree}
+use Rattle.wc_soundness.proofs.FreeNames.{retrieved_is_free}
+use Rattle.wc_soundness.proofs.Retrieved.{retrieved_stays}
+use Rattle.wc_soundness.proofs.Tasks.{job_waits}
+use Rattle.wc_machine.specs.Results.{result_of, table_of}
+use Rattle.wc_soundness.proofs.FoundResults.{its_table_agrees, results_are_found}
+use Rattle.wc_soundness.proofs.LaterTables.{later_tables_agree}
 use Rattle.wc_runner.specs.Codes.{AreBrought, IsBrought, TurnsBringCodes, code_of}
 use Rattle.wc_runner.specs.Laws.{StaysSound}
 use Rattle.wc_runner.specs.Outside.{AnswersNeed, Outside}

@@ -3,7 +3,7 @@ use Rattle.std.proofs.Common.{◌≡◌, inl, inr, ℕ, ◌-◌, ◌^◌, ◌<�
 use Rattle.std.specs.Prelude.{min}
 use Rattle.wc_journal.specs.declared.journal.Journal.{Journal}
 use Rattle.wc_journal.specs.Refusals.{size_after}
-use Rattle.wc_record.specs.Spelled.{spelled}
+use Rattle.wc_store.specs.Spelled.{spelled}
 use Rattle.wc_state.specs.declared.record.Limits.{Limits}
 use Rattle.wc_state.specs.declared.record.What.TheVariants as thing
 use Rattle.wc_world.specs.declared.change.Change.{Change}

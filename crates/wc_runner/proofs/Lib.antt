@@ -1,3 +1,4 @@
+pub use Rattle.wc_core.proofs.Happening
 pub mod Continuing
 pub mod Widened
 pub mod Journals

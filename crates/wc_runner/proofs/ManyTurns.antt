@@ -12,11 +12,11 @@ use Rattle.wc_machine.specs.Continues.{Continues}
 use Rattle.wc_machine.specs.Laws.{HasPlaces}
 use Rattle.wc_machine.specs.Machine.{Event, after_changes, turn}
 use Rattle.wc_machine.specs.Sound.{IsSound}
-use Rattle.wc_laws.proofs.NoChanges.{only_marks_change_nothing}
-use Rattle.wc_laws.specs.AcceptedLaws.{IsPlain}
-use Rattle.wc_laws.proofs.Parts.{events_are_plain}
-use Rattle.wc_laws.specs.EventLaws.{LeavesSound}
-use Rattle.wc_laws.proofs.SoundEvents.{events_keep_sound}
+use Rattle.wc_soundness.proofs.NoChanges.{only_marks_change_nothing}
+use Rattle.wc_soundness.specs.AcceptedLaws.{IsPlain}
+use Rattle.wc_soundness.proofs.Parts.{events_are_plain}
+use Rattle.wc_soundness.specs.EventLaws.{LeavesSound}
+use Rattle.wc_soundness.proofs.SoundEvents.{events_keep_sound}
 use Rattle.wc_runner.specs.Laws.{StaysSound, TurnsKeepSound, TurnsAreBatches}
 use Rattle.wc_runner.specs.Outside.{Outside}
 use Rattle.wc_runner.specs.Trips.{IsTurn, TurnOf, none, one_more, one_rest}

@@ -1,3 +1,5 @@
+pub use Rattle.wc_core.specs.Standing
+pub use Rattle.wc_core.specs.Refusals as CoreRefusals
 pub mod Outside
 pub mod Trips
 pub mod Laws

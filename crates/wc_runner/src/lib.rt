@@ -14,3 +14,4 @@ pub use laws::{
 };
 pub use runs::{RunEnd, run};
 pub use turns::turn_one;
+pub use wc_core::{TurnError, kill_changes, pause_changes, play_changes, submit_changes};

@@ -10,6 +10,7 @@ pub mod Leaves
 pub mod Keeps
 pub mod Bare
 pub mod Richer
+pub mod Asked
 pub mod Uncut
 pub mod Rows
 pub mod Calls

@@ -1,5 +1,5 @@
 -- What the laws say of runs.
-use Rattle.std.specs.Prelude.{◌≡◌, ℕ, ◌+◌, ◌≤◌, false, List, [], Option, Some, None}
+use Rattle.std.specs.Prelude.{◌≡◌, ℕ, ◌+◌, ◌≤◌, false, All, List, [], Option, Some, None}
 use Rattle.wc_value.specs.declared.process.JobResult.{JobResult}
 use Rattle.wc_value.specs.declared.process.Request.{Request}
 use Rattle.wc_value.specs.declared.process.Tree.{out-Tree}
@@ -50,6 +50,14 @@ MoreAnswer k Astray b = b ≡ Astray
 -- a table has each result of another
 abbrev pub HasRows : Table → Table → Type 0
 HasRows table richer = (path : Path) (q : Request) (r : JobResult) → table path q ≡ Some r → richer path q ≡ Some r
+
+-- a table has a result for each of these requests at its path
+abbrev pub HasEach : Table → List (Path × Request) → Type 0
+HasEach table asked = All (λ a. (r : JobResult) × (table a.0 a.1 ≡ Some r)) asked
+
+-- another table has the same for each of these requests at its path
+abbrev pub AgreeAt : Table → Table → List (Path × Request) → Type 0
+AgreeAt table other asked = All (λ a. other a.0 a.1 ≡ table a.0 a.1) asked
 
 -- the second answer is the first, unless that lacks a result
 abbrev pub SameUnlessLacking : Answer → Answer → Type 0

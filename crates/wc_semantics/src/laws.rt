@@ -26,7 +26,7 @@ ghost use Rattle.wc_semantics.specs.declared.progress.Replayed.{Replayed};
 ghost use Rattle.wc_semantics.specs.Tables.{Label, Path, Table, Kills, under, no_kills, plain, with_paths, kills_of, rows_under};
 ghost use Rattle.wc_semantics.specs.Run.{Around, ◌>->◌, spend, by_value, label, take_calls, step_of, test, picked, returned, run, instrs, settled};
 ghost use Rattle.wc_semantics.specs.Meaning.{ended, meaning, around};
-ghost use Rattle.wc_semantics.specs.Laws.{arm_list, else_list, Leaves, FrugalCall, MoreAnswer, HasRows, SameUnlessLacking, IsUncut};
+ghost use Rattle.wc_semantics.specs.Laws.{arm_list, else_list, Leaves, FrugalCall, MoreAnswer, HasRows, HasEach, AgreeAt, SameUnlessLacking, IsUncut};
 
 /// What a list of instructions does, by its first one. The empty list goes on, which at the end of an outline is an end with 0.
 /// A step is taken, and then the others are. An `if` puts the instructions behind its first true condition in front of the
@@ -68,6 +68,17 @@ pub fn rows_of_a_label()
 pub fn more_rows()
     ensures richer { (levels : ℕ) (library : List Definition) (table richer : Table) (kills : Kills) (n : ℕ) (name : List ℕ) (inputs : Values) → HasRows table richer → SameUnlessLacking (meaning levels library table kills n name inputs) (meaning levels library richer kills n name inputs) }
     ensures by_path { (levels : ℕ) (library : List Definition) (by_path : List (Path × JobResult)) (rows : List (Request × JobResult)) (kills : Kills) (n m : ℕ) (name : List ℕ) (inputs : Values) (t : Replayed) → meaning levels library (with_paths by_path []) kills n name inputs ≡ Gave t m → meaning levels library (with_paths by_path rows) kills n name inputs ≡ Gave t m }
+{}
+
+/// Each request that was asked for a tree has, at its path, a result in the table.
+pub fn asked_are_found()
+    ensures { (levels : ℕ) (library : List Definition) (table : Table) (kills : Kills) (n m : ℕ) (name : List ℕ) (inputs : Values) (t : Replayed) → meaning levels library table kills n name inputs ≡ Gave t m → HasEach table t.asked }
+{}
+
+/// A tree hangs on no other rows than those that were asked for it: a table that has the same of these gives the same tree, with the
+/// same asked, and leaves as much fuel.
+pub fn asked_alone()
+    ensures { (levels : ℕ) (library : List Definition) (table other : Table) (kills : Kills) (n m : ℕ) (name : List ℕ) (inputs : Values) (t : Replayed) → meaning levels library table kills n name inputs ≡ Gave t m → AgreeAt table other t.asked → meaning levels library other kills n name inputs ≡ Gave t m }
 {}
 
 /// With no kills nothing is killed, and none is missed.

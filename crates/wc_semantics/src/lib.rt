@@ -16,8 +16,8 @@ mod rules;
 pub use calculation_laws::calculations_use_no_offsets;
 pub use context::{bind_child, label_of, set_key};
 pub use laws::{
-    first_instruction, fuel, labels_differ, more_rows, no_offsets, one_after_another, passed_stop,
-    rows_of_a_label, without_kills,
+    asked_alone, asked_are_found, first_instruction, fuel, labels_differ, more_rows, no_offsets,
+    one_after_another, passed_stop, rows_of_a_label, without_kills,
 };
 pub use outcomes::{Parsed, calculate, calculate_job, final_status, parse_result};
 pub use progress::{

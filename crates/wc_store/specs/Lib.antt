@@ -1,3 +1,4 @@
+pub use Rattle.wc_record.specs.Spelled
 pub mod Places
 pub mod Choices
 pub mod Refusals

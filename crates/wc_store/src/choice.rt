@@ -1,6 +1,6 @@
 //! Which of two disks a store is on.
 ghost use Rattle.std.specs.Prelude.{◌≡◌, ℕ, List, None, IsTrue, IfNone, IfOk, IfErr, OnOk};
-ghost use Rattle.wc_disk.specs.Steps.{Only};
+ghost use Rattle.wc_disk.specs.Steps.{Only, IsWithin};
 ghost use Rattle.wc_disk.specs.Images.{LeavesOnly};
 ghost use Rattle.wc_journal.specs.Reading.{journal_of, no_journal, damaged};
 ghost use Rattle.wc_journal.specs.Loading.{OfImage};
@@ -13,6 +13,7 @@ use crate::error::StoreError;
 use crate::place::Place;
 use std::alloc::Global;
 use wc_disk::Disk;
+use wc_io::Failed;
 use wc_journal::{Found, Journal, JournalError, Loaded};
 
 /// What one disk is seen to be.
@@ -132,6 +133,52 @@ fn choose(first: Seen, second: Seen) -> Verdict
     }
 }
 
+/// Looks once more at disk one where it was seen to be empty and disk two wasn't. Between the two looks another program may
+/// have made a store, and packed it onto disk two and back: a file that has come to be since it was looked for is a fault.
+fn look_again<D: Disk>(disk: &mut D, first: &Seen, second: &Seen) -> Result<(), StoreError>
+    ensures seen { D.seen disk.new ≡ D.seen disk.old }
+    ensures crash { IsWithin (D.may_leave disk.old) (D.may_leave disk.new) }
+    ensures any_moment { LeavesOnly D.Disk disk.old disk.new (D.may_leave disk.old) }
+    ensures refused { IfErr result RefusesLook }
+    ensures tells { D.tells disk.new ≡ D.tells disk.old }
+    ensures cause { CountsOne result (D.faults disk.old) (D.faults disk.new) (D.failed disk.new) }
+{
+    match (first, second) {
+        (Seen::Bare(None), Seen::Broken(..) | Seen::Holding(_) | Seen::Bare(Some(_))) => {
+            match disk.len() {
+                Ok(_) => Ok(()),
+                Err(Failed) => Err(StoreError::DiskFault),
+            }
+        }
+        _ => Ok(()),
+    }
+}
+
+/// What both disks are seen to be. Both are synced first.
+fn look_at_both<D: Disk>(
+    alloc: Global,
+    one: &mut D,
+    two: &mut D,
+) -> Result<(Seen, Seen), StoreError>
+    ensures shows_one { IfOk result (λ both. OfImage D.Disk one.old (λ image. Shows image both.0)) }
+    ensures shows_two { IfOk result (λ both. OfImage D.Disk two.old (λ image. Shows image both.1)) }
+    ensures durable_one { OnOk result (Only (D.seen one.new) (D.may_leave one.new)) }
+    ensures durable_two { OnOk result (Only (D.seen two.new) (D.may_leave two.new)) }
+    ensures seen_one { D.seen one.new ≡ D.seen one.old }
+    ensures seen_two { D.seen two.new ≡ D.seen two.old }
+    ensures any_moment_one { LeavesOnly D.Disk one.old one.new (D.may_leave one.old) }
+    ensures any_moment_two { LeavesOnly D.Disk two.old two.new (D.may_leave two.old) }
+    ensures refused { IfErr result RefusesLook }
+    ensures tells_one { D.tells one.new ≡ D.tells one.old }
+    ensures tells_two { D.tells two.new ≡ D.tells two.old }
+    ensures cause { Counts result (D.faults one.old) (D.faults one.new) (D.faults two.old) (D.faults two.new) (D.failed one.new) (D.failed two.new) }
+{
+    let first = look(alloc, one)?;
+    let second = look(alloc, two)?;
+    look_again(one, &first, &second)?;
+    Ok((first, second))
+}
+
 /// The disk that the store is on, with its journal and batches, or none where there is no store. Both disks are
 /// synced first.
 pub fn find_store<D: Disk>(
@@ -154,8 +201,7 @@ pub fn find_store<D: Disk>(
     ensures tells_two { D.tells two.new ≡ D.tells two.old }
     ensures cause { Counts result (D.faults one.old) (D.faults one.new) (D.faults two.old) (D.faults two.new) (D.failed one.new) (D.failed two.new) }
 {
-    let first = look(alloc, one)?;
-    let second = look(alloc, two)?;
+    let (first, second) = look_at_both(alloc, one, two)?;
     match choose(first, second) {
         Verdict::NoStore => Ok(None),
         Verdict::On(place, loaded) => Ok(Some((place, loaded))),

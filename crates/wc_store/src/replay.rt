@@ -3,7 +3,7 @@ ghost use Rattle.std.specs.Prelude.{◌≡◌, IfOk, IfErr, OnOk};
 ghost use Rattle.wc_journal.specs.Reading.{is_snapshot_place};
 ghost use Rattle.wc_record.specs.Reading.{whole};
 ghost use Rattle.wc_world.specs.Applied.{applied};
-ghost use Rattle.wc_world.specs.Accepted.{IsAccepted, is_in_order};
+ghost use Rattle.wc_world.specs.Accepted.{IsAccepted};
 ghost use Rattle.wc_store.specs.Held.{is_plain, suits};
 ghost use Rattle.wc_store.specs.Played.{RefusesReading, RefusesChanges, RefusesPayload, IsPlayed, stop_of, Makes, RefusesBatches, RefusesPlaying};
 
@@ -11,7 +11,7 @@ use crate::error::StoreError;
 use std::alloc::Global;
 use wc_journal::Batches;
 use wc_record::{LastLibrary, RecordError, read_changes};
-use wc_world::{Change, Changes, Played, World, WorldError};
+use wc_world::{Change, Changes, Played, World, WorldError, is_in_order};
 
 /// Why a payload isn't played.
 enum Unplayed {
@@ -41,25 +41,6 @@ fn is_plain(changes: &[Change]) -> bool
         }
     }
     true
-}
-
-/// Whether the last change is the only count, and those directly before it are the kepts.
-fn is_in_order(changes: &[Change]) -> bool
-    ensures { result ≡ is_in_order changes.now }
-{
-    let mut kept = false;
-    for (place, change) in changes.iter().enumerate() {
-        match change {
-            Change::Count(_) => return place + 1 == changes.len(),
-            Change::Kept(_) => kept = true,
-            _ => {
-                if kept {
-                    return false;
-                }
-            }
-        }
-    }
-    false
 }
 
 /// Whether changes may be a snapshot, or another batch.

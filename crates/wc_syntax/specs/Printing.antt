@@ -1,8 +1,8 @@
 -- The printed text of a library: each item on a line of its own, indented by two spaces an open brace.
 use Rattle.std.specs.Prelude.{ℕ, ◌==◌, Bool, true, false, if◌then◌else◌, List, [], ◌∷◌, ◌++◌, flat_map, codes, Option, Some, None}
 use Rattle.std.specs.Fmt.{signed_decimal}
-use Rattle.wc_value.specs.declared.value.Kind.{Kind}
-use Rattle.wc_value.specs.declared.value.Kind.TheVariants as kind
+use Rattle.wc_lexer.specs.Kind.{Kind}
+use Rattle.wc_lexer.specs.Kind.TheVariants as kind
 use Rattle.wc_syntax.specs.declared.expression.Name.{Name}
 use Rattle.wc_syntax.specs.declared.expression.Quoted.{Quoted}
 use Rattle.wc_syntax.specs.declared.expression.Number.{Number}

@@ -13,7 +13,7 @@ use crate::printing::print_definition;
 use std::alloc::{AllocError, Global};
 use std::marker::Model;
 use std::rc::Rc;
-use wc_value::{Text, Words};
+use wc_lexer::{Text, Words};
 
 /// A checked library with the printed text of each of its definitions. Contracts see it as the library, with its offsets.
 #[derive(Drop)]

@@ -2,7 +2,7 @@
 
 use crate::expression::{Expr, Name, Number, Quoted};
 use crate::outline::Block;
-use wc_value::{Kind, List};
+use wc_lexer::{Kind, List};
 
 /// The definitions of a file, in order.
 pub type Library = List<Definition>;

@@ -1,6 +1,6 @@
 //! Names, literals and expressions.
 
-use wc_value::{Boxed, List, Text};
+use wc_lexer::{Boxed, List, Text};
 
 /// A name: a letter or `_`, then letters, digits and `_`.
 #[derive(Drop)]

@@ -20,7 +20,7 @@ pub use definition::{
 pub use expression::{
     BinaryOp, ChildPart, Expr, Exprs, Form, Name, Number, OneOf, Quoted, TwoOf, UnaryOp,
 };
-pub use lookup::{find_definition, head};
+pub use lookup::{find_definition, head, is_among};
 pub use outline::{
     Arm, Arms, Block, CallArg, CallArgs, CallStmt, Instr, Instrs, Step, Stmt, Stmts,
 };

@@ -1,11 +1,11 @@
-//! Definitions by name.
+//! Definitions by name, and names among others.
 
 ghost use Rattle.std.specs.Prelude.{◌≡◌};
 ghost use Rattle.std.specs.Option.{option_copied};
-ghost use Rattle.wc_syntax.specs.Findings.{head_of, definition_named};
+ghost use Rattle.wc_syntax.specs.Findings.{head_of, definition_named, is_among};
 
 use crate::definition::{Definition, Head, Library};
-use wc_value::Text;
+use wc_lexer::{Text, Words};
 
 /// What a definition begins with.
 pub fn head(definition: &Definition) -> &Head
@@ -28,4 +28,16 @@ pub fn find_definition<'a>(library: &'a Library, name: &Text) -> Option<&'a Defi
         }
     }
     None
+}
+
+/// Whether a name is one of these.
+pub fn is_among(name: &Text, names: &Words) -> bool
+    ensures { result ≡ is_among name.now names.now }
+{
+    for one in names.as_slice() {
+        if one.bytes() == name.bytes() {
+            return true;
+        }
+    }
+    false
 }

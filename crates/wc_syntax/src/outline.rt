@@ -2,7 +2,7 @@
 
 use crate::definition::Exit;
 use crate::expression::{Expr, Name, Number};
-use wc_value::List;
+use wc_lexer::List;
 
 /// Statements in the order of the file.
 pub type Stmts = List<Stmt>;

@@ -12,7 +12,7 @@ mod outlines;
 use crate::definition::{Definition, Library};
 use definitions::put_definition;
 use std::alloc::{AllocError, Global};
-use wc_value::Text;
+use wc_lexer::Text;
 
 /// The printed text of a library. It reads back as the same library but for offsets, and comments aren't kept.
 pub fn print(alloc: Global, library: &Library) -> Result<Text, AllocError>

@@ -7,8 +7,9 @@ use std::process::ExitCode;
 use wc_disk::{Disk, MemoryDisk};
 use wc_engine::serve;
 use wc_io::{MemoryShelf, Pacer, Shelf, Sink};
-use wc_player::{Clock, Finding, Outside, Program, Report, Sipping, Verdict, play};
-use wc_transcript::{Transcript, read_transcripts};
+use wc_player::{
+    Clock, Finding, Outside, Program, Report, Sipping, Transcript, Verdict, play, read_transcripts,
+};
 use wc_transport::Transport;
 use wc_value::Words;
 

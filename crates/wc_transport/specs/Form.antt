@@ -1,5 +1,5 @@
 -- What a transport in memory holds.
-use Rattle.std.specs.Prelude.{◌≡◌, ◌≢◌, ◌≤◌, ◌==◌, ◌-◌, ◌^◌, min, ℕ, List, Option, Some, None, true, false, unwrap_or}
+use Rattle.std.specs.Prelude.{◌≡◌, ◌≢◌, ◌≤◌, ◌==◌, ◌-◌, ◌^◌, min, ℕ, List, [], Option, Some, None, true, false, unwrap_or}
 use Rattle.std.specs.List.{Contains}
 use Rattle.std.specs.Map.{lookup}
 use Rattle.std.specs.Ordering.{nat_cmp}
@@ -49,3 +49,9 @@ abbrev pub IsHeld : Request → Option Request → Held → Type 0
 IsHeld q held Nothing = held ≡ None
 IsHeld q held This = held ≡ Some q
 IsHeld q held Another = HoldsAnother q held
+
+-- no call is listed to fail, no fuse is set, and no directory is busy
+pub record IsObliging (t : TableTransport) : Type 0 where
+  pub listed : t.schedule.failing ≡ []
+  pub fuse : t.schedule.fuse ≡ None
+  pub busy : t.busy ≡ []

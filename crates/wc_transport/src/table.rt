@@ -180,7 +180,7 @@ impl TableTransport {
 
 impl Transport for TableTransport {
     ghost use Rattle.std.specs.Prelude.{Some, true};
-    ghost use Rattle.wc_transport.specs.Form.{placed_at, asked_of, IsFinished};
+    ghost use Rattle.wc_transport.specs.Form.{placed_at, asked_of, IsFinished, IsObliging};
 
     ghost table = { λ t. Some t.table };
 
@@ -193,6 +193,8 @@ impl Transport for TableTransport {
     ghost asked = { asked_of };
 
     ghost gave = { λ _ _ _ _ _. Unit {0} };
+
+    ghost obliging = { IsObliging };
 
     ghost faults = { λ t. t.schedule.faults };
 

@@ -6,6 +6,7 @@ ghost use Rattle.wc_state.specs.declared.record.Task.TheVariants as task;
 ghost use Rattle.wc_value.specs.declared.process.Request.{Request};
 ghost use Rattle.wc_value.specs.declared.process.JobResult.{JobResult};
 ghost use Rattle.wc_transport.specs.Outside.{Reply, task_reply, update_reply, retrieve_reply, CountsTaskFault, WhereTold, BothTold, Places, Stays, Holds, IsRow, OnDone};
+ghost use Rattle.wc_transport.specs.Obliging.{IsObliged};
 
 use crate::error::TaskError;
 use std::alloc::Global;
@@ -43,6 +44,9 @@ pub trait Transport {
     /// What a call for a directory, of a kind and with a request answered. Of this relation nothing else is known.
     ghost gave: { Self → ℕ → Task → Request → Reply → Type 0 };
 
+    /// It fails no call that the rules don't refuse, and a program that it starts has ended, if its table has the request.
+    ghost obliging: { Self → Type 0 };
+
     /// How often a call has failed.
     ghost faults: { Self → ℕ };
 
@@ -54,6 +58,8 @@ pub trait Transport {
         ensures tells_finished { tells_finished self.new ≡ tells_finished self.old }
         ensures asked { RisesByOne (asked self.old) (asked self.new) }
         ensures gave { gave self.new dir task.Upload request.now (task_reply result) }
+        ensures obliging { obliging self.old
+            → obliging self.new × IsObliged (table self.old) (placed self.old) (finished self.old) (finished self.new) dir task.Upload request.now (task_reply result) }
         ensures cause { CountsTaskFault result (faults self.old) (faults self.new) };
 
     /// Starts the program, once.
@@ -65,6 +71,8 @@ pub trait Transport {
         ensures tells_finished { tells_finished self.new ≡ tells_finished self.old }
         ensures asked { RisesByOne (asked self.old) (asked self.new) }
         ensures gave { gave self.new dir task.Submit request.now (task_reply result) }
+        ensures obliging { obliging self.old
+            → obliging self.new × IsObliged (table self.old) (placed self.old) (finished self.old) (finished self.new) dir task.Submit request.now (task_reply result) }
         ensures cause { CountsTaskFault result (faults self.old) (faults self.new) };
 
     /// Whether the program has ended: done only for a finished directory.
@@ -77,6 +85,8 @@ pub trait Transport {
         ensures tells_finished { tells_finished self.new ≡ tells_finished self.old }
         ensures asked { RisesByOne (asked self.old) (asked self.new) }
         ensures gave { gave self.new dir task.Update request.now (update_reply result) }
+        ensures obliging { obliging self.old
+            → obliging self.new × IsObliged (table self.old) (placed self.old) (finished self.old) (finished self.new) dir task.Update request.now (update_reply result) }
         ensures cause { CountsTaskFault result (faults self.old) (faults self.new) };
 
     /// Brings back the result of a finished directory. Where the table is told it is the table's.
@@ -95,5 +105,7 @@ pub trait Transport {
         ensures tells_finished { tells_finished self.new ≡ tells_finished self.old }
         ensures asked { RisesByOne (asked self.old) (asked self.new) }
         ensures gave { gave self.new dir task.Retrieve request.now (retrieve_reply result) }
+        ensures obliging { obliging self.old
+            → obliging self.new × IsObliged (table self.old) (placed self.old) (finished self.old) (finished self.new) dir task.Retrieve request.now (retrieve_reply result) }
         ensures cause { CountsTaskFault result (faults self.old) (faults self.new) };
 }

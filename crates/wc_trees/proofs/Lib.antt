@@ -1,3 +1,4 @@
 pub mod Linking
 pub mod Names
 pub mod TreeLaws
+mod Valued

@@ -17,3 +17,4 @@ pub mod Chains
 pub mod Spelt
 pub mod Readback
 pub mod Variants
+pub mod Draws

@@ -7,3 +7,4 @@ pub mod Kinds
 pub mod Requests
 pub mod Refusals
 pub mod Reading
+pub mod Draws

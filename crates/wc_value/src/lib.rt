@@ -9,6 +9,7 @@ mod copies;
 mod duplicate;
 mod encoding;
 mod equality;
+mod generator;
 mod keyed;
 mod laws;
 mod limits;
@@ -28,6 +29,7 @@ pub use equality::{
     same_bytes, same_fields, same_files, same_request, same_result, same_state, same_text,
     same_tree, same_value, same_values, same_words,
 };
+pub use generator::Generator;
 pub use keyed::Keyed;
 pub use laws::{no_spelling_begins_another, one_request, one_spelling, refusals_come_first};
 pub use limits::{is_within, is_within_depth};

@@ -16,10 +16,9 @@ use Rattle.wc_world.specs.World.{World}
 use Rattle.wc_world.specs.Consistent.{IsConsistent}
 use Rattle.wc_world.specs.Records.{find_record}
 use Rattle.wc_world.proofs.ReachedLists.{cond_some_cases, found_node, unique}
-use Rattle.wc_machine.specs.Created.{IsCreatedByInputs}
 use Rattle.wc_machine.specs.Recorded.{HasResult, recorded_request}
-use Rattle.wc_laws.specs.Results.{HasResultsByRequest}
-use Rattle.wc_verify.specs.Faults.{Disagree, IsLeastDisagreement, IsNotAfter}
+use Rattle.wc_machine.specs.Results.{HasResultsByRequest}
+use Rattle.wc_verify.specs.Faults.{Disagree, HaveOneOrigin, IsLeastDisagreement, IsNotAfter}
 use Rattle.wc_verify.specs.declared.firsts.Firsts.{Firsts}
 use Rattle.wc_verify.specs.Firsts.{AreBelow, AreFirsts, IsPair, IsPairOrNone, Noted, Settles, Stands}
 use Rattle.wc_verify.specs.Givers.{AreLastGivers, result_giver}
@@ -183,7 +182,7 @@ taken_pair : (ns : List Noted) (l : Option (ℕ × ℕ)) (p : ℕ × ℕ) → l 
 taken_pair ns None p e h = absurd (cc)
 taken_pair ns (Some q) p e h = let same : q ≡ p = cc in subst (IsPair ns) same h
 
-module _ (w : World) (c : IsConsistent w) (created : IsCreatedByInputs w) (lasts : List ℕ) (are : AreLastGivers result_giver w lasts) (firsts : Firsts)
+module _ (w : World) (c : IsConsistent w) (origins : HaveOneOrigin w) (lasts : List ℕ) (are : AreLastGivers result_giver w lasts) (firsts : Firsts)
     (h : HaveNoted w w.records firsts) where
   found : (r : ProcessRecord) → IsAmong r w.records → find_record r.node w.records ≡ Some r
   found r t = all_among (λ x. find_record x.node w.records ≡ Some x) w.records r (unique 1 w.nodes w.records c.numbered) t
@@ -217,7 +216,7 @@ module _ (w : World) (c : IsConsistent w) (created : IsCreatedByInputs w) (lasts
   pub by_request : firsts.least ≡ None → HasResultsByRequest w
   by_request none r s r_there s_there q x y r_asks s_asks r_has s_has =
       elim (cases_eq r.node s.node) [
-        | inl e ↦ one_result w c created lasts are r r_there x y r_has (subst (λ (n : ℕ). HasResult w n y) (sym e) s_has)
+        | inl e ↦ one_result w c origins lasts are r r_there x y r_has (subst (λ (n : ℕ). HasResult w n y) (sym e) s_has)
         | inr ne ↦ elim (either r.node s.node ne) [
           | inl less ↦
               let a = alike r s q x y r_there s_there r_asks s_asks r_has s_has in

@@ -5,6 +5,6 @@ mod Noting
 mod Given
 mod Lasts
 mod Wrong
-mod Results
+pub mod Results
 mod Disagreeing
 pub mod Unique

@@ -21,6 +21,7 @@ use Rattle.wc_machine.specs.Recorded as recorded
 use Rattle.wc_machine.proofs.AcceptedEnds.{live_without_output}
 use Rattle.wc_machine.proofs.CreatedOutputs.{without_output}
 use Rattle.wc_machine.proofs.Frames.{outputs_untouched}
+use Rattle.wc_verify.specs.Faults.{HaveOneOrigin}
 use Rattle.wc_verify.specs.Givers.{AreLastGivers, giver_at, if_job, number_at, number_or, own_result, own_result_by, result_giver}
 use Rattle.wc_verify.proofs.Given.{alive_is, found_itself, no_own_source, not_killed, one_found, stands}
 use Rattle.wc_verify.proofs.Lasts.{along_lasts, last_own, may_give_result}
@@ -44,17 +45,21 @@ module _ (w : World) (pid : ℕ) (r : ProcessRecord) (found : find_record pid w.
   given_one p (no_request q j reason f live none d bare asked) s c =
       let e : q.cached_from ≡ r.cached_from = ap (λ (x : ProcessRecord). x.cached_from) (one_found (find_record q.node w.records) r q found f) in absurd (cc (e, none, c))
 
-module _ (w : World) (c : IsConsistent w) (created : IsCreatedByInputs w) where
+-- where all that is created is created by its inputs, a job that took another's outcome keeps no exit code
+pub created_have_one : (w : World) → IsCreatedByInputs w → HaveOneOrigin w
+created_have_one w created = record {
+  bare = λ r found is_job over source from.
+      let g : IsGiven w r = found_holds (λ q. is_calculation q.kind ≡ true → has_ended q.state ≡ true → IsGiven w q) r.node w.records r created.ended found (ap is_calculation is_job) over in
+      given_one w r.node r found is_job g.0 g.1 source from;
+}
+
+module _ (w : World) (c : IsConsistent w) (origins : HaveOneOrigin w) where
   no_own : (r : ProcessRecord) (source : ℕ) (code : ℤ) (files : Contents) → find_record r.node w.records ≡ Some r → r.kind ≡ kind.Job → r.cached_from ≡ Some source
       → r.code ≡ Some code → retrieved_folder w r.node ≡ Some files → ⊥
   no_own r source code files found is_job from has folder = at (has_ended r.state) refl
     where
       at : (b : Bool) → has_ended r.state ≡ b → ⊥
-      at true over =
-          let g : IsGiven w r = found_holds (λ q. is_calculation q.kind ≡ true → has_ended q.state ≡ true → IsGiven w q) r.node w.records r created.ended found
-          (ap is_calculation is_job) over in
-          let none : r.code ≡ None = given_one w r.node r found is_job g.0 g.1 source from in
-          absurd (cc (none, has))
+      at true over = let none : r.code ≡ None = origins.bare r found is_job over source from in absurd (cc (none, has))
       at false live = let none : retrieved_folder w r.node ≡ None = no_folder w c r found live in absurd (cc (none, folder))
 
   -- ---- one step

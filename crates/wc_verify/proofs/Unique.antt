@@ -9,7 +9,7 @@ use Rattle.wc_world.proofs.ReachedLists.{found_node}
 use Rattle.wc_machine.specs.Created.{IsCreatedByInputs}
 use Rattle.wc_machine.specs.Recorded.{HasResult}
 use Rattle.wc_machine.specs.Sound.{IsSound}
-use Rattle.wc_laws.specs.Results.{HasResultsByRequest}
+use Rattle.wc_machine.specs.Results.{HasResultsByRequest}
 use Rattle.wc_verify.specs.Faults.{Disagree, IsLeastDisagreement, IsLeastOnCycle, IsLowestWrong, IsNotAfter, IsRight}
 use Rattle.wc_verify.proofs.Disagreeing.{either}
 

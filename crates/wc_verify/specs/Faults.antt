@@ -5,12 +5,13 @@ use Rattle.wc_value.specs.declared.process.Request.{Request}
 use Rattle.wc_expression.specs.declared.outcome.Outcome.TheVariants.{Gives}
 use Rattle.wc_graph.specs.declared.link.Link.{Link}
 use Rattle.wc_graph.specs.Walks.{Leads, Reaches, IsAcyclic, data_types}
+use Rattle.wc_state.specs.declared.record.ProcessKind.TheVariants as kind
 use Rattle.wc_state.specs.declared.record.ProcessRecord.{ProcessRecord}
 use Rattle.wc_world.specs.World.{World}
 use Rattle.wc_world.specs.Records.{find_record, has_ended, is_calculation}
 use Rattle.wc_machine.specs.Created.{IsGiven, IsCreatedByInputs}
 use Rattle.wc_machine.specs.Recorded.{recorded_request, HasResult}
-use Rattle.wc_laws.specs.Results.{HasResultsByRequest}
+use Rattle.wc_machine.specs.Results.{HasResultsByRequest}
 
 -- ---- cycles
 
@@ -40,6 +41,11 @@ IsLowestWrong w (Some pid) =
     ((r : ProcessRecord) × (find_record pid w.records ≡ Some r) × IsWrong w r) × All (λ q. q.node < pid → IsRight w q) w.records
 
 -- ---- results
+
+-- An ended job that took another's outcome keeps no exit code of its own. So a job has at most one recorded result.
+pub record HaveOneOrigin (w : World) : Type 0 where
+  pub bare : (r : ProcessRecord) → find_record r.node w.records ≡ Some r → r.kind ≡ kind.Job → has_ended r.state ≡ true
+      → (source : ℕ) → r.cached_from ≡ Some source → r.code ≡ None
 
 -- two jobs, in order of their numbers, have equal requests and different recorded results
 pub record Disagree (w : World) (p q : ℕ) : Type 0 where

@@ -5,9 +5,8 @@ ghost use Rattle.std.specs.Option.{option_copied};
 ghost use Rattle.wc_value.specs.declared.process.JobResult.{JobResult};
 ghost use Rattle.wc_state.specs.declared.record.ProcessRecord.{ProcessRecord};
 ghost use Rattle.wc_world.specs.Records.{find_record};
-ghost use Rattle.wc_machine.specs.Created.{IsCreatedByInputs};
 ghost use Rattle.wc_machine.specs.Recorded.{HasResult, recorded_request, request_by};
-ghost use Rattle.wc_verify.specs.Faults.{IsLeastDisagreement};
+ghost use Rattle.wc_verify.specs.Faults.{HaveOneOrigin, IsLeastDisagreement};
 ghost use Rattle.wc_verify.specs.Givers.{AreLastGivers, own_result, result_giver};
 ghost use Rattle.wc_verify.specs.Noted.{AreBytesOf, HaveNoted};
 
@@ -15,11 +14,11 @@ use crate::firsts::Firsts;
 use crate::givers::last_result_givers;
 use crate::recorded::retrieved_folder;
 use std::alloc::{AllocError, Global};
-use wc_cache::{definition_of, recorded_inputs};
 use wc_expression::Outcome;
 use wc_semantics::request_of;
 use wc_state::{ProcessKind, ProcessRecord};
 use wc_syntax::Definition;
+use wc_trees::{definition_of, recorded_inputs};
 use wc_value::{Bytes, Fields, JobResult, encode_request};
 use wc_world::{World, reached_worlds_are_consistent};
 
@@ -53,7 +52,7 @@ fn result_of(
 ) -> Result<Option<JobResult>, AllocError>
     requires lasts { AreLastGivers result_giver world.now.world lasts.now }
     requires found { find_record process.now.node world.now.world.records ≡ Some process.now }
-    requires created { IsCreatedByInputs world.now.world }
+    requires origins { HaveOneOrigin world.now.world }
     ensures { IfOk result (λ found. (x : JobResult) → HasResult world.now.world process.now.node x ↔ (found ≡ Some x)) }
 {
     // A reached world is consistent, so that the numbers of processes are those of nodes.
@@ -101,7 +100,7 @@ fn note_process(
 ) -> Result<(), AllocError>
     requires lasts { AreLastGivers result_giver world.now.world lasts.now }
     requires found { find_record process.now.node world.now.world.records ≡ Some process.now }
-    requires created { IsCreatedByInputs world.now.world }
+    requires origins { HaveOneOrigin world.now.world }
     ensures { OnOk result ((rs : List ProcessRecord) → All (λ r. r.node < process.now.node) rs → HaveNoted world.now.world rs firsts.old
         → HaveNoted world.now.world (rs ++ process.now ∷ []) firsts.new) }
 {
@@ -116,8 +115,9 @@ fn note_process(
 
 /// The least two jobs with equal requests and different recorded results, if there are such.
 pub fn find_disagreement(alloc: Global, world: &World) -> Result<Option<(u32, u32)>, AllocError>
-    // What `find_wrong_value` tells: so each job has at most one recorded result.
-    requires { IsCreatedByInputs world.now.world }
+    // So each job has at most one recorded result. It holds where nothing took another's outcome, and where all that is created
+    // is created by its inputs, as `find_wrong_value` tells.
+    requires { HaveOneOrigin world.now.world }
     ensures { IfOk result (IsLeastDisagreement world.now.world) }
 {
     // A reached world is consistent, so that its records ascend by their numbers.

@@ -16,7 +16,7 @@ pub(crate) struct First {
 
 /// The first jobs by the bytes of what they asked, and the least two that asked the same and have different results.
 #[derive(Drop)]
-pub(crate) struct Firsts {
+pub struct Firsts {
     by_request: BTreeMap<Vec<u8>, First>,
     least: Option<(u32, u32)>,
 }
@@ -49,7 +49,7 @@ fn least_after(least: Option<(u32, u32)>, first: u32, same: bool, second: u32) -
 
 impl Firsts {
     /// Before any job.
-    pub(crate) fn new(alloc: Global) -> Firsts
+    pub fn new(alloc: Global) -> Firsts
         ensures { AreFirsts [] result }
     {
         Firsts {
@@ -59,12 +59,7 @@ impl Firsts {
     }
 
     /// Notes what a job asked and its result. The number of the job is greater than those of the ones before.
-    pub(crate) fn note(
-        &mut self,
-        request: Vec<u8>,
-        pid: u32,
-        given: JobResult,
-    ) -> Result<(), AllocError>
+    pub fn note(&mut self, request: Vec<u8>, pid: u32, given: JobResult) -> Result<(), AllocError>
         ensures { OnOk result ((seen : List Noted) → AreBelow pid seen → AreFirsts seen self.old
             → AreFirsts (seen ++ record { pid = pid; asked = request.items; result = given } ∷ []) self.new) }
     {
@@ -78,7 +73,7 @@ impl Firsts {
     }
 
     /// The least two jobs that asked the same and have different results.
-    pub(crate) fn least(&self) -> Option<(u32, u32)>
+    pub fn least(&self) -> Option<(u32, u32)>
         ensures { result ≡ self.now.least }
     {
         self.least

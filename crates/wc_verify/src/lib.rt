@@ -13,5 +13,6 @@ mod values;
 
 pub use cycle::find_cycle;
 pub use disagreement::find_disagreement;
+pub use firsts::Firsts;
 pub use laws::{found_faults_are_one, sound_worlds_have_no_fault};
 pub use values::find_wrong_value;

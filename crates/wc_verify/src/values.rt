@@ -12,12 +12,12 @@ ghost use Rattle.wc_verify.specs.Givers.{AreLastGivers, HasOutcome, given_alone,
 use crate::givers::{is_killed, keeps_code, last_givers};
 use crate::recorded::{recorded_outputs, retrieved_folder};
 use std::alloc::{AllocError, Global};
-use wc_cache::{definition_of, recorded_inputs};
 use wc_expression::Outcome;
 use wc_fits::is_calculation;
 use wc_semantics::{Parsed, calculate, parse_result, request_of};
 use wc_state::ProcessRecord;
 use wc_syntax::{Definition, Job};
+use wc_trees::{definition_of, recorded_inputs};
 use wc_value::{Fields, Files, JobResult, ProcessState, same_fields, same_state};
 use wc_world::{World, has_ended, reached_worlds_are_consistent};
 

@@ -1,5 +1,5 @@
-pub use Rattle.wc_fits.proofs.FoundRecords
-pub use Rattle.wc_fits.proofs.Definitions
+pub use Rattle.wc_keys.proofs.FoundRecords
+pub use Rattle.wc_keys.proofs.Definitions
 pub mod Snapshot
 pub mod SnapshotForm
 pub mod SnapshotLists

@@ -7,7 +7,7 @@ use Rattle.wc_world.specs.declared.change.Change.{Change}
 use Rattle.wc_world.specs.World.{World, Known}
 use Rattle.wc_world.specs.Accepted.{Setting, Fits}
 use Rattle.wc_world.specs.Room.{Room}
-pub use Rattle.wc_fits.specs.Records.{Ascend}
+pub use Rattle.wc_keys.specs.Records.{Ascend}
 
 -- records, with how many further ones take no memory
 abbrev pub RoomyRecords : Type 0

@@ -1,7 +1,7 @@
-pub use Rattle.wc_fits.specs.World
-pub use Rattle.wc_fits.specs.Records
-pub use Rattle.wc_fits.specs.Blocks
-pub use Rattle.wc_fits.specs.Fits
+pub use Rattle.wc_keys.specs.World
+pub use Rattle.wc_keys.specs.Records
+pub use Rattle.wc_keys.specs.Blocks
+pub use Rattle.wc_keys.specs.Fits
 pub mod Applied
 pub mod Accepted
 pub mod Room

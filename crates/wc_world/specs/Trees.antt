@@ -14,7 +14,7 @@ use Rattle.wc_state.specs.declared.record.Part.TheVariants as part
 use Rattle.wc_state.specs.declared.record.ProcessRecord.{ProcessRecord}
 use Rattle.wc_world.specs.World.{World}
 use Rattle.wc_world.specs.Records.{find_record, is_call_from}
-pub use Rattle.wc_fits.specs.Values.{data_of, value_of, NamedValues, with_value, inputs_after, inputs_of, outputs_after, outputs_of, values_alone}
+pub use Rattle.wc_keys.specs.Values.{data_of, value_of, NamedValues, with_value, inputs_after, inputs_of, outputs_after, outputs_of, values_alone}
 
 -- ---- trees
 

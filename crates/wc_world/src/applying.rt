@@ -17,9 +17,8 @@ ghost use Rattle.wc_keys.specs.Order.{AreSealsOf};
 use crate::change::{Change, Changes};
 use crate::world::{Known, Libraries, World};
 use std::alloc::{AllocError, Global};
-use wc_fits::{caller_of, node_of_kind};
 use wc_graph::{Graph, Link, NodeKind};
-use wc_keys::{Seals, seal, unseal};
+use wc_keys::{Seals, caller_of, node_of_kind, seal, unseal};
 use wc_records::{NewProcess, Records, SetProcess};
 
 /// How many items changes add.

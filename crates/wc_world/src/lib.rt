@@ -28,6 +28,7 @@ pub use laws::{
     snapshots_give_the_world,
 };
 pub use played::Played;
+pub use snapshots::is_in_order;
 pub use wc_keys::Sealed;
 pub use wc_records::{Kept, NewProcess, Records, SetProcess, has_ended};
 pub use world::{Known, Libraries, World};

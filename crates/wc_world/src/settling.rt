@@ -5,7 +5,7 @@ ghost use Rattle.wc_world.specs.Fits.{unsettled};
 ghost use Rattle.wc_world.specs.Drafts.{drafted, Ascends, AreSettledBut, is_unsettled, is_last, lesser, with_one, least_from};
 
 use crate::draft::Draft;
-use wc_fits::is_settled;
+use wc_keys::is_settled;
 
 /// The lesser of a number, where there is one, and another.
 fn lesser(least: Option<u32>, pid: u32) -> Option<u32>

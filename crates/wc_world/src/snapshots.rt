@@ -57,7 +57,7 @@ fn order_after(order: Order, change: &Change) -> Order
 }
 
 /// Whether the last change is the only Count, and those directly before it are the Kepts.
-pub(crate) fn is_in_order(changes: &[Change]) -> bool
+pub fn is_in_order(changes: &[Change]) -> bool
     ensures { result ≡ is_in_order changes.now }
 {
     let mut order = Order::Others;

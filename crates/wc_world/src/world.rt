@@ -12,8 +12,8 @@ ghost use Rattle.wc_world.specs.Keys.{digest_at};
 
 use std::alloc::Global;
 use std::marker::Model;
-pub use wc_fits::{Known, Libraries};
 use wc_graph::Graph;
+pub use wc_keys::{Known, Libraries};
 use wc_keys::{Sealed, Seals};
 use wc_records::Records;
 use wc_state::ProcessRecord;

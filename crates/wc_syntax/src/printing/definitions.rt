@@ -12,7 +12,7 @@ use crate::printing::expressions::{put_expr, put_number, put_quoted, put_separat
 use crate::printing::lines::{put_exit, put_set, put_setting};
 use crate::printing::outlines::{put_block, put_closing};
 use std::alloc::{AllocError, Global};
-use wc_value::Kind;
+use wc_lexer::Kind;
 
 /// The spaces before a line in the braces of a definition.
 const INSIDE: &str = "  ";

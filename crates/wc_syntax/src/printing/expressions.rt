@@ -8,7 +8,7 @@ use crate::expression::{
     BinaryOp, ChildPart, Expr, Exprs, Form, Name, Number, OneOf, Quoted, TwoOf, UnaryOp,
 };
 use std::alloc::{AllocError, Global};
-use wc_value::Boxed;
+use wc_lexer::Boxed;
 
 /// Writes a character of a text as it stands between quotes.
 #[tactic(auto, using(crate::proofs::Escapes::escaped_char, crate::proofs::Escapes::plain_char))]

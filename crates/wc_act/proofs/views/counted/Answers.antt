@@ -1,8 +1,12 @@
 use Rattle.std.proofs.Common.{◌≡◌, length, sym, ap, subst, ◌∙◌}
 use Rattle.wc_report.specs.Lines.{verified_text}
 use Rattle.wc_plan.specs.Replies.{prints}
+use Rattle.wc_verify.proofs.Results.{created_have_one}
 use Rattle.wc_act.specs.Views.{Verifies, verified}
 use Rattle.wc_act.proofs.views.counted.Goals as goal
+
+pub find_disagreement-requires : goal.find_disagreement-requires
+find_disagreement-requires c = created_have_one c.args.world.now.world c.requires.created
 
 pub returns : goal.returns
 returns c =

@@ -1,5 +1,5 @@
 use Rattle.std.proofs.Common.{ℕ, ◌/◌, ◌%◌, ap, ◌∙◌}
-use Rattle.wc_disk.specs.Noise.{drawn}
+use Rattle.wc_value.specs.Draws.{drawn}
 use Rattle.wc_drill.proofs.Drawing.{first_drawn, second_drawn, then_holds}
 use Rattle.wc_drill.proofs.numbers.next_numbers.Goals as goal
 

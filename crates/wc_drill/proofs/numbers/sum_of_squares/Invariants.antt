@@ -1,5 +1,5 @@
 use Rattle.std.proofs.Common.{◌≡◌, ◌≤◌, ◌*◌}
-use Rattle.wc_disk.specs.Noise.{after_draws}
+use Rattle.wc_value.specs.Draws.{after_draws}
 use Rattle.wc_drill.specs.Draws.{sum_of_squares}
 use Rattle.wc_drill.proofs.numbers.sum_of_squares.Given as goal
 

@@ -4,7 +4,7 @@ use Rattle.wc_syntax.specs.declared.outline.Arm.{Arm, out-Arm}
 use Rattle.wc_syntax.specs.declared.outline.Instr.{Instr}
 use Rattle.wc_syntax.specs.declared.outline.Instr.TheVariants as instr
 use Rattle.wc_machine.specs.Outlines.{blocks, blocks_in}
-use Rattle.wc_laws.proofs.Numbering.{blocks_are}
+use Rattle.wc_turn_laws.proofs.Numbering.{blocks_are}
 use Rattle.wc_outline.specs.Places.{behind, arm_blocks}
 use Rattle.wc_outline.proofs.Gathered.{map_put, flat_turn, flat_whole, two, on_ok}
 use Rattle.wc_outline.proofs.Opened.{blocks_some, blocks_none}

@@ -1,8 +1,7 @@
 use Rattle.std.proofs.Common.{◌≡◌, ◌≤◌, ◌∙◌, ℕ, Bool, length, ap, sym, subst}
 use Rattle.std.specs.Prelude.{nat_lt}
 use Rattle.wc_records.specs.Marked.{marked}
-use Rattle.wc_records.specs.Readiness.{is_ready}
-use Rattle.wc_readiness.specs.Readiness.{is_ready_past}
+use Rattle.wc_records.specs.Readiness.{is_ready, is_ready_past}
 use Rattle.wc_records.proofs.Passed.{past_is_ready}
 use Rattle.wc_records.proofs.index.recount.Goals as goal
 

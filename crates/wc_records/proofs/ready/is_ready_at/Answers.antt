@@ -1,7 +1,7 @@
 use Rattle.std.proofs.Common.{◌≡◌, ℕ, ◌∙◌, List, get_or, ap, sym}
 use Rattle.std.proofs.lemmas.List.{get_or-map}
 use Rattle.wc_state.specs.declared.record.ProcessRecord.{ProcessRecord}
-use Rattle.wc_readiness.specs.Readiness.{is_ready_past}
+use Rattle.wc_records.specs.Readiness.{is_ready_past}
 use Rattle.wc_records.specs.Index.{passed_by}
 use Rattle.wc_records.specs.Ready.{is_ready_by}
 use Rattle.wc_records.proofs.Halving.{found_there, found_nowhere}

@@ -29,7 +29,7 @@ returns-in-Some c =
     let consistent = c.reached_worlds_are_consistent.ensures w c.graph.ensures.reached in
     IfOk-weaker c.own_result.result (λ own. own ≡ own_result w last) (λ found. (x : _) → HasResult w process.node x ↔ (found ≡ Some x))
     (λ own e x.
-    let exactly = result_exactly w consistent c.requires.created c.args.lasts.now c.requires.lasts process c.requires.found last (sym c.record_of.ensures ∙ ap option_copied c.in-Some.is) x in
+    let exactly = result_exactly w consistent c.requires.origins c.args.lasts.now c.requires.lasts process c.requires.found last (sym c.record_of.ensures ∙ ap option_copied c.in-Some.is) x in
     (λ has. e ∙ exactly.0 has, λ is. exactly.1 (sym e ∙ is)))
     c.own_result.ensures
 
@@ -38,6 +38,6 @@ returns-in-None c =
     let w = c.args.world.now.world in
     let consistent = c.reached_worlds_are_consistent.ensures w c.graph.ensures.reached in
     λ x. (
-      λ has. absurd (no_result w consistent c.requires.created c.args.lasts.now c.requires.lasts c.args.process.now c.requires.found (sym c.record_of.ensures ∙ ap option_copied c.in-None.is) x has),
+      λ has. absurd (no_result w consistent c.requires.origins c.args.lasts.now c.requires.lasts c.args.process.now c.requires.found (sym c.record_of.ensures ∙ ap option_copied c.in-None.is) x has),
       λ is. absurd (cc),
     )

@@ -1,5 +1,0 @@
-use Rattle.wc_laws.proofs.Parts.{events_are_plain}
-use Rattle.wc_laws.proofs.accepted.events_are_plain.Goals as goal
-
-pub returns : goal.returns
-returns c = events_are_plain

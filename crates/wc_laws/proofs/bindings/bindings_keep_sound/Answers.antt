@@ -1,5 +1,0 @@
-use Rattle.wc_laws.proofs.BindingLaw.{bindings_keep_sound}
-use Rattle.wc_laws.proofs.bindings.bindings_keep_sound.Goals as goal
-
-pub returns : goal.returns
-returns c = bindings_keep_sound

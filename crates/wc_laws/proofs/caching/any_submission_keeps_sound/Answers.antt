@@ -1,5 +1,0 @@
-use Rattle.wc_laws.proofs.Submissions.{any_submission}
-use Rattle.wc_laws.proofs.caching.any_submission_keeps_sound.Goals as goal
-
-pub returns : goal.returns
-returns c = any_submission

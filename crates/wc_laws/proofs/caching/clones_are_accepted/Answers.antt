@@ -1,5 +1,0 @@
-use Rattle.wc_laws.proofs.CachingTurns.{clones_accepted}
-use Rattle.wc_laws.proofs.caching.clones_are_accepted.Goals as goal
-
-pub returns : goal.returns
-returns c = clones_accepted

@@ -1,5 +1,0 @@
-use Rattle.wc_laws.proofs.CreatedTurns.{created_turns}
-use Rattle.wc_laws.proofs.caching.created_turns_go_well.Goals as goal
-
-pub returns : goal.returns
-returns c = created_turns

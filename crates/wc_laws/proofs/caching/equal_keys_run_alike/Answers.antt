@@ -1,5 +1,0 @@
-use Rattle.wc_laws.proofs.Keys.{equal_keys_run_alike}
-use Rattle.wc_laws.proofs.caching.equal_keys_run_alike.Goals as goal
-
-pub returns : goal.returns
-returns c = equal_keys_run_alike

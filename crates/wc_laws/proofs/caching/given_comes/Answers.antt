@@ -1,5 +1,0 @@
-use Rattle.wc_laws.proofs.Given.{outcomes_are_own}
-use Rattle.wc_laws.proofs.caching.given_comes.Goals as goal
-
-pub returns : goal.returns
-returns c = outcomes_are_own

@@ -1,5 +1,0 @@
-use Rattle.wc_laws.proofs.ChainEnds.{ends_of_chains_keep_sound}
-use Rattle.wc_laws.proofs.ends.ends_of_chains_keep_sound.Goals as goal
-
-pub returns : goal.returns
-returns c = ends_of_chains_keep_sound

@@ -1,5 +1,0 @@
-use Rattle.wc_laws.proofs.SoundEvents.{all_events_keep_sound}
-use Rattle.wc_laws.proofs.events.all_events_keep_sound.Goals as goal
-
-pub returns : goal.returns
-returns c = all_events_keep_sound

@@ -1,5 +1,0 @@
-use Rattle.wc_laws.proofs.SoundEvents.{events_keep_sound}
-use Rattle.wc_laws.proofs.events.events_keep_sound.Goals as goal
-
-pub returns : goal.returns
-returns c = events_keep_sound

@@ -1,5 +1,0 @@
-use Rattle.wc_laws.proofs.SoundEvents.{whatever_happens_is_sound}
-use Rattle.wc_laws.proofs.events.whatever_happens_is_sound.Goals as goal
-
-pub returns : goal.returns
-returns c = whatever_happens_is_sound

@@ -1,5 +1,0 @@
-use Rattle.wc_laws.proofs.Blind.{equal_trees_end_alike}
-use Rattle.wc_laws.proofs.framing.equal_trees_end_alike.Goals as goal
-
-pub returns : goal.returns
-returns c = equal_trees_end_alike

@@ -1,5 +1,0 @@
-use Rattle.wc_laws.proofs.Blind.{runs_see_numbers}
-use Rattle.wc_laws.proofs.framing.runs_see_numbers.Goals as goal
-
-pub returns : goal.returns
-returns c = runs_see_numbers

@@ -1,5 +1,0 @@
-use Rattle.wc_laws.proofs.Inside.{advances_stay_inside}
-use Rattle.wc_laws.proofs.going_on.advances_stay_inside.Goals as goal
-
-pub returns : goal.returns
-returns c = advances_stay_inside

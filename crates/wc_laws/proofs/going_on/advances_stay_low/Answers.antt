@@ -1,5 +1,0 @@
-use Rattle.wc_laws.proofs.Low.{advances_stay_low}
-use Rattle.wc_laws.proofs.going_on.advances_stay_low.Goals as goal
-
-pub returns : goal.returns
-returns c = advances_stay_low

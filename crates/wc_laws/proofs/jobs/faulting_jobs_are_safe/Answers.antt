@@ -1,5 +1,0 @@
-use Rattle.wc_laws.proofs.FaultingJobs.{faulting_jobs_safe}
-use Rattle.wc_laws.proofs.jobs.faulting_jobs_are_safe.Goals as goal
-
-pub returns : goal.returns
-returns c = faulting_jobs_safe

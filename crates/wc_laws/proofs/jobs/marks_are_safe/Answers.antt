@@ -1,5 +1,0 @@
-use Rattle.wc_laws.proofs.Marks.{marks_safe}
-use Rattle.wc_laws.proofs.jobs.marks_are_safe.Goals as goal
-
-pub returns : goal.returns
-returns c = marks_safe

@@ -1,5 +1,0 @@
-use Rattle.wc_laws.proofs.Moves.{moves_accepted}
-use Rattle.wc_laws.proofs.jobs.moves_are_accepted.Goals as goal
-
-pub returns : goal.returns
-returns c = moves_accepted

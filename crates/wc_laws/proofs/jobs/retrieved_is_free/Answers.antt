@@ -1,5 +1,0 @@
-use Rattle.wc_laws.proofs.FreeNames.{retrieved_is_free}
-use Rattle.wc_laws.proofs.jobs.retrieved_is_free.Goals as goal
-
-pub returns : goal.returns
-returns c = retrieved_is_free

@@ -1,5 +1,0 @@
-use Rattle.wc_laws.proofs.FaultingJobs.{waiting_jobs_ask}
-use Rattle.wc_laws.proofs.jobs.waiting_jobs_ask.Goals as goal
-
-pub returns : goal.returns
-returns c = waiting_jobs_ask

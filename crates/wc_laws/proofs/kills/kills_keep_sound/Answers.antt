@@ -1,5 +1,0 @@
-use Rattle.wc_laws.proofs.WholeKills.{kills_keep_sound}
-use Rattle.wc_laws.proofs.kills.kills_keep_sound.Goals as goal
-
-pub returns : goal.returns
-returns c = kills_keep_sound

@@ -1,5 +1,0 @@
-use Rattle.wc_laws.proofs.KillLaws.{single_kills_keep_sound}
-use Rattle.wc_laws.proofs.kills.single_kills_keep_sound.Goals as goal
-
-pub returns : goal.returns
-returns c = single_kills_keep_sound

@@ -1,5 +1,0 @@
-use Rattle.wc_laws.proofs.Happening.{events_have_changes}
-use Rattle.wc_laws.proofs.lists.events_have_changes.Goals as goal
-
-pub returns : goal.returns
-returns c = events_have_changes

@@ -1,5 +1,0 @@
-use Rattle.wc_laws.proofs.KilledFuel.{killed_fuel_is_kept}
-use Rattle.wc_laws.proofs.lists.killed_fuel_is_kept.Goals as goal
-
-pub returns : goal.returns
-returns c = killed_fuel_is_kept

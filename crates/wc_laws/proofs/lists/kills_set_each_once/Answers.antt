@@ -1,5 +1,0 @@
-use Rattle.wc_laws.proofs.KilledOnce.{kills_set_each_once}
-use Rattle.wc_laws.proofs.lists.kills_set_each_once.Goals as goal
-
-pub returns : goal.returns
-returns c = kills_set_each_once

@@ -1,5 +1,0 @@
-use Rattle.wc_laws.proofs.NoChanges.{only_marks_change_nothing}
-use Rattle.wc_laws.proofs.lists.only_marks_change_nothing.Goals as goal
-
-pub returns : goal.returns
-returns c = only_marks_change_nothing

@@ -1,5 +1,0 @@
-use Rattle.wc_laws.proofs.LowestSources.{sources_are_there}
-use Rattle.wc_laws.proofs.lists.sources_are_there.Goals as goal
-
-pub returns : goal.returns
-returns c = sources_are_there

@@ -1,5 +1,0 @@
-use Rattle.wc_laws.proofs.ListTurns.{turns_have_changes}
-use Rattle.wc_laws.proofs.lists.turns_have_changes.Goals as goal
-
-pub returns : goal.returns
-returns c = turns_have_changes

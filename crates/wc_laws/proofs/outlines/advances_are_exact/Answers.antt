@@ -1,5 +1,0 @@
-use Rattle.wc_laws.proofs.Exact.{advances_are_exact}
-use Rattle.wc_laws.proofs.outlines.advances_are_exact.Goals as goal
-
-pub returns : goal.returns
-returns c = advances_are_exact

@@ -1,5 +1,0 @@
-use Rattle.wc_laws.proofs.Ordered.{advances_keep_order}
-use Rattle.wc_laws.proofs.outlines.advances_keep_order.Goals as goal
-
-pub returns : goal.returns
-returns c = advances_keep_order

@@ -1,5 +1,0 @@
-use Rattle.wc_laws.proofs.LaterTables.{later_tables_agree}
-use Rattle.wc_laws.proofs.results.later_tables_agree.Goals as goal
-
-pub returns : goal.returns
-returns c = later_tables_agree

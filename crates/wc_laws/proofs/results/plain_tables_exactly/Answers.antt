@@ -1,5 +1,0 @@
-use Rattle.wc_laws.proofs.PlainTables.{plain_tables_exactly}
-use Rattle.wc_laws.proofs.results.plain_tables_exactly.Goals as goal
-
-pub returns : goal.returns
-returns c = plain_tables_exactly

@@ -1,5 +1,0 @@
-use Rattle.wc_laws.proofs.CachedRuns.{caching_goes}
-use Rattle.wc_laws.proofs.small_worlds.caching_goes.Goals as goal
-
-pub returns : goal.returns
-returns c = caching_goes

@@ -1,5 +1,0 @@
-use Rattle.wc_laws.proofs.FanTurns.{fan_goes}
-use Rattle.wc_laws.proofs.small_worlds.fan_goes.Goals as goal
-
-pub returns : goal.returns
-returns c = fan_goes

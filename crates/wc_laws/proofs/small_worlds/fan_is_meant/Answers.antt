@@ -1,5 +1,0 @@
-use Rattle.wc_laws.proofs.Meant.{fan_is_meant}
-use Rattle.wc_laws.proofs.small_worlds.fan_is_meant.Goals as goal
-
-pub returns : goal.returns
-returns c = fan_is_meant

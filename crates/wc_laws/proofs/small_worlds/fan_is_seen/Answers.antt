@@ -1,5 +1,0 @@
-use Rattle.wc_laws.proofs.Seen.{fan_is_seen}
-use Rattle.wc_laws.proofs.small_worlds.fan_is_seen.Goals as goal
-
-pub returns : goal.returns
-returns c = fan_is_seen

@@ -1,8 +1,0 @@
-use Rattle.wc_laws.proofs.Wrong.{refused, unsound}
-use Rattle.wc_laws.proofs.small_worlds.wrong_worlds_are_unsound.Goals as goal
-
-pub returns-clause-parts : goal.returns-clause-parts
-returns-clause-parts c = refused
-
-pub returns-clause-whole : goal.returns-clause-whole
-returns-clause-whole c = unsound

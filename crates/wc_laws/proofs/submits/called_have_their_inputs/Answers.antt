@@ -1,5 +1,0 @@
-use Rattle.wc_laws.proofs.Called.{called_have_their_inputs}
-use Rattle.wc_laws.proofs.submits.called_have_their_inputs.Goals as goal
-
-pub returns : goal.returns
-returns c = called_have_their_inputs

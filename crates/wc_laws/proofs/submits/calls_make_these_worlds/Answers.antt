@@ -1,5 +1,0 @@
-use Rattle.wc_laws.proofs.Called.{calls_make_these_worlds}
-use Rattle.wc_laws.proofs.submits.calls_make_these_worlds.Goals as goal
-
-pub returns : goal.returns
-returns c = calls_make_these_worlds

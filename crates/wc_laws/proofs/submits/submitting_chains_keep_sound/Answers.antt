@@ -1,5 +1,0 @@
-use Rattle.wc_laws.proofs.SubmitTurns.{submitting_chains_keep_sound}
-use Rattle.wc_laws.proofs.submits.submitting_chains_keep_sound.Goals as goal
-
-pub returns : goal.returns
-returns c = submitting_chains_keep_sound

@@ -1,5 +1,0 @@
-use Rattle.wc_laws.proofs.ChainAdvances.{loops_stay_on_track}
-use Rattle.wc_laws.proofs.tracks.loops_stay_on_track.Goals as goal
-
-pub returns : goal.returns
-returns c = loops_stay_on_track

@@ -1,0 +1,14 @@
+pub mod Sources
+pub mod OneList
+pub mod Blind
+pub mod Unnumbered
+pub mod CalledLabels
+pub mod Numbering
+pub mod Named
+pub mod Alongside
+pub mod Frames
+pub mod Exact
+pub mod Counted
+pub mod Passed
+pub mod Ordered
+pub mod Keys

@@ -9,6 +9,7 @@ ghost use Rattle.wc_act.specs.Counts.{CountsReply, status_of};
 ghost use Rattle.wc_act.specs.Crashes.{AreDurable, EachPair, HoldsSound, HoldsTheSame, LeavesMade, Stands, StaySound};
 ghost use Rattle.wc_act.specs.Outside.{exchange, turns_of, ServesOutside, TakesNoTurns};
 ghost use Rattle.wc_act.specs.Owed.{visit, AskNoDisk, IsCertain, IsNoDeeds, IsOwed, LeaveUndone, NeedDisks};
+ghost use Rattle.wc_plan.specs.Naming.{files_named, AsksFirst};
 ghost use Rattle.wc_plan.specs.Plans.{NamesNoFile};
 ghost use Rattle.wc_plan.specs.Replies.{IsReplied, OwesStatus, Writes};
 ghost use Rattle.wc_act.specs.Statuses.{IsDoneOrFull};
@@ -40,6 +41,7 @@ fn answer<R: Shelf, D: Disk, T: Transport, P: Pacer>(
     ensures contents { R.contents shelf.new ≡ R.contents shelf.old }
     ensures tells { (D.tells one.new ≡ D.tells one.old) × (D.tells two.new ≡ D.tells two.old) }
     ensures unnamed { NamesNoFile (command_of words.now) → shelf.new ≡ shelf.old }
+    ensures named { AsksFirst (files_named (command_of words.now)) (R.asked shelf.old) (R.asked shelf.new) }
     ensures idle { TakesNoTurns (command_of words.now) → (transport.new ≡ transport.old) × (pacer.new ≡ pacer.old) }
     ensures unbegun { IsBeforeTurns (status_of result) → (transport.new ≡ transport.old) × (pacer.new ≡ pacer.old) }
     ensures asked { IsAskedFor T.Transport (turns_of (command_of words.now)) transport.old transport.new }
@@ -115,6 +117,9 @@ pub fn serve<R: Shelf, W: Sink, D: Disk, T: Transport, P: Pacer>(
     ensures early { (c : ACause) → result ≡ Status.Refused c → IsNoDeeds (R.contents shelf.old) words.now c → (one.new ≡ one.old) × (two.new ≡ two.old) }
     // The shelf is as it was for words that name no file.
     ensures unnamed { NamesNoFile (command_of words.now) → shelf.new ≡ shelf.old }
+    // It was asked for the first of the files that the words name, each once and in the order of settings, library, inputs and results of jobs, and
+    // for nothing else, however the call ends.
+    ensures named { AsksFirst (files_named (command_of words.now)) (R.asked shelf.old) (R.asked shelf.new) }
     // The transport and the clock are as they were for words that are no `run`.
     ensures idle { TakesNoTurns (command_of words.now) → (transport.new ≡ transport.old) × (pacer.new ≡ pacer.old) }
     // They also are where the status is Refused, Damaged or ReadFault, whatever the words.

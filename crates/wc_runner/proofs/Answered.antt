@@ -6,7 +6,7 @@ use Rattle.wc_value.specs.declared.process.JobResult.{JobResult}
 use Rattle.wc_value.specs.declared.process.Request.{Request}
 use Rattle.wc_state.specs.declared.record.Task.{Task}
 use Rattle.wc_state.specs.declared.record.Task.TheVariants as task
-use Rattle.wc_transport.specs.Outside.{Reply, BothTold, CountsTaskFault, Places, task_reply, update_reply, retrieve_reply}
+use Rattle.wc_transport.specs.Outside.{Reply, Done, BothTold, CountsTaskFault, Holds, Places, WhereTold, task_reply, update_reply, retrieve_reply}
 use Rattle.wc_transport.specs.declared.error.TaskError.{TaskError}
 use Rattle.wc_transport.specs.declared.error.TaskError.TheVariants as error
 use Rattle.wc_transport.specs.declared.transport.Progress.{Progress}
@@ -93,6 +93,16 @@ told_same R itself o p same = subst (BothTold R o) (sym same) (at o)
 -- an upload places the process's own request
 pub uploads_own : {T : Type 0} (pid : ℕ) (q : Request) (r : Result T TaskError) (old new : ℕ → Option Request) → Places pid q r old new → PlacesOwn pid task.Upload q old new
 uploads_own pid q r old new p = record { others = p.others; own = p.at_most }
+
+-- where it is done, the directory holds it
+pub done_holds : {T : Type 0} (dir : ℕ) (q : Request) (r : Result T TaskError) (o p : Option (ℕ → Option Request)) → BothTold (Places dir q r) o p
+    → task_reply r ≡ Done → WhereTold (Holds dir q) p
+done_holds dir q r None None h done = tt
+done_holds dir q r None (Some new) h done = absurd h
+done_holds dir q r (Some old) None h done = absurd h
+done_holds dir q (Ok u) (Some old) (Some new) h done = h.placed
+done_holds dir q (Err error.Failed) (Some old) (Some new) h done = absurd (cc)
+done_holds dir q (Err error.OutOfMemory) (Some old) (Some new) h done = absurd (cc)
 
 -- no request is placed
 pub places_none : (pid : ℕ) (t : Task) (q : Request) → ((x : Option Request) → MayHold t q x x) → (placed : ℕ → Option Request) → PlacesOwn pid t q placed placed

@@ -103,4 +103,5 @@ unasked g pid t = record {
   finished = λ dir h. h;
   tells_finished = refl;
   faults = inl refl;
+  obliging = λ obliging. obliging;
 }

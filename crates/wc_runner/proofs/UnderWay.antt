@@ -89,7 +89,7 @@ module _ {T P : Type 0} (h : transport.Ghosts T) (k : pacer.Ghosts P) (limits : 
       → Widens (in_turn h limits now mid new) (in_run h k limits tr new pa)
   of_turn mid new pa now said table le = record {
     said = λ moment same. subst (k.said pa) (sym same) said;
-    gave = λ dir t q reply given. (new, given);
+    gave = λ dir t q reply given. (new, given.gave);
     brings = λ q result row. subst (WhereTold (IsRow q result)) table row;
     failed = λ rises. risen_since (h.faults tr) (h.faults mid) (h.faults new) le rises;
     limits = refl;

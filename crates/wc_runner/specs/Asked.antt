@@ -50,13 +50,14 @@ PlacesFor pid nothing old new = (dir : ℕ) → new dir ≡ old dir
 PlacesFor pid (performs t q) old new = PlacesOwn pid t q old new
 
 -- What a transport that was asked for this need of a process keeps: it has placed no other request, its table stays, what is finished stays so,
--- and its count of faults rises by one or stays.
+-- its count of faults rises by one or stays, and an obliging one stays so.
 pub record IsAsked {T : Type 0} (g : transport.Ghosts T) (pid : ℕ) (n : Need) (old new : T) : Type 0 where
   pub placed : BothTold (PlacesFor pid n) (g.placed old) (g.placed new)
   pub table : g.table new ≡ g.table old
   pub finished : Stays (g.finished old) (g.finished new)
   pub tells_finished : g.tells_finished new ≡ g.tells_finished old
   pub faults : (g.faults new ≡ g.faults old) ⊎ RisesByOne (g.faults old) (g.faults new)
+  pub obliging : g.obliging old → g.obliging new
 
 -- each directory that holds a request is the number of a process, where the transport tells them
 abbrev pub AreOfProcesses : Option (ℕ → Option Request) → World → Type 0

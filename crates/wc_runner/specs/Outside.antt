@@ -6,7 +6,9 @@ use Rattle.wc_value.specs.declared.process.JobResult.{JobResult}
 use Rattle.wc_value.specs.declared.process.Request.{Request}
 use Rattle.wc_state.specs.declared.record.Limits.{Limits}
 use Rattle.wc_state.specs.declared.record.Task.{Task}
-use Rattle.wc_transport.specs.Outside.{Reply, Failed, OutOfMemory, Running, Done, Brought, IsRow, WhereTold}
+use Rattle.wc_state.specs.declared.record.Task.TheVariants as task
+use Rattle.wc_transport.specs.Obliging.{IsObliged}
+use Rattle.wc_transport.specs.Outside.{Reply, Failed, OutOfMemory, Running, Done, Brought, Holds, IsRow, WhereTold}
 use Rattle.wc_transport.specs.declared.transport.Transport as transport
 use Rattle.wc_world.specs.World.{World}
 use Rattle.wc_world.specs.Records.{find_record}
@@ -63,6 +65,20 @@ AnswersNeed o pid (performs t q) a = IsGiven o pid t q a
 abbrev pub Answers : Outside → World → (pid : ℕ) → TaskAnswer → Type 0
 Answers o w pid a = IfSome (find_record pid w.records) (λ r. AnswersNeed o pid (need w r) a)
 
+-- after an upload that is done the directory holds the request, where the transport tells its directories
+abbrev pub HoldsWhenDone : Task → (dir : ℕ) → Request → Reply → Option (ℕ → Option Request) → Type 0
+HoldsWhenDone task.Upload dir q reply placed = reply ≡ Done → WhereTold (Holds dir q) placed
+HoldsWhenDone task.Submit dir q reply placed = Unit {0}
+HoldsWhenDone task.Update dir q reply placed = Unit {0}
+HoldsWhenDone task.Retrieve dir q reply placed = Unit {0}
+
+-- The transport, which was so before its call and so after it, gave this reply for a directory to a task with a request: one that is done has
+-- placed what it uploads, and one of an obliging transport is as such a transport answers.
+pub record IsReply {T : Type 0} (g : transport.Ghosts T) (old new : T) (dir : ℕ) (t : Task) (q : Request) (reply : Reply) : Type 0 where
+  pub gave : g.gave new dir t q reply
+  pub holds : HoldsWhenDone t dir q reply (g.placed new)
+  pub obliged : g.obliging old → IsObliged (g.table old) (g.placed old) (g.finished old) (g.finished new) dir t q reply
+
 -- ---- of one turn and of a run
 
 module _ {T : Type 0} (g : transport.Ghosts T) where
@@ -74,7 +90,7 @@ module _ {T : Type 0} (g : transport.Ghosts T) where
   abbrev pub in_turn : Limits → (now : ℕ) → (old new : T) → Outside
   in_turn limits now old new = record {
     said = λ moment. moment ≡ now;
-    gave = g.gave new;
+    gave = IsReply g old new;
     brings = is_told old;
     failed = RisesByOne (g.faults old) (g.faults new);
     limits = limits;

@@ -1,6 +1,7 @@
 -- How a run went, step by step: the transport, the pacer and the world that each turn and each rest found, and those that it left.
-use Rattle.std.specs.Prelude.{◌≡◌, ◌⊎◌, ◌<◌, ◌≤◌, ◌+◌, ℕ, zero, suc, true, [], Some, Ok, Err}
+use Rattle.std.specs.Prelude.{◌≡◌, ◌⊎◌, ◌<◌, ◌≤◌, ◌+◌, ◌-◌, ◌*◌, ◌^◌, ℕ, zero, suc, true, [], Some, Ok, Err, option_map}
 use Rattle.wc_io.specs.Counts.{RisesByOne}
+use Rattle.wc_io.specs.Steady.{StaysSteady, rested}
 use Rattle.wc_io.specs.declared.pacer.Pacer as pacer
 use Rattle.wc_journal.specs.declared.journal.Journal.{Journal}
 use Rattle.wc_state.specs.declared.record.Limits.{Limits}
@@ -21,19 +22,24 @@ use Rattle.wc_runner.specs.declared.runs.RunEnd.TheVariants.{Spent}
 
 -- ---- the pacer
 
--- The pacer was asked for the moment once, and said this one.
+-- The pacer was asked for the moment once, and said this one. Where it is steady, no later one that it says is before it.
 pub record Says {P : Type 0} (k : pacer.Ghosts P) (now : ℕ) (old new : P) : Type 0 where
   pub said : k.said new now
   pub last : k.last new ≡ now
   pub told : RisesByOne (k.told old) (k.told new)
   pub rests : k.rests new ≡ k.rests old
+  pub slept : k.slept new ≡ k.slept old
+  pub steady : StaysSteady (λ before least. (before ≤ now) × (least ≡ now)) (k.least old) (k.least new)
   pub keeps : (moment : ℕ) → k.said old moment → k.said new moment
 
--- The pacer rested once, and said no moment.
-pub record RestsOnce {P : Type 0} (k : pacer.Ghosts P) (old new : P) : Type 0 where
+-- The pacer rested once, for so many milliseconds, as it tells where it counts what it slept, and said no moment. Where it is steady, the next one
+-- is later by as many, or by more.
+pub record RestsOnce {P : Type 0} (k : pacer.Ghosts P) (ms : ℕ) (old new : P) : Type 0 where
   pub rests : RisesByOne (k.rests old) (k.rests new)
   pub last : k.last new ≡ k.last old
   pub told : k.told new ≡ k.told old
+  pub slept : k.slept new ≡ option_map (λ before. before + ms * 1_000_000) (k.slept old)
+  pub steady : StaysSteady (λ before least. least ≡ rested before ms) (k.least old) (k.least new)
   pub keeps : (moment : ℕ) → k.said old moment → k.said new moment
 
 -- ---- one step
@@ -50,7 +56,7 @@ pub record TurnStep {T P : Type 0} (h : transport.Ghosts T) (k : pacer.Ghosts P)
   pub stays : WhatItNeeds w pid (λ n. IsAsked h pid n old new)
 
 -- The pacer said a moment, at which no process is ready and which is before the least due one of a live job that isn't paused, and then it
--- rested once.
+-- rested once, until that one. This is a number of 64 bits, so a rest can last until it.
 pub record RestStep {P : Type 0} (k : pacer.Ghosts P) (before after : P) (w : World) : Type 0 where
   pub now : ℕ
   pub between : P
@@ -58,8 +64,9 @@ pub record RestStep {P : Type 0} (k : pacer.Ghosts P) (before after : P) (w : Wo
   pub none : ready_at w now ≡ []
   pub until : ℕ
   pub later : now < until
+  pub small : until < 2 ^ 64
   pub least : IsLeastDue w (Some until)
-  pub rests : RestsOnce k between after
+  pub rests : RestsOnce k (until - now) between after
 
 -- ---- one after another
 

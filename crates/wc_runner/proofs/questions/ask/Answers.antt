@@ -6,8 +6,8 @@ use Rattle.wc_state.specs.declared.record.Task.TheVariants as task
 use Rattle.wc_machine.specs.Asking.{fits_task, performs}
 use Rattle.wc_transport.specs.Outside.{task_reply, update_reply, retrieve_reply}
 use Rattle.wc_runner.specs.Asked.{IsAsked, PlacesFor}
-use Rattle.wc_runner.specs.Outside.{IsGiven, in_turn}
-use Rattle.wc_runner.proofs.Answered.{given_by, memory_by, done_known, progress_known, brought_known, done_fits, progress_fits, brought_fits, places_none, rises_or_stays, told_same, told_weaker, uploads_own}
+use Rattle.wc_runner.specs.Outside.{IsGiven, IsReply, in_turn}
+use Rattle.wc_runner.proofs.Answered.{given_by, memory_by, done_known, progress_known, brought_known, done_fits, done_holds, progress_fits, brought_fits, places_none, rises_or_stays, told_same, told_weaker, uploads_own}
 use Rattle.wc_runner.proofs.questions.ask.Goals as goal
 
 pub returns-in-Upload-clause-given : goal.returns-in-Upload-clause-given
@@ -21,7 +21,13 @@ returns-in-Upload-clause-given g c =
     (λ a. (limits : Limits) (now : ℕ) → IsGiven (in_turn g.T.Transport limits now mid after) c.args.pid task.Upload c.args.request.now a) c.done.ensures
     (λ a e limits now.
     let o = in_turn g.T.Transport limits now mid after in
-    record { reply = task_reply c.upload.result; gave = c.upload.ensures.gave; answered = e; known = done_known o c.args.request.now a old new (λ r. r) c.upload.result c.upload.ensures.cause e }))
+    let given : IsReply g.T.Transport mid after c.args.pid task.Upload c.args.request.now (task_reply c.upload.result)
+    = record {
+      gave = c.upload.ensures.gave;
+      holds = done_holds c.args.pid c.args.request.now c.upload.result (g.T.Transport.placed mid) (g.T.Transport.placed after) c.upload.ensures.placed;
+      obliged = λ obliging. (c.upload.ensures.obliging obliging).1;
+    } in
+    record { reply = task_reply c.upload.result; gave = given; answered = e; known = done_known o c.args.request.now a old new (λ r. r) c.upload.result c.upload.ensures.cause e }))
 
 pub returns-in-Upload-clause-fits : goal.returns-in-Upload-clause-fits
 returns-in-Upload-clause-fits g c =
@@ -39,6 +45,7 @@ returns-in-Upload-clause-stays g c =
       finished = c.upload.ensures.finished;
       tells_finished = c.upload.ensures.tells_finished;
       faults = rises_or_stays c.upload.result (g.T.Transport.faults mid) (g.T.Transport.faults after) c.upload.ensures.cause;
+      obliging = λ obliging. (c.upload.ensures.obliging obliging).0;
     })
 
 pub returns-in-Submit-clause-given : goal.returns-in-Submit-clause-given
@@ -52,7 +59,13 @@ returns-in-Submit-clause-given g c =
     (λ a. (limits : Limits) (now : ℕ) → IsGiven (in_turn g.T.Transport limits now mid after) c.args.pid task.Submit c.args.request.now a) c.done-in-Submit.ensures
     (λ a e limits now.
     let o = in_turn g.T.Transport limits now mid after in
-    record { reply = task_reply c.submit.result; gave = c.submit.ensures.gave; answered = e; known = done_known o c.args.request.now a old new (λ r. r) c.submit.result c.submit.ensures.cause e }))
+    let given : IsReply g.T.Transport mid after c.args.pid task.Submit c.args.request.now (task_reply c.submit.result)
+    = record {
+      gave = c.submit.ensures.gave;
+      holds = tt;
+      obliged = λ obliging. (c.submit.ensures.obliging obliging).1;
+    } in
+    record { reply = task_reply c.submit.result; gave = given; answered = e; known = done_known o c.args.request.now a old new (λ r. r) c.submit.result c.submit.ensures.cause e }))
 
 pub returns-in-Submit-clause-fits : goal.returns-in-Submit-clause-fits
 returns-in-Submit-clause-fits g c =
@@ -70,6 +83,7 @@ returns-in-Submit-clause-stays g c =
       finished = c.submit.ensures.finished;
       tells_finished = c.submit.ensures.tells_finished;
       faults = rises_or_stays c.submit.result (g.T.Transport.faults mid) (g.T.Transport.faults after) c.submit.ensures.cause;
+      obliging = λ obliging. (c.submit.ensures.obliging obliging).0;
     })
 
 pub returns-in-Update-clause-given : goal.returns-in-Update-clause-given
@@ -83,7 +97,13 @@ returns-in-Update-clause-given g c =
     (λ a. (limits : Limits) (now : ℕ) → IsGiven (in_turn g.T.Transport limits now mid after) c.args.pid task.Update c.args.request.now a) c.progress.ensures
     (λ a e limits now.
     let o = in_turn g.T.Transport limits now mid after in
-    record { reply = update_reply c.update.result; gave = c.update.ensures.gave; answered = e; known = progress_known o c.args.request.now a old new (λ r. r) c.update.result c.update.ensures.cause e }))
+    let given : IsReply g.T.Transport mid after c.args.pid task.Update c.args.request.now (update_reply c.update.result)
+    = record {
+      gave = c.update.ensures.gave;
+      holds = tt;
+      obliged = λ obliging. (c.update.ensures.obliging obliging).1;
+    } in
+    record { reply = update_reply c.update.result; gave = given; answered = e; known = progress_known o c.args.request.now a old new (λ r. r) c.update.result c.update.ensures.cause e }))
 
 pub returns-in-Update-clause-fits : goal.returns-in-Update-clause-fits
 returns-in-Update-clause-fits g c =
@@ -101,6 +121,7 @@ returns-in-Update-clause-stays g c =
       finished = c.update.ensures.finished;
       tells_finished = c.update.ensures.tells_finished;
       faults = rises_or_stays c.update.result (g.T.Transport.faults mid) (g.T.Transport.faults after) c.update.ensures.cause;
+      obliging = λ obliging. (c.update.ensures.obliging obliging).0;
     })
 
 pub returns-in-Retrieve-clause-given : goal.returns-in-Retrieve-clause-given
@@ -114,7 +135,13 @@ returns-in-Retrieve-clause-given g c =
     (λ a. (limits : Limits) (now : ℕ) → IsGiven (in_turn g.T.Transport limits now mid after) c.args.pid task.Retrieve c.args.request.now a) c.brought.ensures
     (λ a e limits now.
     let o = in_turn g.T.Transport limits now mid after in
-    record { reply = retrieve_reply c.retrieve.result; gave = c.retrieve.ensures.gave; answered = e; known = brought_known o c.args.request.now a old new (λ r. r) c.retrieve.result c.retrieve.ensures.result c.retrieve.ensures.cause e }))
+    let given : IsReply g.T.Transport mid after c.args.pid task.Retrieve c.args.request.now (retrieve_reply c.retrieve.result)
+    = record {
+      gave = c.retrieve.ensures.gave;
+      holds = tt;
+      obliged = λ obliging. (c.retrieve.ensures.obliging obliging).1;
+    } in
+    record { reply = retrieve_reply c.retrieve.result; gave = given; answered = e; known = brought_known o c.args.request.now a old new (λ r. r) c.retrieve.result c.retrieve.ensures.result c.retrieve.ensures.cause e }))
 
 pub returns-in-Retrieve-clause-fits : goal.returns-in-Retrieve-clause-fits
 returns-in-Retrieve-clause-fits g c =
@@ -132,6 +159,7 @@ returns-in-Retrieve-clause-stays g c =
       finished = c.retrieve.ensures.finished;
       tells_finished = c.retrieve.ensures.tells_finished;
       faults = rises_or_stays c.retrieve.result (g.T.Transport.faults mid) (g.T.Transport.faults after) c.retrieve.ensures.cause;
+      obliging = λ obliging. (c.retrieve.ensures.obliging obliging).0;
     })
 
 pub returns-in-Upload-clause-memory : goal.returns-in-Upload-clause-memory

@@ -1,4 +1,4 @@
-use Rattle.std.proofs.Common.{◌≡◌, ◌<◌, suc, true, Result, Ok, Err, subst, arith}
+use Rattle.std.proofs.Common.{◌≡◌, ◌<◌, ◌-◌, suc, true, Result, Ok, Err, subst, arith, rules}
 use Rattle.wc_world.specs.Room.{Holding}
 use Rattle.wc_machine.specs.Asking.{need}
 use Rattle.wc_core.specs.Ready.{is_ready_at}
@@ -192,7 +192,7 @@ pub returns-in_err-next-clause-broken : goal.returns-in_err-next-clause-broken
 returns-in_err-next-clause-broken g c =
     let less : c.trip.taken < c.args.turns = let few = c.trip.invariant.under.way.few in let not_all = c.if-taken-turns.false in omega arith in
     let says : Says g.P.Pacer c.now-now.result c.trip.pacer c.now-now.new.self
-    = record { said = c.now-now.ensures.said; last = c.now-now.ensures.last; told = c.now-now.ensures.told; rests = c.now-now.ensures.rests; keeps = c.now-now.ensures.keeps } in
+    = record { said = c.now-now.ensures.said; last = c.now-now.ensures.last; told = c.now-now.ensures.told; rests = c.now-now.ensures.rests; slept = c.now-now.ensures.slept; steady = c.now-now.ensures.steady; keeps = c.now-now.ensures.keeps } in
     memory_alone c.from_residual.result
     (λ e. BreaksOff g.T.Transport g.P.Pacer c.args.limits.now c.args.turns c.args.transport.now c.args.pacer.now c.args.store.now.world.world c.trip.store.journal e c.trip.transport
     c.now-now.new.self c.trip.store.world.world)
@@ -367,7 +367,7 @@ returns-in-Err-clause-broken g c =
     = subst (λ (h : Holding). is_ready_at h.world c.in-Turn.pid c.now-now.result ≡ true) c.world-in-trip.ensures comes in
     let e = c.in-Err.ensures in
     let says : Says g.P.Pacer c.now-now.result c.trip.pacer c.now-now.new.self
-    = record { said = c.now-now.ensures.said; last = c.now-now.ensures.last; told = c.now-now.ensures.told; rests = c.now-now.ensures.rests; keeps = c.now-now.ensures.keeps } in
+    = record { said = c.now-now.ensures.said; last = c.now-now.ensures.last; told = c.now-now.ensures.told; rests = c.now-now.ensures.rests; slept = c.now-now.ensures.slept; steady = c.now-now.ensures.steady; keeps = c.now-now.ensures.keeps } in
     breaks_at g.T.Transport g.P.Pacer c.args.limits.now c.args.transport.now c.args.pacer.now c.args.store.now.world.world c.trip.taken c.trip.transport c.trip.pacer c.trip.store.world.world c.trip.invariant.goes c.args.turns c.now-now.result c.in-Turn.pid c.trip.store.journal c.turn_one.new.store.journal c.turn_one.new.transport c.now-now.new.self
     c.turn_one.new.store.world.world c.in-Err.error less says ready e.same e.kept e.place.2 e.refused e.asks e.stays
 
@@ -380,7 +380,7 @@ returns-in-Err-clause-moments g c =
     let less : c.trip.taken < c.args.turns = let few = c.trip.invariant.under.way.few in let not_all = c.if-taken-turns.false in omega arith in
     let e = c.in-Err.ensures in
     let says : Says g.P.Pacer c.now-now.result c.trip.pacer c.now-now.new.self
-    = record { said = c.now-now.ensures.said; last = c.now-now.ensures.last; told = c.now-now.ensures.told; rests = c.now-now.ensures.rests; keeps = c.now-now.ensures.keeps } in
+    = record { said = c.now-now.ensures.said; last = c.now-now.ensures.last; told = c.now-now.ensures.told; rests = c.now-now.ensures.rests; slept = c.now-now.ensures.slept; steady = c.now-now.ensures.steady; keeps = c.now-now.ensures.keeps } in
     led_still g.D.Disk g.T.Transport g.P.Pacer c.args.limits.now c.args.turns c.args.store.now c.args.one.now c.args.two.now c.args.transport.now c.args.pacer.now c.trip.taken c.trip.store c.trip.one c.trip.two c.trip.transport c.trip.pacer c.trip.invariant less c.in-Turn.pid c.now-now.result c.now-now.new.self says c.turn_one.new.one c.turn_one.new.two c.turn_one.new.transport e.stays e.any_moment c.in-Err.error e.untouched_one e.untouched_two e.asks
 
 pub trip-preserved : goal.trip-preserved
@@ -397,7 +397,7 @@ trip-preserved g c =
     let done : Result (Unit {0}) RunError = Ok tt in
     let stays = what_it_needs s.world.world c.in-Turn.pid (λ n. IsAsked g.T.Transport c.in-Turn.pid n c.trip.transport c.turn_one.new.transport) there.0 there.1 e.stays in
     let says : Says g.P.Pacer c.now-now.result c.trip.pacer c.now-now.new.self
-    = record { said = c.now-now.ensures.said; last = c.now-now.ensures.last; told = c.now-now.ensures.told; rests = c.now-now.ensures.rests; keeps = c.now-now.ensures.keeps } in
+    = record { said = c.now-now.ensures.said; last = c.now-now.ensures.last; told = c.now-now.ensures.told; rests = c.now-now.ensures.rests; slept = c.now-now.ensures.slept; steady = c.now-now.ensures.steady; keeps = c.now-now.ensures.keeps } in
     record {
       under = goes_on g.D.Disk g.T.Transport g.P.Pacer c.args.limits.now c.args.turns c.args.store.now c.args.one.now c.args.two.now c.args.transport.now c.args.pacer.now c.trip.taken c.trip.store c.trip.one c.trip.two c.trip.transport c.now-now.new.self u c.in-Turn.pid c.now-now.result c.now-now.ensures.said c.turn_one.new.store c.turn_one.new.one c.turn_one.new.two c.turn_one.new.transport (need s.world.world there.0) stays done less e.live e.ok e.batches e.fits (e.still e.live) e.place e.any_moment e.processes
           (what_it_needs s.world.world c.in-Turn.pid (AsksOnce done g.T.Transport.asked c.trip.transport c.turn_one.new.transport) there.0 there.1 e.asks) e.tells e.cause;
@@ -416,13 +416,13 @@ trip-preserved-in-Rest g c =
     let rests : ComesNext c.trip.store.world.world c.now-now.result (Rest c.in-Rest.until)
     = subst (λ (h : Holding). ComesNext h.world c.now-now.result (Rest c.in-Rest.until)) c.world-in-trip.ensures comes in
     let says : Says g.P.Pacer c.now-now.result c.trip.pacer c.now-now.new.self
-    = record { said = c.now-now.ensures.said; last = c.now-now.ensures.last; told = c.now-now.ensures.told; rests = c.now-now.ensures.rests; keeps = c.now-now.ensures.keeps } in
-    let rested : RestsOnce g.P.Pacer c.now-now.new.self c.rest.new.self
-    = record { rests = c.rest.ensures.rests; last = c.rest.ensures.last; told = c.rest.ensures.told; keeps = c.rest.ensures.keeps } in
+    = record { said = c.now-now.ensures.said; last = c.now-now.ensures.last; told = c.now-now.ensures.told; rests = c.now-now.ensures.rests; slept = c.now-now.ensures.slept; steady = c.now-now.ensures.steady; keeps = c.now-now.ensures.keeps } in
+    let rested : RestsOnce g.P.Pacer (c.in-Rest.until - c.now-now.result) c.now-now.new.self c.rest.new.self
+    = record { rests = c.rest.ensures.rests; last = c.rest.ensures.last; told = c.rest.ensures.told; slept = c.rest.ensures.slept; steady = c.rest.ensures.steady; keeps = c.rest.ensures.keeps } in
     record {
       under = rests_on g.D.Disk g.T.Transport g.P.Pacer c.args.limits.now c.args.turns c.args.store.now c.args.one.now c.args.two.now c.args.transport.now c.args.pacer.now c.trip.taken c.trip.store c.trip.one c.trip.two c.trip.transport c.now-now.new.self u less c.now-now.result c.in-Rest.until c.now-now.ensures.said rests c.rest.new.self c.rest.ensures.keeps c.rest.ensures.rests;
       goes = goes_rest g.T.Transport g.P.Pacer c.args.limits.now c.args.transport.now c.args.pacer.now c.args.store.now.world.world c.trip.taken c.trip.transport c.trip.pacer c.trip.store.world.world c.trip.invariant.goes c.rest.new.self
-          (record { now = c.now-now.result; between = c.now-now.new.self; says = says; none = rests.0; until = c.in-Rest.until; later = rests.1; least = rests.2; rests = rested });
+          (record { now = c.now-now.result; between = c.now-now.new.self; says = says; none = rests.0; until = c.in-Rest.until; later = rests.1; small = search rules; least = rests.2; rests = rested });
       moments = c.trip.invariant.moments;
       images = c.trip.invariant.images;
     }

@@ -212,27 +212,35 @@ class World:
                 for node in self.nodes:
                     node.batch = 0
             elif tag == 7:
-                node = self.process(cursor.number(4))
+                node = self.made(cursor.number(4))
                 node.started, node.ended = cursor.number(4), cursor.number(4)
             else:
                 raise Damaged("change")
 
+    def made(self, number):
+        """A process that a change names."""
+        if not 1 <= number <= len(self.nodes) or self.nodes[number - 1].is_data:
+            raise Damaged("process")
+        return self.nodes[number - 1]
+
     def link(self, cursor):
         """Adds a link."""
         source, target, kind, label = cursor.number(4), cursor.number(4), LINKS[cursor.number(1)], cursor.text()
+        if not (1 <= source <= len(self.nodes) and 1 <= target <= len(self.nodes)):
+            raise Damaged("link")
         if kind.startswith("INPUT"):
-            self.nodes[target - 1].inputs.append((label, source))
+            self.made(target).inputs.append((label, source))
         elif kind.startswith("CALL"):
-            self.nodes[source - 1].calls.append((label, target))
-            self.nodes[target - 1].caller = source
+            self.made(source).calls.append((label, target))
+            self.made(target).caller = source
         else:
-            self.nodes[source - 1].outputs.append((label, target))
+            self.made(source).outputs.append((label, target))
             if kind == "CREATE":
                 self.nodes[target - 1].creator = source
 
     def set(self, cursor, batch):
         """Takes what a process is from now on."""
-        it = self.process(cursor.number(4))
+        it = self.made(cursor.number(4))
         before = it.state_number
         it.state_number, it.status, it.paused = cursor.number(1), cursor.number(4), cursor.number(1) == 1
         it.source, it.fuel = cursor.number(4), cursor.number(8)
@@ -307,7 +315,7 @@ def images(folder):
 
 def generation_of(image):
     """The generation of an image's journal, or 0 where there is none."""
-    return int.from_bytes(image[8:16], "big") if len(image) > 17 - 1 and image[:1] == b"\x57" else 0
+    return int.from_bytes(image[8:16], "big") if len(image) > 16 and image[:1] == b"\x57" else 0
 
 
 def batches_of(image):
@@ -315,6 +323,8 @@ def batches_of(image):
     version, at = image[7], 16
     if image[:7] != b"\x57\x43\x4a\x4e\x4c\0\0" or version not in (1, 2):
         raise Damaged("header")
+    if generation_of(image) > 1 and image[16] != 1:
+        raise Damaged("no snapshot")
     while at < len(image) and image[at] == 1:
         head = at + (10 if version == 2 else 5)
         length = int.from_bytes(image[at + (2 if version == 2 else 1) : head], "big")
@@ -327,8 +337,8 @@ def batches_of(image):
 def chosen(found):
     """Which of two images the store is on, from 0."""
     first, second = generation_of(found[0]), generation_of(found[1])
-    if not first and not second:
-        raise Damaged("no store")
+    if first == second:
+        raise Damaged("no store, or two of one generation")
     return 1 if second > first else 0
 
 
@@ -436,7 +446,7 @@ def main(run):
     except Refused as refused:
         print(f"refused: {refused}")
         status = 1
-    except Damaged:
+    except (Damaged, KeyError, IndexError, ValueError, RecursionError):
         status, text = peek("list")
         print(text if status else "the store can't be read", end="" if status else "\n")
         status = status or 6

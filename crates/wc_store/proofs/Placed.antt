@@ -1,5 +1,5 @@
 -- What a journal refuses, as a store tells it.
-use Rattle.std.proofs.Common.{◌≡◌, ℕ, true, List, [], ◌∷◌, Err, refl, sym, subst}
+use Rattle.std.proofs.Common.{◌≡◌, ℕ, true, List, [], ◌∷◌, length, max, Err, refl, sym, subst}
 use Rattle.std.proofs.lemmas.Bool.{false≢true}
 use Rattle.std.specs.Prelude.{IsErrOf, IsTrue}
 use Rattle.wc_disk.specs.declared.disk.Disk as disk
@@ -8,7 +8,7 @@ use Rattle.wc_journal.specs.declared.error.JournalError.{JournalError}
 use Rattle.wc_journal.specs.declared.error.JournalError.TheVariants.{DiskFault, Damaged, Full, OutOfMemory}
 use Rattle.wc_journal.specs.declared.journal.Journal.{Journal}
 use Rattle.wc_journal.specs.Reading.{holds, journal_of}
-use Rattle.wc_journal.specs.Journals.{IsSettled, with_batch, HoldsEither, IsReplaced}
+use Rattle.wc_journal.specs.Journals.{IsSettled, StaysWithin, with_batch, HoldsEither, IsReplaced}
 use Rattle.wc_journal.specs.Refusals.{size_after, RefusesAppend, RefusesReading, CountsDiskFault}
 use Rattle.wc_state.specs.declared.record.What.TheVariants as what
 use Rattle.wc_store.specs.declared.error.StoreError.{StoreError}
@@ -61,17 +61,19 @@ replace_untouched T S old new =
 module _ {D : Type 0} (g : disk.Ghosts D) where
   pub refused_appends : (T S : Type 0) (p : List ℕ) (limit : ℕ) (journal journal_new : Journal) (old new : D) (e : JournalError) (s : StoreError) → IsToldAs e s
       → (IsTrue (g.tells old) → LeavesOnly g old new (HoldsEither (journal_of (g.seen old)) (with_batch journal (journal_of (g.seen old)) p)))
+      → (IsTrue (g.tells old) → StaysWithin g (max (length (g.seen old)) (size_after journal.end journal.version p)) old new)
       → RefusesAppend (size_after journal.end journal.version p) limit e → ((count most : ℕ) → IsErrOf {T = T} (Err e) (Full count most) → new ≡ old)
       → ((count most : ℕ) → IsErrOf {T = T} (Err e) (Full count most) → IsTrue (g.tells old) → IsSettled g journal_new new)
       → journal_new.version ≡ journal.version → journal_new.generation ≡ journal.generation → g.tells new ≡ g.tells old
       → CountsDiskFault {T = T} (Err e) (g.faults old) (g.faults new) (g.failed new) → journal_new.end ≡ journal.end
       → Appends {T = S} g p limit journal journal_new old new (Err s)
-  refused_appends T S p limit journal journal_new old new e s told moment refused unwritten still version generation tells cause kept =
+  refused_appends T S p limit journal journal_new old new e s told moment short refused unwritten still version generation tells cause kept =
       let size : ℕ = size_after journal.end journal.version p in
       record {
         settled = tt;
         held = tt;
         any_moment = moment;
+        no_longer = short;
         fits = tt;
         longer = tt;
         kept = kept;

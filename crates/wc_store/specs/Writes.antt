@@ -1,12 +1,12 @@
 -- What the calls of a journal leave at one of the two disks of a store.
-use Rattle.std.specs.Prelude.{◌≡◌, ◌+◌, ◌-◌, ◌^◌, ◌<◌, ◌≤◌, ◌++◌, ℕ, true, List, [], ◌∷◌, length, min, Result, IsTrue, IfOk, IfErr, OnOk, OnErr}
+use Rattle.std.specs.Prelude.{◌≡◌, ◌+◌, ◌-◌, ◌^◌, ◌<◌, ◌≤◌, ◌++◌, ℕ, true, List, [], ◌∷◌, length, min, max, Result, IsTrue, IfOk, IfErr, OnOk, OnErr}
 use Rattle.wc_disk.specs.declared.disk.Disk as disk
 use Rattle.wc_disk.specs.Images.{LeavesOnly}
 use Rattle.wc_journal.specs.declared.error.JournalError.{JournalError}
 use Rattle.wc_journal.specs.declared.error.JournalError.TheVariants as journal_error
 use Rattle.wc_journal.specs.declared.journal.Journal.{Journal}
 use Rattle.wc_journal.specs.Reading.{holds, journal_of}
-use Rattle.wc_journal.specs.Journals.{IsSettled, with_batch, HoldsEither, IsReplaced}
+use Rattle.wc_journal.specs.Journals.{IsSettled, StaysWithin, with_batch, HoldsEither, IsReplaced}
 use Rattle.wc_journal.specs.Refusals.{size_after}
 use Rattle.wc_journal.specs.Spelled.{spelled}
 use Rattle.wc_state.specs.declared.record.What.TheVariants as what
@@ -44,6 +44,7 @@ pub record Appends {D T : Type 0} (g : disk.Ghosts D) (payload : List ℕ) (limi
   pub settled : OnOk result (IsTrue (g.tells old) → IsSettled g journal_new new)
   pub held : OnOk result (IsTrue (g.tells old) → journal_of (g.seen new) ≡ with_batch journal (journal_of (g.seen old)) payload)
   pub any_moment : IsTrue (g.tells old) → LeavesOnly g old new (HoldsEither (journal_of (g.seen old)) (with_batch journal (journal_of (g.seen old)) payload))
+  pub no_longer : IsTrue (g.tells old) → StaysWithin g (max (length (g.seen old)) (size_after journal.end journal.version payload)) old new
   pub fits : OnOk result (size_after journal.end journal.version payload ≤ limit)
   pub longer : OnOk result (journal_new.end + 1 ≡ size_after journal.end journal.version payload)
   pub kept : OnErr result (journal_new.end ≡ journal.end)

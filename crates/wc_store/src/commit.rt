@@ -1,11 +1,12 @@
 //! Changes that are stored, and a world that is packed.
-ghost use Rattle.std.specs.Prelude.{◌≡◌, ◌≤◌, ◌+◌, [], ◌∷◌, true, length, Err, IsTrue, IfOk, IfErr, OnOk, OnErr};
+ghost use Rattle.std.specs.Prelude.{◌≡◌, ◌≤◌, ◌+◌, [], ◌∷◌, true, length, max, Err, IsTrue, IfOk, IfErr, OnOk, OnErr};
 ghost use Rattle.wc_journal.specs.Reading.{holds, journal_of};
+ghost use Rattle.wc_journal.specs.Journals.{StaysWithin};
 ghost use Rattle.wc_record.specs.Spelled.{spelled};
 ghost use Rattle.wc_world.specs.Applied.{applied};
 ghost use Rattle.wc_world.specs.Accepted.{IsAccepted};
 ghost use Rattle.wc_world.specs.Snapshot.{snapshot};
-ghost use Rattle.wc_store.specs.Places.{number_of, opposite};
+ghost use Rattle.wc_store.specs.Places.{its, number_of, opposite};
 ghost use Rattle.wc_store.specs.Held.{is_plain};
 ghost use Rattle.wc_store.specs.Prepared.{HasGeneration};
 ghost use Rattle.wc_store.specs.Stores.{StandsFor, LeadsTo, CommitLeaves, PackLeaves, PacksTo, packed_image, other};
@@ -59,6 +60,10 @@ impl Store {
         ensures place { (self.new.place ≡ self.old.place) × (self.new.journal.generation ≡ self.old.journal.generation) × (self.new.journal.version ≡ self.old.journal.version) }
         ensures any_moment { IsTrue (D.tells one.old) → IsTrue (D.tells two.old)
             → CommitLeaves D.Disk self.old limits.now changes one.old two.old one.new two.new }
+        // The store's file gets no longer than the batch makes its journal, and stays as long as it was where that is more.
+        ensures no_longer { IsTrue (D.tells one.old) → IsTrue (D.tells two.old) → StaysWithin D.Disk
+            (max (length (D.seen (its self.old.place one.old two.old))) (committed_bytes self.old.journal changes))
+            (its self.old.place one.old two.old) (its self.old.place one.new two.new) }
         ensures tells { (D.tells one.new ≡ D.tells one.old) × (D.tells two.new ≡ D.tells two.old) }
         ensures cause { Counts result (D.faults one.old) (D.faults one.new) (D.faults two.old) (D.faults two.new) (D.failed one.new) (D.failed two.new) }
     {

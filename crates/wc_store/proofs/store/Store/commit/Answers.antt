@@ -1,13 +1,18 @@
-use Rattle.std.proofs.Common.{◌≤◌, ◌∙◌, ℕ, List, length, ap, refl, subst, sym, Ok, Err}
+use Rattle.std.proofs.Common.{◌≤◌, ◌∙◌, ℕ, List, length, max, ap, refl, subst, sym, Ok, Err}
 use Rattle.wc_journal.specs.Batches.{payload_of}
 use Rattle.wc_journal.specs.Frame.{most_of}
+use Rattle.wc_journal.specs.Journals.{StaysWithin}
+use Rattle.wc_journal.specs.Refusals.{size_after}
+use Rattle.wc_journal.proofs.Lengths.{stays_uncalled}
 use Rattle.wc_record.specs.Reading.{whole}
 use Rattle.wc_record.proofs.Whole.{written_is_read}
 use Rattle.wc_world.specs.World.{World}
 use Rattle.wc_world.specs.Applied.{applied}
+use Rattle.wc_store.specs.Places.{its}
 use Rattle.wc_store.specs.Refusals.{byte_limit}
 use Rattle.wc_store.proofs.Commits.{nothing_committed}
 use Rattle.wc_store.proofs.Committed.{settled_there, plain_there, appended_leaves, appended_stands, refused_stands}
+use Rattle.wc_store.proofs.Counted.{own_told}
 use Rattle.wc_store.proofs.Imaged.{images_more, images_same}
 use Rattle.wc_store.proofs.store.Store.commit.Goals as goal
 
@@ -79,3 +84,21 @@ returns-in-Err-clause-images g c =
 pub returns-in_err-batch-clause-images : goal.returns-in_err-batch-clause-images
 returns-in_err-batch-clause-images g c =
     images_same c.args.self.now c.prepare.new.world c.args.self.now.journal c.args.self.now.live c.prepare.ensures.same refl refl refl
+
+pub returns-in-Ok-clause-no_longer : goal.returns-in-Ok-clause-no_longer
+returns-in-Ok-clause-no_longer g c = λ told told_too.
+    let s = c.args.self.now in
+    let old = its s.place c.args.one.now c.args.two.now in
+    subst (λ (p : List ℕ). StaysWithin g.D.Disk (max (length (g.D.Disk.seen old)) (size_after s.journal.end s.journal.version p)) old (its s.place c.append_at.new.one c.append_at.new.two))
+    c.in_ok-batch.ensures.batch.payload (c.in-Ok.ensures.appends.no_longer (own_told g.D.Disk c.args.one.now c.args.two.now s.place told told_too))
+
+pub returns-in-Err-clause-no_longer : goal.returns-in-Err-clause-no_longer
+returns-in-Err-clause-no_longer g c = λ told told_too.
+    let s = c.args.self.now in
+    let old = its s.place c.args.one.now c.args.two.now in
+    subst (λ (p : List ℕ). StaysWithin g.D.Disk (max (length (g.D.Disk.seen old)) (size_after s.journal.end s.journal.version p)) old (its s.place c.append_at.new.one c.append_at.new.two))
+    c.in_ok-batch.ensures.batch.payload (c.in-Err.ensures.appends.no_longer (own_told g.D.Disk c.args.one.now c.args.two.now s.place told told_too))
+
+pub returns-in_err-batch-clause-no_longer : goal.returns-in_err-batch-clause-no_longer
+returns-in_err-batch-clause-no_longer g c = λ told told_too.
+    stays_uncalled g.D.Disk (its c.args.self.now.place c.args.one.now c.args.two.now) _ g.met.D.Disk.only_now (c.requires.stands told told_too).settled.durable

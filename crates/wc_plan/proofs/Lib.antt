@@ -1,3 +1,4 @@
+pub mod Naming
 pub mod Valid
 pub mod Furthers
 pub mod Filed

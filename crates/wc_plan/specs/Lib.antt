@@ -7,4 +7,5 @@ pub mod Dry
 pub mod Submits
 pub mod Settings
 pub mod Counts
+pub mod Naming
 pub mod Plans

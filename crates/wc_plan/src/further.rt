@@ -1,11 +1,12 @@
 //! Files that a command names beside its library: inputs, and results of jobs.
 
-ghost use Rattle.std.specs.Prelude.{◌≡◌, [], IfOk};
+ghost use Rattle.std.specs.Prelude.{◌≡◌, [], ◌∷◌, ◌++◌, IfOk};
 ghost use Rattle.wc_json.specs.Documents.{answer_of};
 ghost use Rattle.wc_json.specs.Limits.{read_fields};
 ghost use Rattle.wc_json.specs.Tables.{read_table};
 ghost use Rattle.wc_plan.specs.Counts.{CountsShelf};
 ghost use Rattle.wc_plan.specs.Further.{Has, InputsFrom, TableFrom, kinds_of, or_cause, read_file};
+ghost use Rattle.wc_plan.specs.Naming.{given_file};
 ghost use Rattle.wc_plan.specs.declared.status.Cause.TheVariants.{Inputs, Table as TableCause};
 
 use crate::error::PlanError;
@@ -25,6 +26,7 @@ pub(crate) fn content_from<R: Shelf>(
     ensures content { IfOk result (λ content. Has (R.contents shelf.old) file.now content) }
     ensures counts { CountsShelf result (R.faults shelf.old) (R.faults shelf.new) (R.failed shelf.new) }
     ensures kept { R.contents shelf.new ≡ R.contents shelf.old }
+    ensures named { R.asked shelf.new ≡ R.asked shelf.old ++ (file.now ∷ []) }
 {
     match shelf.read(alloc, file) {
         Ok(content) => Ok(content),
@@ -79,6 +81,7 @@ fn inputs_in(
 }
 
 /// The inputs for ports in a file, if one is named.
+#[tactic(auto, using(crate::proofs::Naming::asks_nothing))]
 pub(crate) fn inputs_from<R: Shelf>(
     alloc: Global,
     shelf: &mut R,
@@ -88,6 +91,7 @@ pub(crate) fn inputs_from<R: Shelf>(
     ensures inputs { IfOk result (λ read. InputsFrom (R.contents shelf.old) inputs.now ports.now read) }
     ensures counts { CountsShelf result (R.faults shelf.old) (R.faults shelf.new) (R.failed shelf.new) }
     ensures kept { R.contents shelf.new ≡ R.contents shelf.old }
+    ensures named { R.asked shelf.new ≡ R.asked shelf.old ++ given_file inputs.now }
 {
     match inputs {
         None => Ok(Ok(Fields::new(alloc))),
@@ -136,6 +140,7 @@ fn empty_table(alloc: Global) -> Result<Table, AllocError>
 }
 
 /// The results of jobs in a file, if one is named.
+#[tactic(auto, using(crate::proofs::Naming::asks_nothing))]
 pub(crate) fn table_from<R: Shelf>(
     alloc: Global,
     shelf: &mut R,
@@ -144,6 +149,7 @@ pub(crate) fn table_from<R: Shelf>(
     ensures table { IfOk result (λ read. TableFrom (R.contents shelf.old) table.now read) }
     ensures counts { CountsShelf result (R.faults shelf.old) (R.faults shelf.new) (R.failed shelf.new) }
     ensures kept { R.contents shelf.new ≡ R.contents shelf.old }
+    ensures named { R.asked shelf.new ≡ R.asked shelf.old ++ given_file table.now }
 {
     match table {
         None => Ok(Ok(empty_table(alloc)?)),

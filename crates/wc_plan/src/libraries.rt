@@ -1,6 +1,6 @@
 //! Files that hold libraries.
 
-ghost use Rattle.std.specs.Prelude.{◌≡◌, IfOk};
+ghost use Rattle.std.specs.Prelude.{◌≡◌, [], ◌∷◌, ◌++◌, IfOk};
 ghost use Rattle.std.specs.Str.{is_utf8};
 ghost use Rattle.wc_syntax.specs.Writable.{IsWritable};
 ghost use Rattle.wc_plan.specs.Counts.{CountsShelf};
@@ -79,6 +79,7 @@ pub(crate) fn read_from<R: Shelf>(
     ensures read { IfOk result (λ r. ReadsFrom (R.contents shelf.old) file.now r) }
     ensures counts { CountsShelf result (R.faults shelf.old) (R.faults shelf.new) (R.failed shelf.new) }
     ensures kept { R.contents shelf.new ≡ R.contents shelf.old }
+    ensures named { R.asked shelf.new ≡ R.asked shelf.old ++ (file.now ∷ []) }
 {
     let content = content_from(alloc, shelf, file)?;
     Ok(read_content(alloc, file, content)?)

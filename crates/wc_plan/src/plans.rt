@@ -1,9 +1,10 @@
 //! What words ask for, as the shelf's files make it. No disk is in scope.
 
-ghost use Rattle.std.specs.Prelude.{◌≡◌, ◌≤◌, None, Some, IfOk};
+ghost use Rattle.std.specs.Prelude.{◌≡◌, ◌≤◌, ◌∷◌, ◌++◌, None, Some, IfOk};
 ghost use Rattle.wc_state.specs.Ranges.{AreLimits};
 ghost use Rattle.wc_cli.specs.Words.{command_of};
 ghost use Rattle.wc_plan.specs.Counts.{CountsShelf};
+ghost use Rattle.wc_plan.specs.Naming.{given_file, files_named, AsksFirst};
 ghost use Rattle.wc_plan.specs.Plans.{IsReadyPlan, NamesNoFile, Plans, PlansSubmission, chains_of, plan_of_prepared, plan_of_run, seed_of};
 ghost use Rattle.wc_plan.specs.Settings.{SettingsFrom, SettingsReady};
 ghost use Rattle.wc_plan.specs.Submits.{SubmitsReady};
@@ -23,6 +24,7 @@ use wc_io::{Shelf, ShelfError};
 use wc_value::{Text, Words};
 
 /// The settings of a command that names this file of the shelf, or none, or why there are none.
+#[tactic(auto, using(crate::proofs::Naming::asks_nothing))]
 fn read_settings_from<R: Shelf>(
     alloc: Global,
     shelf: &mut R,
@@ -33,6 +35,7 @@ fn read_settings_from<R: Shelf>(
     ensures counts { CountsShelf result (R.faults shelf.old) (R.faults shelf.new) (R.failed shelf.new) }
     ensures unasked { file.now ≡ None → shelf.new ≡ shelf.old }
     ensures kept { R.contents shelf.new ≡ R.contents shelf.old }
+    ensures named { R.asked shelf.new ≡ R.asked shelf.old ++ given_file file.now }
 {
     let Some(file) = file else {
         return Ok(Ok(usual_settings(alloc)));
@@ -65,6 +68,7 @@ fn plan_of_prepared(
 }
 
 /// What the words of `submit` plan with these settings.
+#[tactic(auto, using(crate::proofs::Naming::asks_none))]
 fn plan_submission<R: Shelf>(
     alloc: Global,
     shelf: &mut R,
@@ -79,6 +83,7 @@ fn plan_submission<R: Shelf>(
     ensures ready { IfOk result (λ p. IsReadyPlan p) }
     ensures counts { CountsShelf result (R.faults shelf.old) (R.faults shelf.new) (R.failed shelf.new) }
     ensures kept { R.contents shelf.new ≡ R.contents shelf.old }
+    ensures named { AsksFirst (file.now ∷ given_file inputs.now) (R.asked shelf.old) (R.asked shelf.new) }
 {
     match settings {
         Err(cause) => Ok(Plan::Told(refuse(alloc, cause)?)),
@@ -126,12 +131,14 @@ fn plan_of_run(
 }
 
 /// What a command asks for. Each file that it names is read and understood wholly here, before the next is read.
+#[tactic(auto, using(crate::proofs::Naming::asks_none, crate::proofs::Naming::asks_all, crate::proofs::Naming::asks_part, crate::proofs::Naming::asks_then, crate::proofs::Naming::asks_one, crate::proofs::Naming::asks_one_then))]
 fn plan_command<R: Shelf>(alloc: Global, command: Command, shelf: &mut R) -> Result<Plan, PlanError>
     ensures plans { IfOk result (λ p. Plans (R.contents shelf.old) (Some command) p) }
     ensures ready { IfOk result (λ p. IsReadyPlan p) }
     ensures counts { CountsShelf result (R.faults shelf.old) (R.faults shelf.new) (R.failed shelf.new) }
     ensures unasked { NamesNoFile (Some command) → shelf.new ≡ shelf.old }
     ensures kept { R.contents shelf.new ≡ R.contents shelf.old }
+    ensures named { AsksFirst (files_named (Some command)) (R.asked shelf.old) (R.asked shelf.new) }
 {
     match command {
         Command::Check { file } => {
@@ -196,12 +203,14 @@ fn plan_command<R: Shelf>(alloc: Global, command: Command, shelf: &mut R) -> Res
 }
 
 /// What words ask for.
+#[tactic(auto, using(crate::proofs::Naming::asks_none))]
 pub fn plan<R: Shelf>(alloc: Global, words: &Words, shelf: &mut R) -> Result<Plan, PlanError>
     ensures plans { IfOk result (λ p. Plans (R.contents shelf.old) (command_of words.now) p) }
     ensures ready { IfOk result (λ p. IsReadyPlan p) }
     ensures counts { CountsShelf result (R.faults shelf.old) (R.faults shelf.new) (R.failed shelf.new) }
     ensures unasked { NamesNoFile (command_of words.now) → shelf.new ≡ shelf.old }
     ensures kept { R.contents shelf.new ≡ R.contents shelf.old }
+    ensures named { AsksFirst (files_named (command_of words.now)) (R.asked shelf.old) (R.asked shelf.new) }
 {
     match command_of(alloc, words)? {
         None => Ok(Plan::Told(refuse(alloc, Cause::Words)?)),

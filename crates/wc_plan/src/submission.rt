@@ -1,9 +1,10 @@
 //! What is made of the words of `submit` before the store is asked.
 
-ghost use Rattle.std.specs.Prelude.{◌≡◌, IfOk};
+ghost use Rattle.std.specs.Prelude.{◌≡◌, ◌∷◌, IfOk};
 ghost use Rattle.wc_syntax.specs.Findings.{definition_named};
 ghost use Rattle.wc_plan.specs.Given.{bad_given};
 ghost use Rattle.wc_plan.specs.Counts.{CountsShelf};
+ghost use Rattle.wc_plan.specs.Naming.{given_file, AsksFirst};
 ghost use Rattle.wc_plan.specs.Submits.{inputs_of, inputs_beside, prepared_with, InputsFor, PreparesRead, PreparesFrom, SubmitsReady};
 
 use crate::error::PlanError;
@@ -82,6 +83,7 @@ fn inputs_beside(
 }
 
 /// The inputs for the definition of this name in a library, by words and by a file, if one is named, or why there are none.
+#[tactic(auto, using(crate::proofs::Naming::asks_none, crate::proofs::Naming::asks_all))]
 fn inputs_among<R: Shelf>(
     alloc: Global,
     shelf: &mut R,
@@ -93,6 +95,7 @@ fn inputs_among<R: Shelf>(
     ensures inputs { IfOk result (λ r. InputsFor (R.contents shelf.old) inputs.now (definition_named name.now library.now) name.now given.now r) }
     ensures counts { CountsShelf result (R.faults shelf.old) (R.faults shelf.new) (R.failed shelf.new) }
     ensures kept { R.contents shelf.new ≡ R.contents shelf.old }
+    ensures named { AsksFirst (given_file inputs.now) (R.asked shelf.old) (R.asked shelf.new) }
 {
     match find_definition(library, name) {
         None => Ok(Err(Cause::Name(name.copy()?))),
@@ -116,6 +119,7 @@ fn inputs_for<R: Shelf>(
     ensures inputs { IfOk result (λ r. InputsFor (R.contents shelf.old) inputs.now (definition_named name.now library.now) name.now given.now r) }
     ensures counts { CountsShelf result (R.faults shelf.old) (R.faults shelf.new) (R.failed shelf.new) }
     ensures kept { R.contents shelf.new ≡ R.contents shelf.old }
+    ensures named { AsksFirst (given_file inputs.now) (R.asked shelf.old) (R.asked shelf.new) }
 {
     inputs_among(alloc, shelf, library.library(), name, given, inputs)
 }
@@ -139,6 +143,7 @@ fn prepared_with(
 }
 
 /// What is to be submitted where a file is read as this. A file of inputs is read then, if one is named.
+#[tactic(auto, using(crate::proofs::Naming::asks_none))]
 fn prepare_read<R: Shelf>(
     alloc: Global,
     shelf: &mut R,
@@ -150,6 +155,7 @@ fn prepare_read<R: Shelf>(
     ensures prepares { IfOk result (λ p. PreparesRead (R.contents shelf.old) inputs.now name.now given.now read p) }
     ensures counts { CountsShelf result (R.faults shelf.old) (R.faults shelf.new) (R.failed shelf.new) }
     ensures kept { R.contents shelf.new ≡ R.contents shelf.old }
+    ensures named { AsksFirst (given_file inputs.now) (R.asked shelf.old) (R.asked shelf.new) }
 {
     match read {
         Read::Refused(cause) => Ok(Prepared::Refused(cause)),
@@ -163,6 +169,7 @@ fn prepare_read<R: Shelf>(
 /// What the words `submit FILE NAME [PORT=VALUE]... [--inputs F]` submit, with the files of a shelf. What comes first of these is the cause of a
 /// refusal: what the file is refused for; the library doesn't define the name; what the file of inputs is refused for; a port is given badly, of
 /// which the least is named.
+#[tactic(auto, using(crate::proofs::Naming::asks_one, crate::proofs::Naming::asks_one_then))]
 pub fn prepare<R: Shelf>(
     alloc: Global,
     shelf: &mut R,
@@ -176,6 +183,7 @@ pub fn prepare<R: Shelf>(
     ensures ready { IfOk result (λ p. SubmitsReady p) }
     ensures counts { CountsShelf result (R.faults shelf.old) (R.faults shelf.new) (R.failed shelf.new) }
     ensures kept { R.contents shelf.new ≡ R.contents shelf.old }
+    ensures named { AsksFirst (file.now ∷ given_file inputs.now) (R.asked shelf.old) (R.asked shelf.new) }
 {
     let read = read_from(alloc, shelf, file)?;
     prepare_read(alloc, shelf, read, name, given, inputs)

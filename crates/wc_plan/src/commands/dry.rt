@@ -1,9 +1,10 @@
 //! The tree that a definition has, with no store.
 
-ghost use Rattle.std.specs.Prelude.{◌≡◌, IfOk, IsSome};
+ghost use Rattle.std.specs.Prelude.{◌≡◌, ◌++◌, IfOk, IsSome};
 ghost use Rattle.wc_syntax.specs.Findings.{definition_named};
 ghost use Rattle.wc_plan.specs.Counts.{CountsShelf};
 ghost use Rattle.wc_plan.specs.Given.{bad_given, fields_of};
+ghost use Rattle.wc_plan.specs.Naming.{given_file, AsksFirst};
 ghost use Rattle.wc_plan.specs.Dry.{owed_answer, owed_inputs, owed_rows, OwesDefinition, OwesDry, OwesRows};
 ghost use Rattle.wc_semantics.specs.Tables.{plain, no_kills};
 ghost use Rattle.wc_semantics.specs.Laws.{IsUncut};
@@ -144,6 +145,7 @@ fn reply_for_rows(
 }
 
 /// The reply of `dry` for what a file of inputs is read as. The table file is read then, if one is named.
+#[tactic(auto, using(crate::proofs::Naming::asks_none, crate::proofs::Naming::asks_all))]
 fn reply_for_file<R: Shelf>(
     alloc: Global,
     shelf: &mut R,
@@ -156,6 +158,7 @@ fn reply_for_file<R: Shelf>(
     ensures owes { IfOk result (λ r. OwesRows (R.contents shelf.old) trial.now file ports.now library.now r) }
     ensures counts { CountsShelf result (R.faults shelf.old) (R.faults shelf.new) (R.failed shelf.new) }
     ensures kept { R.contents shelf.new ≡ R.contents shelf.old }
+    ensures named { AsksFirst (given_file trial.now.table) (R.asked shelf.old) (R.asked shelf.new) }
 {
     match file {
         Ok(file) => {
@@ -167,6 +170,7 @@ fn reply_for_file<R: Shelf>(
 }
 
 /// The reply of `dry` for a name in a library. The file of inputs is read then, if one is named.
+#[tactic(auto, using(crate::proofs::Naming::asks_none, crate::proofs::Naming::asks_part, crate::proofs::Naming::asks_then))]
 fn reply_for_name<R: Shelf>(
     alloc: Global,
     shelf: &mut R,
@@ -176,6 +180,7 @@ fn reply_for_name<R: Shelf>(
     ensures owes { IfOk result (λ r. OwesDefinition (R.contents shelf.old) trial.now (definition_named trial.now.name library.now) library.now r) }
     ensures counts { CountsShelf result (R.faults shelf.old) (R.faults shelf.new) (R.failed shelf.new) }
     ensures kept { R.contents shelf.new ≡ R.contents shelf.old }
+    ensures named { AsksFirst (given_file trial.now.inputs ++ given_file trial.now.table) (R.asked shelf.old) (R.asked shelf.new) }
 {
     match find_definition(library, &trial.name) {
         None => Ok(refuse(alloc, Cause::Name(trial.name.copy()?))?),
@@ -197,11 +202,13 @@ fn reply_for_library<R: Shelf>(
     ensures owes { IfOk result (λ r. OwesDefinition (R.contents shelf.old) trial.now (definition_named trial.now.name library.now) library.now r) }
     ensures counts { CountsShelf result (R.faults shelf.old) (R.faults shelf.new) (R.failed shelf.new) }
     ensures kept { R.contents shelf.new ≡ R.contents shelf.old }
+    ensures named { AsksFirst (given_file trial.now.inputs ++ given_file trial.now.table) (R.asked shelf.old) (R.asked shelf.new) }
 {
     reply_for_name(alloc, shelf, library.library(), trial)
 }
 
 /// The reply of `dry` for a file that is read as this.
+#[tactic(auto, using(crate::proofs::Naming::asks_none))]
 pub(crate) fn reply_to_dry<R: Shelf>(
     alloc: Global,
     shelf: &mut R,
@@ -211,6 +218,7 @@ pub(crate) fn reply_to_dry<R: Shelf>(
     ensures owes { IfOk result (λ r. OwesDry (R.contents shelf.old) trial.now read r) }
     ensures counts { CountsShelf result (R.faults shelf.old) (R.faults shelf.new) (R.failed shelf.new) }
     ensures kept { R.contents shelf.new ≡ R.contents shelf.old }
+    ensures named { AsksFirst (given_file trial.now.inputs ++ given_file trial.now.table) (R.asked shelf.old) (R.asked shelf.new) }
 {
     match read {
         Read::Refused(cause) => Ok(refuse(alloc, cause)?),

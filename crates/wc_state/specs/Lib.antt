@@ -1,3 +1,4 @@
 pub mod Checkpoint
 pub mod Context
+pub mod Pairs
 pub mod Ranges

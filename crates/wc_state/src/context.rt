@@ -2,6 +2,7 @@
 
 ghost use Rattle.std.specs.Prelude.{◌≡◌};
 
+use crate::name_map::NameMap;
 use crate::ordered::Ordered;
 use crate::record::Ids;
 use std::alloc::AllocError;
@@ -33,10 +34,22 @@ impl Clone for CtxRef {
 /// What the keys hold, in the order in which they were first set.
 pub type Context = Ordered<CtxRef>;
 
-impl Duplicate for Context {
-    fn copy(&self) -> Result<Context, AllocError> {
-        Ok(Ordered {
+impl Duplicate for NameMap<CtxRef> {
+    fn copy(&self) -> Result<NameMap<CtxRef>, AllocError> {
+        Ok(NameMap {
             map: self.map.clone()?,
         })
+    }
+}
+
+impl Duplicate for Context {
+    fn copy(&self) -> Result<Context, AllocError> {
+        match &self.pairs {
+            None => Ok(Ordered::new(self.alloc)),
+            Some(pairs) => Ok(Ordered {
+                alloc: self.alloc,
+                pairs: Some(Box::new(self.alloc, pairs.copy()?)?),
+            }),
+        }
     }
 }

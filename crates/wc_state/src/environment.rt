@@ -2,6 +2,7 @@
 
 ghost use Rattle.std.specs.Prelude.{◌≡◌};
 
+use crate::name_map::NameMap;
 use crate::ordered::Ordered;
 use std::alloc::AllocError;
 use wc_value::{Duplicate, Keyed, List, ProcessState, Value};
@@ -58,11 +59,23 @@ impl Clone for Item {
 /// What the keys of the context hold, in the order in which the keys were first set.
 pub type Items = Ordered<Item>;
 
-impl Duplicate for Items {
-    fn copy(&self) -> Result<Items, AllocError> {
-        Ok(Ordered {
+impl Duplicate for NameMap<Item> {
+    fn copy(&self) -> Result<NameMap<Item>, AllocError> {
+        Ok(NameMap {
             map: self.map.clone()?,
         })
+    }
+}
+
+impl Duplicate for Items {
+    fn copy(&self) -> Result<Items, AllocError> {
+        match &self.pairs {
+            None => Ok(Ordered::new(self.alloc)),
+            Some(pairs) => Ok(Ordered {
+                alloc: self.alloc,
+                pairs: Some(Box::new(self.alloc, pairs.copy()?)?),
+            }),
+        }
     }
 }
 

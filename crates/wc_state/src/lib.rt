@@ -4,6 +4,7 @@
 mod context;
 mod copies;
 mod environment;
+mod name_map;
 mod ordered;
 mod record;
 

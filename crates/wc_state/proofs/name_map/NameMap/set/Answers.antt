@@ -1,6 +1,6 @@
 use Rattle.std.proofs.Common.{◌∙◌}
 use Rattle.wc_state.proofs.Pairs.{with_set_is, found_at_is}
-use Rattle.wc_state.proofs.ordered.Ordered.set.Goals as goal
+use Rattle.wc_state.proofs.name_map.NameMap.set.Goals as goal
 
 pub returns-clause-ok : goal.returns-clause-ok
 returns-clause-ok g c = rw (← c.self.view_is) (c.in_ok-insert.ensures.entries ∙ with_set_is _ c.args.key c.args.held)

@@ -1,2 +1,4 @@
 mod Reading
 mod Words
+mod Lines
+mod Answers

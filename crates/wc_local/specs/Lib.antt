@@ -1,2 +1,5 @@
 pub mod Quotes
 pub mod Script
+pub mod Batch
+pub mod Queue
+pub mod End

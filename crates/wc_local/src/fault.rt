@@ -28,6 +28,21 @@ pub enum Fault {
     /// The `sh` that starts the script failed.
     #[error("sh couldn't start the script")]
     Start,
+    /// The scheduler refused a job.
+    #[error("the scheduler refused: see slurm.err")]
+    Scheduler,
+    /// Whether the scheduler has a job isn't known.
+    #[error("the scheduler doesn't answer")]
+    Silent,
+    /// The scheduler ended a job before its program began, or doesn't know it.
+    #[error("the scheduler ended the job before its program began: see slurm.txt")]
+    Unstarted,
+    /// A line for the scheduler asks for what a job can't be.
+    #[error("a line of #SBATCH asks for an array, for several jobs or to wait")]
+    Directive,
+    /// The lines for the scheduler are too many.
+    #[error("a file wc.slurm has more than 1048576 bytes")]
+    Head,
     /// The program hasn't ended.
     #[error("the program hasn't ended")]
     Running,

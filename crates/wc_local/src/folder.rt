@@ -294,13 +294,15 @@ fn fetched<R: Files>(rt: &R, alloc: Global, path: &str) -> Result<Option<Bytes>,
     Ok(Some(content))
 }
 
-/// What a program that has ended left: its exit code, and those files that the request asks for and that are there.
+/// What a program that has ended left: its exit code, and those files that the request asks for and that are there. The folder is opened
+/// first, so that no name is missed that a node of a cluster made a moment ago.
 pub fn result_of<R: Files>(
     rt: &R,
     alloc: Global,
     folder: &str,
     request: &Request,
 ) -> Result<JobResult, Fault> {
+    called("opening a folder", fs::open(rt, folder))?;
     let code = code_of(rt, alloc, folder)?;
     let mut files = Keyed::new(alloc);
     for name in request.fetch.as_slice() {

@@ -1,11 +1,21 @@
-//! Jobs as programs of this machine, each in a folder of its own, by a script that `sh` runs once.
+//! Jobs as programs of this machine, each in a folder of its own, by a script that `sh` runs once, here or on a
+//! node of a cluster.
 #![tactic(auto)]
 
+mod batch;
+mod end;
 mod fault;
 mod folder;
 mod local;
+mod mark;
+mod queue;
 mod quoting;
+mod random;
 mod script;
+mod settling;
+mod shell;
+mod slurm;
+mod submission;
 
 pub use fault::{Failure, Fault};
 pub use local::LocalTransport;

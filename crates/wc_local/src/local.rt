@@ -8,7 +8,11 @@ use crate::folder::{
     has_ended, holds, is_alive, is_locked, must_hold, note, place, result_of, sync_names,
     sync_placed,
 };
+use crate::mark::claim;
+use crate::queue::Queue;
+use crate::slurm::{Job, followed, is_on_slurm, submitted};
 use std::alloc::{AllocError, Global};
+use std::env::Env;
 use std::fs::File;
 use std::io;
 use std::process::{Command, Processes, Stdio};
@@ -21,8 +25,9 @@ use wc_value::{JobResult, Request, Text};
 const START: &str = "\
 if command -v setsid >/dev/null; then setsid sh ./_wc_run.sh & else sh ./_wc_run.sh & fi";
 
-/// Programs of this machine, each in a folder below this one that is named by its number. A program is run by a script,
-/// which makes a folder first and ends where that is there, so that the program is started once.
+/// Programs of this machine, or of a cluster, each in a folder below this one that is named by its number. A program is run by a script,
+/// which makes a folder first and ends where that is there, so that the program is started once. Where a file `wc.slurm` lies beside the
+/// folder of jobs, Slurm starts the script on a node.
 #[derive(Drop)]
 pub struct LocalTransport<R: Drop> {
     rt: R,
@@ -31,9 +36,11 @@ pub struct LocalTransport<R: Drop> {
     asked: u64,
     faults: u64,
     failure: Option<Failure>,
+    queue: Queue,
+    is_claimed: bool,
 }
 
-impl<R: Files<File = File> + Processes + Drop> LocalTransport<R> {
+impl<R: Files<File = File> + Processes + Env + Drop> LocalTransport<R> {
     /// The programs of this machine, below a folder. No call of the system is made yet.
     pub fn new(rt: R, alloc: Global, folder: Text) -> LocalTransport<R>
         ensures untold { ⟦<LocalTransport<R> as Transport>⟧.table result ≡ None }
@@ -50,6 +57,8 @@ impl<R: Files<File = File> + Processes + Drop> LocalTransport<R> {
             asked: 0,
             faults: 0,
             failure: None,
+            queue: Queue::new(alloc),
+            is_claimed: false,
         }
     }
 
@@ -95,8 +104,16 @@ impl<R: Files<File = File> + Processes + Drop> LocalTransport<R> {
         Err(TaskError::Failed)
     }
 
-    /// Places a request, where the folder doesn't hold it yet. The names of one that is there may not be on the disk yet.
-    fn uploaded(&self, dir: u32, request: &Request) -> Result<(), Fault> {
+    /// Places a request, where the folder doesn't hold it yet. The names of one that is there may not be on the disk yet. Before the
+    /// first one the folder of jobs is seen to be this store's.
+    fn uploaded(&mut self, dir: u32, request: &Request) -> Result<(), Fault>
+        ensures asked { self.new.asked ≡ self.old.asked }
+        ensures faults { self.new.faults ≡ self.old.faults }
+    {
+        if !self.is_claimed {
+            claim(&self.rt, self.alloc, self.folder.as_str())?;
+            self.is_claimed = true;
+        }
         let folder = self.folder_of(dir)?;
         if holds(&self.rt, self.alloc, folder.as_str(), request)? {
             return sync_placed(&self.rt, folder.as_str());
@@ -126,29 +143,59 @@ impl<R: Files<File = File> + Processes + Drop> LocalTransport<R> {
         Err(Fault::Start)
     }
 
-    /// Starts the program of a job.
-    fn submitted(&self, dir: u32, request: &Request) -> Result<(), Fault> {
+    /// Starts the program of a job, here or on a cluster.
+    fn submitted(&mut self, dir: u32, request: &Request) -> Result<(), Fault>
+        ensures asked { self.new.asked ≡ self.old.asked }
+        ensures faults { self.new.faults ≡ self.old.faults }
+    {
         let folder = self.folder_of(dir)?;
         must_hold(&self.rt, self.alloc, folder.as_str(), request)?;
+        let job = Job {
+            jobs: self.folder.as_str(),
+            dir,
+            folder: folder.as_str(),
+            request,
+        };
+        if is_on_slurm(&self.rt, self.alloc, job)? {
+            return submitted(&self.rt, self.alloc, &mut self.queue, job);
+        }
         self.start(folder.as_str())
     }
 
-    /// Whether the program of a job has ended. Where no run has begun, or its user took that back, the script is started
-    /// again, unless one lives, as one that waits for a slot: then nothing is started.
-    fn progress(&self, dir: u32, request: &Request) -> Result<Progress, Fault> {
+    /// Looks at a job whose program hasn't ended. Where no run has begun, or its user took that back, the script is started again, unless
+    /// one lives, as one that waits for a slot: then nothing is started. On a cluster Slurm is asked about it.
+    fn pursued(&mut self, dir: u32, folder: &str, request: &Request) -> Result<(), Fault>
+        ensures asked { self.new.asked ≡ self.old.asked }
+        ensures faults { self.new.faults ≡ self.old.faults }
+    {
+        let job = Job {
+            jobs: self.folder.as_str(),
+            dir,
+            folder,
+            request,
+        };
+        if is_on_slurm(&self.rt, self.alloc, job)? {
+            return followed(&self.rt, self.alloc, &mut self.queue, job);
+        }
+        if is_locked(&self.rt, self.alloc, folder)? || is_alive(&self.rt, self.alloc, folder)? {
+            return Ok(());
+        }
+        self.start(folder)
+    }
+
+    /// Whether the program of a job has ended.
+    fn progress(&mut self, dir: u32, request: &Request) -> Result<Progress, Fault>
+        ensures asked { self.new.asked ≡ self.old.asked }
+        ensures faults { self.new.faults ≡ self.old.faults }
+    {
         let folder = self.folder_of(dir)?;
         must_hold(&self.rt, self.alloc, folder.as_str(), request)?;
-        if has_ended(&self.rt, self.alloc, folder.as_str())? {
-            sync_names(&self.rt, folder.as_str())?;
-            return Ok(Progress::Done);
-        }
-        if is_locked(&self.rt, self.alloc, folder.as_str())?
-            || is_alive(&self.rt, self.alloc, folder.as_str())?
-        {
+        if !has_ended(&self.rt, self.alloc, folder.as_str())? {
+            self.pursued(dir, folder.as_str(), request)?;
             return Ok(Progress::Running);
         }
-        self.start(folder.as_str())?;
-        Ok(Progress::Running)
+        sync_names(&self.rt, folder.as_str())?;
+        Ok(Progress::Done)
     }
 
     /// What the program of a job left.
@@ -159,7 +206,7 @@ impl<R: Files<File = File> + Processes + Drop> LocalTransport<R> {
     }
 }
 
-impl<R: Files<File = File> + Processes + Drop> Transport for LocalTransport<R> {
+impl<R: Files<File = File> + Processes + Env + Drop> Transport for LocalTransport<R> {
     ghost use Rattle.std.specs.Prelude.{None, false};
 
     ghost table = { λ _. None };

@@ -48,6 +48,16 @@ _wc_slot
 case $(sync --help 2>&1) in *FILE*) _wc_sync=sync ;; *) _wc_sync=true ;; esac
 mkdir _wc_lock || exit 0
 "$_wc_sync" .
+# On a cluster the word slurm stands behind: the signal that ends the program leaves this its time to write the code, and the file _wc_runs
+# tells which run made the lock. Where it can't be written, nothing is run, and a later run may.
+if [ "${1-}" = slurm ]; then
+  trap : TERM
+  { echo "$SLURM_JOB_ID ${SLURM_RESTART_COUNT:-0} ${SLURMD_NODENAME:-$(hostname)}" >_wc_runs && "$_wc_sync" _wc_runs; } || {
+    echo "the script of the job failed: _wc_runs can't be written" >_wc_failed
+    rmdir _wc_lock
+    exit 1
+  }
+fi
 # Where the output can't be written, nothing is run, and a later run may.
 true >stdout.txt && true >stderr.txt || {
   echo "the script of the job failed: stdout.txt or stderr.txt can't be written" >_wc_failed

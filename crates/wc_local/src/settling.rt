@@ -1,0 +1,325 @@
+//! A job whose run the scheduler has ended, or doesn't know any more.
+
+use crate::end::{End, code_of, end_in, had_node, part, signal_in, state_in};
+use crate::fault::{Fault, called};
+use crate::folder::{
+    FAILED, LOCK, STATUS, content_of, has_ended, is_alive, is_there, length_of, path_in,
+    place_file, sync_names, write_file,
+};
+use crate::shell::output_of;
+use crate::submission::{put_line, put_over};
+use std::alloc::{AllocError, Global};
+use std::fs::File;
+use std::process::Processes;
+use std::rt::Files;
+use std::string::String;
+use std::{fs, io, str};
+
+/// Asks for the exit code of the last job of a name, as the system gives it: 256 times the code, or the signal.
+const CODE: &str = r#"limit=
+command -v timeout >/dev/null && limit='timeout 60'
+exec $limit squeue -h -a -u "$(id -u)" -t all -n "$1" -O exit_code"#;
+
+/// Asks the accounting for the state, the exit code and the nodes of the last job of a name, and lays them out as the queue does.
+const ACCOUNTS: &str = r#"command -v sacct >/dev/null || exit 1
+limit=
+command -v timeout >/dev/null && limit='timeout 60'
+exec $limit sacct -n -P -X --name="$1" -S now-30days -o State,NodeList,ExitCode"#;
+
+/// When an end was first seen, by the time of this file, and which.
+const ENDED: &str = "_wc_ended";
+
+/// A file whose time is the file server's.
+const NOW: &str = "_wc_now";
+
+/// Which run made the lock: written by the script, on its node.
+const RUNS: &str = "_wc_runs";
+
+/// Where the scheduler writes, and what settles a job.
+const WORDS: &str = "slurm.txt";
+
+/// The most bytes of the file of an end.
+const MOST_ENDED: u64 = 4096;
+
+/// How long an end is left alone, in seconds: a node may have made a lock or written a code that isn't seen here yet.
+const GRACE: u64 = 60;
+
+/// A submitted job that the scheduler has ended, or doesn't know.
+#[derive(Clone, Copy)]
+pub struct Settled<'a> {
+    /// The number of its folder.
+    pub dir: u32,
+    /// Its folder.
+    pub folder: &'a str,
+    /// The name of its submission.
+    pub name: &'a str,
+    /// What the scheduler says of it.
+    pub told: Option<&'a [u8]>,
+}
+
+impl<'a> Settled<'a> {
+    /// A part of what is told, as text.
+    fn part(&self, at: usize) -> &str {
+        match self.told {
+            Some(told) => str::from_utf8(part(told, at)).unwrap_or(""),
+            None => "",
+        }
+    }
+
+    /// The scheduler's words: the state and the reason.
+    fn words(&self, alloc: Global) -> Result<String, AllocError> {
+        if self.told.is_none() {
+            return String::from_str(alloc, "slurm: the job isn't known");
+        }
+        let state = self.part(0);
+        let reason = self.part(2);
+        format!(in alloc; "slurm: {state} {reason}")
+    }
+}
+
+/// Writes into the folder what keeps a job open.
+pub fn tell_open<R: Files<File = File>>(
+    rt: &R,
+    alloc: Global,
+    folder: &str,
+    dir: u32,
+    why: &str,
+) -> Result<(), Fault> {
+    let line = format!(in alloc; "the update of job {dir} is open: {why}\n")?;
+    write_file(rt, alloc, folder, FAILED, line.as_bytes())?;
+    Ok(())
+}
+
+/// Forgets an end that was seen: the job goes on.
+pub fn forget_end<R: Files>(rt: &R, alloc: Global, folder: &str) -> Result<(), Fault> {
+    let path = path_in(alloc, folder, ENDED)?;
+    match fs::remove_file(rt, path.as_str()) {
+        Err(error) if error.kind() != io::ErrorKind::NotFound => called(
+            "removing a file",
+            Err(error),
+        ),
+        _ => Ok(()),
+    }
+}
+
+/// Whether the file of an end has these words.
+fn has_seen<R: Files>(rt: &R, alloc: Global, path: &str, words: &str) -> Result<bool, Fault> {
+    if length_of(rt, path)?.is_none() {
+        return Ok(false);
+    }
+    let content = content_of(rt, alloc, path, MOST_ENDED)?;
+    Ok(content.as_slice() == words.as_bytes())
+}
+
+/// How many seconds have gone by since a file was written, by the times of the file server alone.
+fn age_of<R: Files<File = File>>(
+    rt: &R,
+    alloc: Global,
+    folder: &str,
+    path: &str,
+) -> Result<u64, Fault> {
+    place_file(rt, alloc, folder, NOW, b"now\n")?;
+    let now = path_in(alloc, folder, NOW)?;
+    let now = called("looking for a file", fs::metadata(rt, now.as_str()))?;
+    let then = called("looking for a file", fs::metadata(rt, path))?;
+    let now = called("asking for a time", now.modified())?;
+    let then = called("asking for a time", then.modified())?;
+    match now.duration_since(then) {
+        Ok(age) => Ok(age.as_secs()),
+        Err(_) => Ok(0),
+    }
+}
+
+/// Whether an end was first seen a minute ago or earlier. Another one than the last that was seen begins the minute anew.
+fn is_minute_over<R: Files<File = File>>(
+    rt: &R,
+    alloc: Global,
+    folder: &str,
+    words: &str,
+) -> Result<bool, Fault> {
+    let path = path_in(alloc, folder, ENDED)?;
+    if has_seen(rt, alloc, path.as_str(), words)? {
+        return Ok(age_of(rt, alloc, folder, path.as_str())? >= GRACE);
+    }
+    place_file(rt, alloc, folder, ENDED, words.as_bytes())?;
+    Ok(false)
+}
+
+/// Writes an exit code, in place of the script, unless the script has: the link never replaces its file.
+fn put_code<R: Files<File = File>>(
+    rt: &R,
+    alloc: Global,
+    folder: &str,
+    code: u32,
+) -> Result<(), Fault> {
+    let line = format!(in alloc; "{code}\n")?;
+    place_file(rt, alloc, folder, "_wc_status.slurm", line.as_bytes())?;
+    let part = path_in(alloc, folder, "_wc_status.slurm")?;
+    let whole = path_in(alloc, folder, STATUS)?;
+    match fs::hard_link(rt, part.as_str(), whole.as_str()) {
+        Err(error) if error.kind() != io::ErrorKind::AlreadyExists => called(
+            "linking a file",
+            Err(error),
+        ),
+        _ => sync_names(rt, folder),
+    }
+}
+
+/// Settles a job with an exit code, unless the folder, opened once more, has one, or a script lives.
+fn settle_with<R: Files<File = File>>(
+    rt: &R,
+    alloc: Global,
+    job: Settled<'_>,
+    code: u32,
+) -> Result<(), Fault> {
+    sync_names(rt, job.folder)?;
+    if has_ended(rt, alloc, job.folder)? || is_alive(rt, alloc, job.folder)? {
+        return Ok(());
+    }
+    put_line(rt, alloc, job.folder, WORDS, job.words(alloc)?.as_str())?;
+    put_code(rt, alloc, job.folder, code)
+}
+
+/// Settles a job that was cancelled and has no lock: who makes the lock is sure that no run begins.
+fn settle_cancelled<R: Files<File = File>>(
+    rt: &R,
+    alloc: Global,
+    job: Settled<'_>,
+) -> Result<(), Fault> {
+    let lock = path_in(alloc, job.folder, LOCK)?;
+    match fs::create_dir(rt, lock.as_str()) {
+        Ok(()) => {
+            sync_names(rt, job.folder)?;
+            settle_with(rt, alloc, job, 143)
+        }
+        Err(error) if error.kind() == io::ErrorKind::AlreadyExists => Ok(()),
+        Err(error) => called("making the lock", Err(error)),
+    }
+}
+
+/// The exit code for a run that met an end, if one is to be written. A job that was cancelled and never had a node, and whose lock was made
+/// by no run that told of itself, has none to wait for.
+fn code_for<R: Files>(
+    rt: &R,
+    alloc: Global,
+    job: Settled<'_>,
+    end: End,
+    signal: u32,
+) -> Result<Option<u32>, Fault> {
+    let has_run = had_node(job.part(1).as_bytes())
+        || (end == End::Cancelled && !is_there(rt, alloc, job.folder, RUNS)?);
+    Ok(code_of(end, has_run, signal))
+}
+
+/// The signal that ended the script of a job, as far as the queue tells.
+fn signal_of<R: Processes>(rt: &R, alloc: Global, name: &str) -> Result<u32, Fault> {
+    let Some(output) = output_of(rt, alloc, CODE, name, "")? else {
+        return Ok(0);
+    };
+    match str::from_utf8(output.stdout.as_slice()) {
+        Ok(text) => Ok(signal_in(text.lines().last().unwrap_or(""))),
+        Err(_) => Ok(0),
+    }
+}
+
+/// The exit code for a run that the queue tells the end of.
+fn code_by_queue<R: Files + Processes>(
+    rt: &R,
+    alloc: Global,
+    job: Settled<'_>,
+    end: End,
+) -> Result<Option<u32>, Fault> {
+    let signal = if end == End::Failed {
+        signal_of(rt, alloc, job.name)?
+    } else {
+        0
+    };
+    code_for(rt, alloc, job, end, signal)
+}
+
+/// The exit code for a run that the queue knows no more, by the accounting, where there is one.
+fn code_by_accounts<R: Files + Processes>(
+    rt: &R,
+    alloc: Global,
+    job: Settled<'_>,
+) -> Result<Option<u32>, Fault> {
+    let Some(output) = output_of(rt, alloc, ACCOUNTS, job.name, "")? else {
+        return Ok(None);
+    };
+    let Ok(text) = str::from_utf8(output.stdout.as_slice()) else {
+        return Ok(None);
+    };
+    let told = text.lines().last().unwrap_or("").as_bytes();
+    let Some(end) = end_in(told) else {
+        return Ok(None);
+    };
+    let job = Settled {
+        told: Some(told),
+        ..job
+    };
+    let signal = signal_in(job.part(2));
+    code_for(rt, alloc, job, end, signal)
+}
+
+/// Settles a job whose lock is there, a minute after its end was seen.
+fn settle_locked<R: Files<File = File> + Processes>(
+    rt: &R,
+    alloc: Global,
+    job: Settled<'_>,
+    end: Option<End>,
+    seen: &str,
+) -> Result<(), Fault> {
+    let code = match end {
+        Some(end) => code_by_queue(rt, alloc, job, end)?,
+        None => code_by_accounts(rt, alloc, job)?,
+    };
+    if let Some(code) = code {
+        return settle_with(rt, alloc, job, code);
+    }
+    // The next look that asks comes a minute later.
+    place_file(rt, alloc, job.folder, ENDED, seen.as_bytes())?;
+    let why = if end.is_some() {
+        "the scheduler has ended the job, and no exit code has come"
+    } else {
+        "the scheduler doesn't know the job any more, whose program may run: look for it, and write its code to _wc_status, or remove _wc_lock for a new run"
+    };
+    tell_open(rt, alloc, job.folder, job.dir, why)
+}
+
+/// Settles a job without a lock, a minute after its end was seen: this submission is over, and another may follow.
+fn settle_unstarted<R: Files<File = File>>(
+    rt: &R,
+    alloc: Global,
+    job: Settled<'_>,
+) -> Result<(), Fault> {
+    put_line(rt, alloc, job.folder, WORDS, job.words(alloc)?.as_str())?;
+    put_over(rt, alloc, job.folder)?;
+    forget_end(rt, alloc, job.folder)?;
+    Err(Fault::Unstarted)
+}
+
+/// Settles a job that the scheduler has ended, or doesn't know, as far as that can be said. `is_locked`: a run of the script has begun.
+pub fn settle<R: Files<File = File> + Processes>(
+    rt: &R,
+    alloc: Global,
+    job: Settled<'_>,
+    is_locked: bool,
+) -> Result<(), Fault> {
+    let end = match job.told {
+        Some(told) => end_in(told),
+        None => None,
+    };
+    if end == Some(End::Cancelled) && !is_locked {
+        return settle_cancelled(rt, alloc, job);
+    }
+    let name = job.name;
+    let state = job.part(0);
+    let seen = format!(in alloc; "{name} {state}\n")?;
+    if !is_minute_over(rt, alloc, job.folder, seen.as_str())? {
+        return Ok(());
+    }
+    if is_locked {
+        return settle_locked(rt, alloc, job, end, seen.as_str());
+    }
+    settle_unstarted(rt, alloc, job)
+}

@@ -1,0 +1,350 @@
+//! Jobs on a cluster that Slurm schedules. What it says of a job may be the news of the day before: it forgets jobs that run, queues some
+//! again and gives a number twice. So the folder decides, and never its memory: the run that makes the lock is the only one.
+
+use crate::batch::{batch_of, is_directive, lines_of};
+use crate::end::end_in;
+use crate::fault::{Fault, called};
+use crate::folder::{
+    content_of, has_ended, is_alive, is_locked, length_of, path_in, place_file, write_file,
+};
+use crate::mark::beside;
+use crate::queue::Queue;
+use crate::settling::{Settled, forget_end, settle, tell_open};
+use crate::shell::output_of;
+use crate::submission::{
+    Submission, has_submission, new_name, place_name, put_number, put_over, submission_of,
+};
+use std::alloc::Global;
+use std::env::Env;
+use std::fs::File;
+use std::path::Path;
+use std::process::{Output, Processes};
+use std::rt::Files;
+use std::str;
+use wc_value::{Bytes, List, Request, Text};
+
+/// The file beside the folder of jobs that chooses Slurm, and that of a job's own lines.
+const HEAD: &str = "wc.slurm";
+
+/// The most bytes of such a file.
+const MOST_HEAD: u64 = 1024 * 1024;
+
+/// Gives the batch script to Slurm. Words: the folder and the name. In the path of the output, and there alone, a `%` stands for
+/// something, unless it is written twice.
+const SUBMIT: &str = r#"unset CDPATH
+cd -- "$1" || exit 1
+rest=$PWD
+out=
+while :; do
+  case $rest in
+    *%*) out=$out${rest%%"%"*}%% rest=${rest#*"%"} ;;
+    *) break ;;
+  esac
+done
+limit=
+command -v timeout >/dev/null && limit='timeout 60'
+exec $limit sbatch --parsable --no-requeue --job-name="$2" --chdir="$PWD" --output="$out$rest/slurm.txt" --open-mode=append _wc_batch.sh"#;
+
+/// A job of the folder of jobs `jobs`.
+#[derive(Clone, Copy)]
+pub struct Job<'a> {
+    /// The folder of jobs.
+    pub jobs: &'a str,
+    /// The number of its folder.
+    pub dir: u32,
+    /// Its folder.
+    pub folder: &'a str,
+    /// What it runs.
+    pub request: &'a Request,
+}
+
+/// Whether a job is Slurm's: it was meant for it, or nothing has begun and the file is there that chooses it.
+pub fn is_on_slurm<R: Files<File = File>>(
+    rt: &R,
+    alloc: Global,
+    job: Job<'_>,
+) -> Result<bool, Fault> {
+    if has_submission(rt, alloc, job.folder)? {
+        return Ok(true);
+    }
+    let head = beside(alloc, job.jobs, HEAD)?;
+    if length_of(rt, head.as_str())?.is_none() {
+        return Ok(false);
+    }
+    Ok(!is_locked(rt, alloc, job.folder)? && !is_alive(rt, alloc, job.folder)?)
+}
+
+/// How many jobs Slurm is to have at most, where the user says so.
+fn most_jobs<R: Env>(rt: &R) -> Option<u32> {
+    let mut digits = [0u8; 16];
+    let Ok(count) = rt.var("MAROONCLAMP_JOBS", &mut digits) else {
+        return None;
+    };
+    let Some(digits) = digits.get(..count) else {
+        return None;
+    };
+    match str::from_utf8(digits) {
+        Ok(text) => text.parse::<u32>().ok().filter(|most| *most > 0),
+        Err(_) => None,
+    }
+}
+
+/// The lines of a file, none where it isn't there.
+fn head_lines<R: Files>(rt: &R, alloc: Global, path: &str) -> Result<List<Bytes>, Fault> {
+    if length_of(rt, path)?.is_none() {
+        return Ok(List::new(alloc));
+    }
+    let content = content_of(rt, alloc, path, MOST_HEAD)?;
+    if content.len() as u64 > MOST_HEAD {
+        return Err(Fault::Head);
+    }
+    Ok(lines_of(alloc, content.as_slice())?)
+}
+
+/// Whether a line for Slurm asks for more than one job, or for a submission that waits for the job's end.
+fn is_refused(line: &[u8]) -> bool {
+    let Ok(text) = str::from_utf8(line) else {
+        return false;
+    };
+    text.split_ascii_whitespace().any(|word| {
+        word.starts_with("--ar")
+            || word.starts_with("-a")
+            || word == "hetjob"
+            || word == "packjob"
+            || word == "--wait"
+            || word == "-W"
+    })
+}
+
+/// Fails where a line for Slurm asks for what a job can't be.
+fn must_be_one(lines: &List<Bytes>) -> Result<(), Fault> {
+    for line in lines.as_slice() {
+        if is_directive(line.bytes()) && is_refused(line.bytes()) {
+            return Err(Fault::Directive);
+        }
+    }
+    Ok(())
+}
+
+/// The batch script of a job.
+fn batch<R: Files>(rt: &R, alloc: Global, job: Job<'_>) -> Result<Bytes, Fault> {
+    let path = beside(alloc, job.jobs, HEAD)?;
+    let all = head_lines(rt, alloc, path.as_str())?;
+    let program = match Path::new(job.request.program.as_str()).file_name() {
+        Some(name) => {
+            let path = path.as_str();
+            let path = format!(in alloc; "{path}.{name}")?;
+            head_lines(rt, alloc, path.as_str())?
+        }
+        None => List::new(alloc),
+    };
+    let own = match job.request.files.find(HEAD.as_bytes()) {
+        Some(content) => lines_of(alloc, content.bytes())?,
+        None => List::new(alloc),
+    };
+    must_be_one(&all)?;
+    must_be_one(&program)?;
+    must_be_one(&own)?;
+    Ok(batch_of(alloc, all.as_slice(), program.as_slice(), own.as_slice())?)
+}
+
+/// Keeps the number that Slurm gave, or its words where it refused.
+fn answered<R: Files<File = File>>(
+    rt: &R,
+    alloc: Global,
+    folder: &str,
+    output: &Output,
+) -> Result<(), Fault> {
+    if !output.status.success() {
+        write_file(rt, alloc, folder, "slurm.err", output.stderr.as_slice())?;
+        return Err(Fault::Scheduler);
+    }
+    let number = str::from_utf8(output.stdout.as_slice()).unwrap_or("");
+    let number = number.lines().next().unwrap_or("").trim();
+    if !number.is_empty() {
+        put_number(rt, alloc, folder, number)?;
+    }
+    Ok(())
+}
+
+/// A submission that is to be made.
+#[derive(Drop)]
+struct Try {
+    /// Its name, none where it gets a new one.
+    name: Option<Text>,
+    /// Which try of the job it is.
+    tries: u32,
+}
+
+impl Try {
+    /// One under a new name.
+    fn new(tries: u32) -> Try {
+        Try { name: None, tries }
+    }
+}
+
+/// Gives a job to Slurm, under a name that is on the disk before.
+fn send<R: Files<File = File> + Processes>(
+    rt: &R,
+    alloc: Global,
+    queue: &mut Queue,
+    job: Job<'_>,
+    next: Try,
+) -> Result<(), Fault> {
+    let batch = batch(rt, alloc, job)?;
+    let Try { name, tries } = next;
+    let name = match name {
+        Some(name) => name,
+        None => new_name(rt, alloc, job.dir)?,
+    };
+    place_name(rt, alloc, job.folder, name.as_str(), tries)?;
+    forget_end(rt, alloc, job.folder)?;
+    place_file(rt, alloc, job.folder, "_wc_batch.sh", batch.bytes())?;
+    queue.count_sent();
+    match output_of(rt, alloc, SUBMIT, job.folder, name.as_str())? {
+        Some(output) => answered(rt, alloc, job.folder, &output),
+        None => Err(Fault::Scheduler),
+    }
+}
+
+/// Gives a job to Slurm where it may have one more. Where not, a later look does.
+fn send_where_room<R: Files<File = File> + Processes + Env>(
+    rt: &R,
+    alloc: Global,
+    queue: &mut Queue,
+    job: Job<'_>,
+    next: Try,
+) -> Result<(), Fault> {
+    if let Some(most) = most_jobs(rt) {
+        if !queue.is_asked() {
+            queue.ask(rt, alloc)?;
+        }
+        if !queue.has_room(most) {
+            return Ok(());
+        }
+    }
+    send(rt, alloc, queue, job, next)
+}
+
+/// What an earlier submission, whose fate isn't known, calls for, by an answer that is younger than it: nothing where Slurm has it, else
+/// another one, under its name where Slurm never knew that.
+fn next_of(alloc: Global, queue: &Queue, earlier: &Submission) -> Result<Option<Try>, Fault> {
+    if !queue.is_answered() {
+        return Err(Fault::Silent);
+    }
+    let tries = earlier.tries;
+    match queue.told(earlier.name.bytes()) {
+        Some(told) => {
+            if end_in(told).is_none() {
+                return Ok(None);
+            }
+            Ok(Some(Try::new(tries)))
+        }
+        None => {
+            if earlier.is_numbered {
+                return Ok(Some(Try::new(tries)));
+            }
+            let name = Some(Text::of_str(alloc, earlier.name.as_str())?);
+            Ok(Some(Try { name, tries }))
+        }
+    }
+}
+
+/// The submission that a job is to get now, none where Slurm has it.
+fn next_submission<R: Files<File = File> + Processes>(
+    rt: &R,
+    alloc: Global,
+    queue: &mut Queue,
+    job: Job<'_>,
+) -> Result<Option<Try>, Fault> {
+    let Some(earlier) = submission_of(rt, alloc, job.folder)? else {
+        return Ok(Some(Try::new(1)));
+    };
+    if earlier.is_over() {
+        return Ok(Some(Try::new(earlier.next_try())));
+    }
+    queue.ask(rt, alloc)?;
+    next_of(alloc, queue, &earlier)
+}
+
+/// Submits a job to Slurm, unless a run has begun or Slurm has it.
+pub fn submitted<R: Files<File = File> + Processes + Env>(
+    rt: &R,
+    alloc: Global,
+    queue: &mut Queue,
+    job: Job<'_>,
+) -> Result<(), Fault> {
+    if has_ended(rt, alloc, job.folder)? || is_locked(rt, alloc, job.folder)? {
+        return Ok(());
+    }
+    let next = next_submission(rt, alloc, queue, job)?;
+    queue.note(job.dir)?;
+    if let Some(next) = next {
+        send_where_room(rt, alloc, queue, job, next)?;
+    }
+    queue.note_submitted(job.dir)?;
+    Ok(())
+}
+
+/// Looks at a submission by the last answer.
+fn judge<R: Files<File = File> + Processes>(
+    rt: &R,
+    alloc: Global,
+    queue: &Queue,
+    job: Job<'_>,
+    name: &Text,
+    is_locked: bool,
+) -> Result<(), Fault> {
+    if !queue.is_answered() {
+        return tell_open(
+            rt,
+            alloc,
+            job.folder,
+            job.dir,
+            "the scheduler doesn't answer",
+        );
+    }
+    let told = queue.told(name.bytes());
+    if let Some(told) = told {
+        if end_in(told).is_none() {
+            return forget_end(rt, alloc, job.folder);
+        }
+    }
+    let settled = Settled {
+        dir: job.dir,
+        folder: job.folder,
+        name: name.as_str(),
+        told,
+    };
+    settle(rt, alloc, settled, is_locked)
+}
+
+/// Looks at a job of Slurm's that has no exit code: one that waits or runs is left alone, one that Slurm ended is settled, and one that
+/// it doesn't have is submitted.
+pub fn followed<R: Files<File = File> + Processes + Env>(
+    rt: &R,
+    alloc: Global,
+    queue: &mut Queue,
+    job: Job<'_>,
+) -> Result<(), Fault> {
+    if queue.is_first_look(job.dir) {
+        return Ok(());
+    }
+    queue.look(rt, alloc, job.dir)?;
+    let is_locked = is_locked(rt, alloc, job.folder)?;
+    let Some(submission) = submission_of(rt, alloc, job.folder)? else {
+        if is_locked {
+            return Ok(());
+        }
+        return send_where_room(rt, alloc, queue, job, Try::new(1));
+    };
+    if is_locked || !submission.is_over() {
+        return judge(rt, alloc, queue, job, &submission.name, is_locked);
+    }
+    if !submission.may_be_followed() {
+        put_over(rt, alloc, job.folder)?;
+        return Err(Fault::Unstarted);
+    }
+    let next = Try::new(submission.next_try());
+    send_where_room(rt, alloc, queue, job, next)
+}

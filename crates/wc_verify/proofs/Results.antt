@@ -47,9 +47,11 @@ module _ (w : World) (pid : ℕ) (r : ProcessRecord) (found : find_record pid w.
 
 -- where all that is created is created by its inputs, a job that took another's outcome keeps no exit code
 pub created_have_one : (w : World) → IsCreatedByInputs w → HaveOneOrigin w
-created_have_one w created r found is_job over source from =
-    let g : IsGiven w r = found_holds (λ q. is_calculation q.kind ≡ true → has_ended q.state ≡ true → IsGiven w q) r.node w.records r created.ended found (ap is_calculation is_job) over in
-    given_one w r.node r found is_job g.0 g.1 source from
+created_have_one w created = record {
+  bare = λ r found is_job over source from.
+      let g : IsGiven w r = found_holds (λ q. is_calculation q.kind ≡ true → has_ended q.state ≡ true → IsGiven w q) r.node w.records r created.ended found (ap is_calculation is_job) over in
+      given_one w r.node r found is_job g.0 g.1 source from;
+}
 
 module _ (w : World) (c : IsConsistent w) (origins : HaveOneOrigin w) where
   no_own : (r : ProcessRecord) (source : ℕ) (code : ℤ) (files : Contents) → find_record r.node w.records ≡ Some r → r.kind ≡ kind.Job → r.cached_from ≡ Some source
@@ -57,7 +59,7 @@ module _ (w : World) (c : IsConsistent w) (origins : HaveOneOrigin w) where
   no_own r source code files found is_job from has folder = at (has_ended r.state) refl
     where
       at : (b : Bool) → has_ended r.state ≡ b → ⊥
-      at true over = let none : r.code ≡ None = origins r found is_job over source from in absurd (cc (none, has))
+      at true over = let none : r.code ≡ None = origins.bare r found is_job over source from in absurd (cc (none, has))
       at false live = let none : retrieved_folder w r.node ≡ None = no_folder w c r found live in absurd (cc (none, folder))
 
   -- ---- one step

@@ -43,9 +43,9 @@ IsLowestWrong w (Some pid) =
 -- ---- results
 
 -- An ended job that took another's outcome keeps no exit code of its own. So a job has at most one recorded result.
-abbrev pub HaveOneOrigin : World → Type 0
-HaveOneOrigin w = (r : ProcessRecord) → find_record r.node w.records ≡ Some r → r.kind ≡ kind.Job → has_ended r.state ≡ true
-    → (source : ℕ) → r.cached_from ≡ Some source → r.code ≡ None
+pub record HaveOneOrigin (w : World) : Type 0 where
+  pub bare : (r : ProcessRecord) → find_record r.node w.records ≡ Some r → r.kind ≡ kind.Job → has_ended r.state ≡ true
+      → (source : ℕ) → r.cached_from ≡ Some source → r.code ≡ None
 
 -- two jobs, in order of their numbers, have equal requests and different recorded results
 pub record Disagree (w : World) (p q : ℕ) : Type 0 where

@@ -72,7 +72,7 @@ module _ (v w : World) (pid : ℕ) (s : IsSound v) (t : Touches v w pid) (may : 
       subst (λ (xs : Values). GivenFor w r.node (calculated f xs)) (inputs_there r found)
       (function r f (over_there r found over) alive none (definition_there r found ∙ is))
   given_for q o over (job r j req code files found alive none is is_code folder asked) =
-      let outputs = outputs_kept v w pid s t may r.node (over_differs v w pid s t may r.node over) in
+      let outputs = outputs_kept v w pid s t may r.node (within v w pid s t may r.node r found) (over_differs v w pid s t may r.node over) in
       subst (λ (xs : Values). GivenFor w r.node (parsed j xs (result_with code files))) (inputs_there r found)
       (job r j req code files (over_there r found over) alive none (definition_there r found ∙ is) is_code
       (ap (λ (os : Values). option_and_then folder_of (lookup (codes "retrieved") os)) outputs ∙ folder) (ap (request j) (inputs_there r found) ∙ asked))
@@ -173,11 +173,12 @@ module _ (v w : World) (pid : ℕ) (s : IsSound v) (t : Touches v w pid) (may : 
     )
 
     given_kept : has_ended r.state ≡ true → IsGiven v r → IsGiven w r
-    given_kept over g = (g.0, given_for r.node g.0 (r, found, over) g.1, g.2, outputs_kept v w pid s t may r.node ne ∙ g.3)
+    given_kept over g = (g.0, given_for r.node g.0 (r, found, over) g.1, g.2, outputs_kept v w pid s t may r.node (within v w pid s t may r.node r found) ne ∙ g.3)
 
     pub other_is_sound : IsSoundRecord w r
     other_is_sound =
-        let quiet = no_call v w pid s t may r.node ne in
+        let le = within v w pid s t may r.node r found in
+        let quiet = no_call v w pid s t may r.node le ne in
         let again : (q : ProcessRecord) × (find_record r.node w.records ≡ Some q) × (context_of q.part ≡ context_of r.part) = (r, found_kept v w pid s t may r found ne, refl) in
         record {
           fits = fitting_kept v w pid s t may r found quiet again (found_holds (IsFitting v) r.node v.records r s.records found);
@@ -187,7 +188,7 @@ module _ (v w : World) (pid : ℕ) (s : IsSound v) (t : Touches v w pid) (may : 
           names = names_kept v w pid s t may r found quiet again (found_holds (λ x. NamesKnown v x x.part) r.node v.records r s.names found);
           rule = rule_kept (found_holds (KeepsRule v) r.node v.records r s.sources found);
           bare = λ calculates live.
-              bare_kept v w pid s t may r found quiet again (no_output v w pid s t may r.node ne)
+              bare_kept v w pid s t may r found quiet again (no_output v w pid s t may r.node le ne)
               ∙ found_holds (λ x. is_calculation x.kind ≡ true → has_ended x.state ≡ false → has_output x.node v.links ≡ false) r.node v.records r s.created.live found calculates live;
           given = λ calculates over.
               given_kept over (found_holds (λ x. is_calculation x.kind ≡ true → has_ended x.state ≡ true → IsGiven v x) r.node v.records r s.created.ended found calculates over);

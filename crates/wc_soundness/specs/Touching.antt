@@ -19,12 +19,14 @@ use Rattle.wc_machine.specs.Sources.{KeepsRule}
 use Rattle.wc_machine.specs.Submitting.{IsKeptLibrary}
 use Rattle.wc_machine.specs.Sound.{AwaitsLastCalls, CallsAreKept, GoesUp, IsFitting, IsMeant, IsPlaced, NamesKnown, fuel_in}
 
--- A link that an event adds for a process: to an output of it, or, where the node at its target is new, as a call from it or as an input.
+-- A link that an event adds for a process: to an output of it, or, where the node at its target is new, as a call from it or as an input, or
+-- between two new nodes.
 abbrev pub AddsFor : List NodeKind → ℕ → Link → Type 0
 AddsFor nodes pid l =
     (is_output_of pid l ≡ true)
     ⊎ ((is_call_from pid l ≡ true) × (length nodes < l.target))
     ⊎ ((takes_input l.link ≡ true) × (length nodes < l.target))
+    ⊎ ((length nodes < l.source) × (length nodes < l.target))
 
 -- The world w is v after an event that touches this process alone, or makes it: lists grow, each new link is for the process, its record is
 -- carried over, and each other record stays.

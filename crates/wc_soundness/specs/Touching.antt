@@ -17,7 +17,7 @@ use Rattle.wc_machine.specs.Created.{IsGiven}
 use Rattle.wc_machine.specs.Resting.{IsOnTrack}
 use Rattle.wc_machine.specs.Sources.{KeepsRule}
 use Rattle.wc_machine.specs.Submitting.{IsKeptLibrary}
-use Rattle.wc_machine.specs.Sound.{AwaitsLastCalls, CallsAreKept, GoesUp, IsFitting, IsMeant, IsPlaced, NamesKnown, fuel_in}
+use Rattle.wc_machine.specs.Sound.{AwaitsLastCalls, CallsAreKept, GoesUp, IsFitting, IsMeant, IsPlaced, KeepsFew, NamesKnown, fuel_in}
 
 -- A link that an event adds for a process: to an output of it, or, where the node at its target is new, as a call from it or as an input, or
 -- between two new nodes.
@@ -70,6 +70,7 @@ pub record IsSoundRecord (w : World) (r : ProcessRecord) : Type 0 where
   pub given : is_calculation r.kind ≡ true → has_ended r.state ≡ true → IsGiven w r
   pub live : has_ended r.state ≡ false → IsOnTrack w r
   pub ended : has_ended r.state ≡ true → IsMeant w r
+  pub few : has_ended r.state ≡ true → KeepsFew r
 
 -- What it asks of the lists.
 pub record HasSoundLists (w : World) : Type 0 where

@@ -32,4 +32,5 @@ empty_is_sound = record {
   live = λ i d lt. absurd (omega arith);
   ended = λ i d lt. absurd (omega arith);
   fuel = omega arith;
+  few = λ i d lt. absurd (omega arith);
 }

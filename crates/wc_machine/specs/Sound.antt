@@ -169,6 +169,10 @@ abbrev pub fuel_in : List ProcessRecord → List ProcessRecord → ℕ
 fuel_in all [] = 0
 fuel_in all (r ∷ rs) = if not (has_ended r.state) || is_awaited_in all r.node then suc r.fuel + fuel_in all rs else fuel_in all rs
 
+-- no more fuel is kept of a process than the most batches and nodes that a world can have together
+abbrev pub KeepsFew : ProcessRecord → Type 0
+KeepsFew r = r.fuel ≤ 4008000000
+
 -- A sound world.
 pub record IsSound (w : World) : Type 0 where
   pub consistent : IsConsistent w
@@ -186,3 +190,4 @@ pub record IsSound (w : World) : Type 0 where
   pub live : All (λ r. has_ended r.state ≡ false → IsOnTrack w r) w.records
   pub ended : All (λ r. has_ended r.state ≡ true → IsMeant w r) w.records
   pub fuel : fuel_in w.records w.records ≤ w.batches + length w.nodes
+  pub few : All KeepsFew w.records

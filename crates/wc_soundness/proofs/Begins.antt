@@ -301,6 +301,7 @@ module _ (w : World) (r : ProcessRecord) (h : MayBegin w r) where
       given = λ calculates over. absurd (cc over);
       live = λ alive. track;
       ended = λ over. absurd (cc over);
+      few = λ over. absurd (cc over);
     }
 
     pub begun_sound : IsSound after

@@ -306,6 +306,7 @@ module _ (w : World) (sound : IsSound w) (r : ProcessRecord) (k : Chain) (c : Ch
     names = names_then;
     live = λ live. bound_on_track w sound r k c h batch F is_set refl;
     meant = λ over. absurd (cc over);
+    few = λ over. absurd (cc over);
     kept = let a = not_more in let b = sound.fuel in omega arith;
   }
 

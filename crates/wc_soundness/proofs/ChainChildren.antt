@@ -146,6 +146,7 @@ module _ (w : World) (r : ProcessRecord) where
         given = λ calculates over. absurd (cc);
         live = λ alive. fresh_on_track v child refl refl refl;
         ended = λ over. absurd (cc);
+        few = λ over. absurd (cc);
       }
 
     -- So where each call has a callee that takes its arguments, and these are recorded, its process is sound.

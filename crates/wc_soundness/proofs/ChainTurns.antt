@@ -238,6 +238,7 @@ module _ (w : World) (r : ProcessRecord) (k : Chain) (library : List Definition)
         given = λ calculates e. absurd (cc (calculates, no_calculation));
         live = λ e. h.track;
         ended = λ over. absurd (cc over);
+        few = λ over. absurd (cc over);
       }
 
       awaits_same : (pid : ℕ) → is_awaited (part.Chain d) pid ≡ is_awaited r.part pid

@@ -28,7 +28,7 @@ use Rattle.wc_machine.specs.Created.{GivenFor}
 use Rattle.wc_machine.specs.Ending.{TakesSource}
 use Rattle.wc_machine.specs.Recorded.{its_definition, recorded_inputs, recorded_outputs}
 use Rattle.wc_machine.specs.Resting.{is_awaited}
-use Rattle.wc_machine.specs.Sound.{TakesItsInputs, IsFitting, IsPlaced, CallsAreKept, AreNumbered, is_call_to, IsMeant, fuel_in, IsSound}
+use Rattle.wc_machine.specs.Sound.{TakesItsInputs, IsFitting, IsPlaced, CallsAreKept, AreNumbered, is_call_to, IsMeant, fuel_in, IsSound, KeepsFew}
 use Rattle.wc_machine.specs.Sources.{KeepsRule, KeepsCacheRule}
 use Rattle.wc_machine.specs.Submitting.{AreInputs}
 use Rattle.wc_machine.proofs.AcceptedEnds.{live_without_output}
@@ -279,6 +279,7 @@ module _ (w : World) (r : ProcessRecord) (p : Parsed) (source : Option ℕ) (cod
         given = λ calculates over. (p, given, refl, outputs_are);
         live = λ alive. absurd (let over : has_ended own.state ≡ true = h.over in cc (over, alive));
         ended = λ over. own_meant;
+        few = λ over. found_holds KeepsFew r.node w.records r h.sound.few h.found;
       }
 
       -- The world after the end is sound, where this is given for the process.

@@ -24,7 +24,7 @@ use Rattle.wc_world.proofs.ReachedLists.{all_at, all_found, called_grown, unique
 use Rattle.wc_machine.specs.Continues.{Carries, Continues}
 use Rattle.wc_machine.specs.Paths.{called_under, cut_after, follow, kills}
 use Rattle.wc_machine.specs.Recorded.{its_definition}
-use Rattle.wc_machine.specs.Sound.{AreNumbered, CallsAreKept, GoesUp, IsFitting, IsMeant, IsPlaced, IsSound, TakesItsInputs, fuel_in, is_call_to}
+use Rattle.wc_machine.specs.Sound.{AreNumbered, CallsAreKept, GoesUp, IsFitting, IsMeant, IsPlaced, IsSound, KeepsFew, TakesItsInputs, fuel_in, is_call_to}
 use Rattle.wc_machine.specs.Sources.{KeepsRule}
 use Rattle.wc_machine.proofs.Frames.{any_before, called_before, filter_before, no_call_from, records_below}
 use Rattle.wc_soundness.specs.Touching.{EndsLate, HasSoundLists, IsSoundRecord, MayBeTouched, Touches}
@@ -187,6 +187,7 @@ module _ (w : World) (r : ProcessRecord) (c : Checkpoint) (sound : IsSound w) (f
     given = λ is e. absurd (no_calculation is);
     live = λ e. let done = over in absurd (cc (done, e));
     ended = λ e. meant;
+    few = λ e. found_holds KeepsFew r.node w.records r sound.few found;
   }
 
   -- ---- the lists

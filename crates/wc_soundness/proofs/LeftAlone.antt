@@ -37,7 +37,8 @@ any_grown p ls new h = list_any-append p ls new ∙ or_left (list_any p ls) (lis
 new_call_to : (nodes : List NodeKind) (pid q : ℕ) → q ≤ length nodes → (l : Link) → AddsFor nodes pid l → is_call_to q l ≡ false
 new_call_to nodes pid q le l (inl h) = first_false (calls l.link) (l.target == q) (output_no_call l.link (left (gives_output l.link) (l.source == pid) h))
 new_call_to nodes pid q le l (inr (inl h)) = and_false (calls l.link) (l.target == q) (ne_eqb l.target q (λ e. let lt : length nodes < l.target = h.1 in absurd (omega arith)))
-new_call_to nodes pid q le l (inr (inr h)) = first_false (calls l.link) (l.target == q) (input_no_call l.link h.0)
+new_call_to nodes pid q le l (inr (inr (inl h))) = first_false (calls l.link) (l.target == q) (input_no_call l.link h.0)
+new_call_to nodes pid q le l (inr (inr (inr h))) = and_false (calls l.link) (l.target == q) (ne_eqb l.target q (λ e. let lt : length nodes < l.target = h.1 in absurd (omega arith)))
 
 module _ (v w : World) (pid : ℕ) (s : IsSound v) (t : Touches v w pid) (may : MayBeTouched v pid) (r : ProcessRecord) (found : find_record r.node v.records ≡ Some r)
     (quiet : NoCallFrom r.node t.new) (again : (q : ProcessRecord) × (find_record r.node w.records ≡ Some q) × (context_of q.part ≡ context_of r.part)) where

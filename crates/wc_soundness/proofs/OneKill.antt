@@ -37,7 +37,7 @@ use Rattle.wc_machine.specs.Created.{IsGiven, killed, killed_outcome}
 use Rattle.wc_machine.specs.Paths.{cut_after, kills}
 use Rattle.wc_machine.specs.Recorded.{recorded_inputs}
 use Rattle.wc_machine.specs.Resting.{GivesTree, IsOnTrack, is_awaited, levels_of, meant, with_stop}
-use Rattle.wc_machine.specs.Sound.{CallsAreKept, IsMeant, IsSound, fuel_in, is_awaited_in}
+use Rattle.wc_machine.specs.Sound.{CallsAreKept, IsMeant, IsSound, KeepsFew, fuel_in, is_awaited_in}
 use Rattle.wc_machine.proofs.AcceptedEnds.{live_without_output}
 use Rattle.wc_machine.proofs.CreatedOutputs.{without_output}
 use Rattle.wc_machine.proofs.Frames.{branches_by, outputs_untouched}
@@ -310,6 +310,7 @@ module _ (w : World) (sound : IsSound w) (r : ProcessRecord) (found : find_recor
     names = tt;
     live = λ lives. absurd (cc lives);
     meant = λ ended. is_meant;
+    few = λ ended. found_holds KeepsFew r.node w.records r sound.few found;
     kept = let a = not_more in let b = sound.fuel in omega arith;
   }
 

@@ -1,6 +1,6 @@
 -- A process that an event doesn't touch stays sound: what is given for it, its source, and the rest.
-use Rattle.std.proofs.Common.{◌≡◌, ◌≢◌, ◌⊎◌, ℕ, ◌<◌, ◌≤◌, Bool, true, false, Option, Some, None, get_or, length, inl, inr, refl, sym, ap, subst, ◌∙◌, arith}
-use Rattle.std.specs.Prelude.{All, ◌==◌, ◌&&◌, if◌then◌else◌, nat_lt, nat_le, option_and_then, codes}
+use Rattle.std.proofs.Common.{◌≡◌, ◌≢◌, ◌⊎◌, ℕ, zero, suc, ◌+◌, ◌<◌, ◌≤◌, Bool, true, false, List, [], ◌∷◌, Option, Some, None, get_or, length, inl, inr, refl, sym, ap, subst, ◌∙◌, arith}
+use Rattle.std.specs.Prelude.{All, ◌==◌, ◌&&◌, ◌||◌, not, if◌then◌else◌, nat_lt, nat_le, option_and_then, codes}
 use Rattle.std.proofs.lemmas.Bool.{cases_eq, cases_lt, eqb-true}
 use Rattle.wc_value.specs.Ascending.{lookup}
 use Rattle.wc_syntax.specs.Findings.{definition_named}
@@ -20,7 +20,7 @@ use Rattle.wc_machine.specs.Created.{GivenFor, killed, cached, function, job, no
 use Rattle.wc_machine.specs.Recorded.{folder_of, its_definition, recorded_inputs, result_with}
 use Rattle.wc_machine.specs.Resting.{IsOnTrack}
 use Rattle.wc_machine.specs.Sources.{HaveEqualKeys, IsLowestSource, IsSourceFor, IsValidSource, KeepsRule}
-use Rattle.wc_machine.specs.Sound.{AwaitsLastCalls, CallsAreKept, IsFitting, IsPlaced, IsSound, NamesKnown}
+use Rattle.wc_machine.specs.Sound.{AwaitsLastCalls, CallsAreKept, IsFitting, IsPlaced, IsSound, KeepsFew, NamesKnown, fuel_in, is_awaited_in}
 use Rattle.wc_machine.proofs.Upward.{upward_is_acyclic}
 use Rattle.wc_soundness.specs.FramingLaws.{OthersStaySound, TouchedWorldsAreSound}
 use Rattle.wc_soundness.specs.Touching.{Touches, MayBeTouched, EndsLate, HasSoundLists, IsSoundRecord}
@@ -72,7 +72,7 @@ module _ (v w : World) (pid : ℕ) (s : IsSound v) (t : Touches v w pid) (may : 
       subst (λ (xs : Values). GivenFor w r.node (calculated f xs)) (inputs_there r found)
       (function r f (over_there r found over) alive none (definition_there r found ∙ is))
   given_for q o over (job r j req code files found alive none is is_code folder asked) =
-      let outputs = outputs_kept v w pid s t may r.node (over_differs v w pid s t may r.node over) in
+      let outputs = outputs_kept v w pid s t may r.node (within v w pid s t may r.node r found) (over_differs v w pid s t may r.node over) in
       subst (λ (xs : Values). GivenFor w r.node (parsed j xs (result_with code files))) (inputs_there r found)
       (job r j req code files (over_there r found over) alive none (definition_there r found ∙ is) is_code
       (ap (λ (os : Values). option_and_then folder_of (lookup (codes "retrieved") os)) outputs ∙ folder) (ap (request j) (inputs_there r found) ∙ asked))
@@ -173,11 +173,12 @@ module _ (v w : World) (pid : ℕ) (s : IsSound v) (t : Touches v w pid) (may : 
     )
 
     given_kept : has_ended r.state ≡ true → IsGiven v r → IsGiven w r
-    given_kept over g = (g.0, given_for r.node g.0 (r, found, over) g.1, g.2, outputs_kept v w pid s t may r.node ne ∙ g.3)
+    given_kept over g = (g.0, given_for r.node g.0 (r, found, over) g.1, g.2, outputs_kept v w pid s t may r.node (within v w pid s t may r.node r found) ne ∙ g.3)
 
     pub other_is_sound : IsSoundRecord w r
     other_is_sound =
-        let quiet = no_call v w pid s t may r.node ne in
+        let le = within v w pid s t may r.node r found in
+        let quiet = no_call v w pid s t may r.node le ne in
         let again : (q : ProcessRecord) × (find_record r.node w.records ≡ Some q) × (context_of q.part ≡ context_of r.part) = (r, found_kept v w pid s t may r found ne, refl) in
         record {
           fits = fitting_kept v w pid s t may r found quiet again (found_holds (IsFitting v) r.node v.records r s.records found);
@@ -187,17 +188,43 @@ module _ (v w : World) (pid : ℕ) (s : IsSound v) (t : Touches v w pid) (may : 
           names = names_kept v w pid s t may r found quiet again (found_holds (λ x. NamesKnown v x x.part) r.node v.records r s.names found);
           rule = rule_kept (found_holds (KeepsRule v) r.node v.records r s.sources found);
           bare = λ calculates live.
-              bare_kept v w pid s t may r found quiet again (no_output v w pid s t may r.node ne)
+              bare_kept v w pid s t may r found quiet again (no_output v w pid s t may r.node le ne)
               ∙ found_holds (λ x. is_calculation x.kind ≡ true → has_ended x.state ≡ false → has_output x.node v.links ≡ false) r.node v.records r s.created.live found calculates live;
           given = λ calculates over.
               given_kept over (found_holds (λ x. is_calculation x.kind ≡ true → has_ended x.state ≡ true → IsGiven v x) r.node v.records r s.created.ended found calculates over);
           live = λ live.
               track_kept v w pid s t may r found quiet again (found_holds (λ x. has_ended x.state ≡ false → IsOnTrack v x) r.node v.records r s.live found live);
           ended = λ over. (stays_ended v w pid s t may r found over).meant;
+          few = λ over. found_holds KeepsFew r.node v.records r s.few found;
         }
 
 pub others_stay_sound : OthersStaySound
 others_stay_sound v w pid s t may c late r found ne = other_is_sound v w pid s t may late c r found ne
+
+-- ---- kept fuel
+
+still_within : (b : Bool) (k fuel n : ℕ) → k ≤ n → k ≤ (if b then suc fuel + n else n)
+still_within true k fuel n le = omega arith
+still_within false k fuel n le = le
+
+-- what is kept of a live process is counted
+pub live_counted : (all rs : List ProcessRecord) (i : ℕ) (d : ProcessRecord) → i < length rs → has_ended (get_or rs i d).state ≡ false → suc (get_or rs i d).fuel ≤ fuel_in all rs
+live_counted all [] i d lt live = absurd (omega arith)
+live_counted all (r ∷ rs) zero d lt live =
+    let here : fuel_in all (r ∷ rs) ≡ suc r.fuel + fuel_in all rs = λ j. if not (live j) || is_awaited_in all r.node then suc r.fuel + fuel_in all rs else fuel_in all rs in
+    subst (λ (n : ℕ). suc r.fuel ≤ n) (sym here) (omega arith)
+live_counted all (r ∷ rs) (suc i) d lt live =
+    still_within (not (has_ended r.state) || is_awaited_in all r.node) (suc (get_or rs i d).fuel) r.fuel (fuel_in all rs) (live_counted all rs i d (omega arith) live)
+
+-- so it is no more than batches and nodes can be, and where a process has ended it is known
+pub few_by : (w : World) → IsConsistent w → fuel_in w.records w.records ≤ w.batches + length w.nodes → (i : ℕ) (d : ProcessRecord) → i < length w.records
+    → (b : Bool) → has_ended (get_or w.records i d).state ≡ b → (has_ended (get_or w.records i d).state ≡ true → KeepsFew (get_or w.records i d)) → KeepsFew (get_or w.records i d)
+few_by w c bound i d lt true over known = known over
+few_by w c bound i d lt false live known =
+    let counted = live_counted w.records w.records i d lt live in
+    let nodes = c.few in
+    let batches = c.batches in
+    omega arith
 
 -- lists and records make a sound world
 pub sound_by_records : (w : World) → HasSoundLists w → All (IsSoundRecord w) w.records → IsSound w
@@ -221,6 +248,7 @@ sound_by_records w h each = record {
   live = λ i d lt. (each i d lt).live;
   ended = λ i d lt. (each i d lt).ended;
   fuel = h.fuel;
+  few = λ i d lt. few_by w h.consistent h.fuel i d lt (has_ended (get_or w.records i d).state) refl (each i d lt).few;
 }
 
 pub touched_worlds_are_sound : TouchedWorldsAreSound

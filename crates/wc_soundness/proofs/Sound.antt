@@ -1,5 +1,5 @@
 -- Where the record of one process is set anew as it should be, a sound world stays sound.
-use Rattle.std.proofs.Common.{◌≡◌, ◌≢◌, ℕ, ◌≤◌, Bool, true, false, Some, get_or, refl, sym, ap, ◌∙◌, arith}
+use Rattle.std.proofs.Common.{◌≡◌, ◌≢◌, ℕ, suc, ◌+◌, ◌≤◌, Bool, true, false, Some, get_or, length, refl, sym, ap, ◌∙◌, arith}
 use Rattle.std.specs.Prelude.{All, ◌==◌, ◌&&◌, nat_lt, nat_le, if◌then◌else◌}
 use Rattle.std.proofs.lemmas.Bool.{and_from, lt-ltb, le-leb, eq-eqb}
 use Rattle.wc_value.specs.declared.process.ProcessState.{ProcessState}
@@ -17,11 +17,12 @@ use Rattle.wc_world.proofs.ReachedLists.{AreUnique, unique, all_at_apart, all_fo
 use Rattle.wc_world.proofs.ReachedSources.{KeepsSources, source_kept, source_told, source_from}
 use Rattle.wc_machine.specs.Created.{IsGiven}
 use Rattle.wc_machine.specs.Resting.{IsOnTrack}
-use Rattle.wc_machine.specs.Sound.{IsFitting, IsPlaced, CallsAreKept, AwaitsLastCalls, NamesKnown, IsMeant, IsSound}
+use Rattle.wc_machine.specs.Sound.{IsFitting, IsPlaced, CallsAreKept, AwaitsLastCalls, NamesKnown, IsMeant, IsSound, KeepsFew, fuel_in}
 use Rattle.wc_machine.specs.Sources.{KeepsRule}
 use Rattle.wc_machine.proofs.AcceptedEnds.{live_without_output}
 use Rattle.wc_soundness.specs.Replacing.{set_to, IsSet, SetsWell, SetsKeepSound}
-use Rattle.wc_soundness.proofs.Replaced.{one_record, after, now, setting, found_other, stays}
+use Rattle.wc_soundness.proofs.Others.{live_counted}
+use Rattle.wc_soundness.proofs.Replaced.{one_record, after, now, setting, found_now, found_other, stays}
 use Rattle.wc_soundness.proofs.OtherRecords.{live_unended, is_given_stays, rule_stays, rule_now, takes_stays, takes_now, caller_stays, calls_stay, awaits_stay, names_stay}
 use Rattle.wc_soundness.proofs.OthersOnTrack.{other_on_track}
 
@@ -171,6 +172,18 @@ module _ (w : World) (batch : ℕ) (r : ProcessRecord) (s : ProcessState) (fuel 
     numbered = h.numbered;
   }
 
+  -- where it lives on, its fuel is counted
+  new_few : (b : Bool) → has_ended s ≡ b → KeepsFew new
+  new_few true over = well.few over
+  new_few false lives =
+      let counted : suc new.fuel ≤ fuel_in v.records v.records
+      = found_holds (λ x. has_ended x.state ≡ false → suc x.fuel ≤ fuel_in v.records v.records) r.node v.records new (live_counted v.records v.records)
+      (found_now w batch r s fuel p i.found) lives in
+      let bound : fuel_in v.records v.records ≤ batch + length w.nodes = well.kept in
+      let most : batch ≤ 4000000000 = i.few in
+      let nodes : length w.nodes ≤ 8000000 = sound.consistent.few in
+      omega arith
+
   pub sound_set : IsSound v
   sound_set = record {
     consistent = consistent;
@@ -201,6 +214,7 @@ module _ (w : World) (batch : ℕ) (r : ProcessRecord) (s : ProcessState) (fuel 
         (holds (λ q. has_ended q.state ≡ false → IsOnTrack w q) sound.live q found live));
     ended = every (λ q. has_ended q.state ≡ true → IsMeant v q) well.meant (λ q found ne over. (stays w batch r s fuel p i sound q found over).meant);
     fuel = well.kept;
+    few = every KeepsFew (new_few (has_ended s) refl) (λ q found ne. holds KeepsFew sound.few q found);
   }
 
 pub sets_keep_sound : SetsKeepSound

@@ -35,7 +35,7 @@ use Rattle.wc_machine.specs.Laws.{HasPlaces}
 use Rattle.wc_machine.specs.Paths.{cut_after, kills}
 use Rattle.wc_machine.specs.Recorded.{its_definition, recorded_outputs}
 use Rattle.wc_machine.specs.Resting.{is_awaited}
-use Rattle.wc_machine.specs.Sound.{CallsAreKept, IsFitting, IsMeant, IsPlaced, IsSound, TakesItsInputs, fuel_in}
+use Rattle.wc_machine.specs.Sound.{CallsAreKept, IsFitting, IsMeant, IsPlaced, IsSound, KeepsFew, TakesItsInputs, fuel_in}
 use Rattle.wc_machine.specs.Sources.{HaveEqualKeys, IsLowestSource, KeepsRule}
 use Rattle.wc_machine.proofs.CreatedOutputs.{creates_no_call}
 use Rattle.wc_machine.proofs.Endings.{applied_ends, creates, data_nodes, end_record, ended_world}
@@ -273,6 +273,7 @@ module _ (w : World) (r : ProcessRecord) (p : Parsed) (code : Option ℤ) (sound
     given = λ is e. given;
     live = λ e. let over = right.over in absurd (cc (over, e));
     ended = λ e. is_meant;
+    few = λ e. found_holds KeepsFew r.node w.records r sound.few found;
   }
 
   like : IsOverLike r y

@@ -355,6 +355,7 @@ module _ (w : World) (r : ProcessRecord) (s : ProcessState) (paused : Bool) (p :
     given = λ calculates over. absurd (cc (over, going));
     live = λ e. on_track;
     ended = λ over. absurd (cc (over, going));
+    few = λ over. absurd (cc (over, going));
   }
 
   like : IsLike r y

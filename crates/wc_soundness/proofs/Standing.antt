@@ -103,14 +103,14 @@ module _ (v w : World) (pid : ℕ) (s : IsSound v) (t : Touches v w pid) (may : 
   inputs_of_kept q le =
       (λ i. inputs_after (t.nodes.1 i) q (t.links i) []) ∙ inputs_stay v.nodes t.nodes.0 q v.links t.new s.links.ends (no_input v w pid s t may q le)
 
-  pub outputs_of_kept : (q : ℕ) → pid ≢ q → outputs_of w q ≡ outputs_of v q
-  outputs_of_kept q ne =
-      (λ i. outputs_after (t.nodes.1 i) q (t.links i) []) ∙ outputs_stay v.nodes t.nodes.0 q v.links t.new s.links.ends (no_output v w pid s t may q ne)
+  pub outputs_of_kept : (q : ℕ) → q ≤ length v.nodes → pid ≢ q → outputs_of w q ≡ outputs_of v q
+  outputs_of_kept q le ne =
+      (λ i. outputs_after (t.nodes.1 i) q (t.links i) []) ∙ outputs_stay v.nodes t.nodes.0 q v.links t.new s.links.ends (no_output v w pid s t may q le ne)
 
   -- ---- contexts of ended processes
 
   over_child : (q : ℕ) → Over q → child_at w q ≡ child_at v q
-  over_child q h = λ i. option_map (λ r. record { node = q; state = r.state; outputs = outputs_of_kept q (over_differs v w pid s t may q h) i }) (over_found q h i)
+  over_child q h = λ i. option_map (λ r. record { node = q; state = r.state; outputs = outputs_of_kept q (number_within v w pid s t may q h.0 h.1) (over_differs v w pid s t may q h) i }) (over_found q h i)
 
   over_children : (qs : List ℕ) → All Over qs → children_at w qs ≡ children_at v qs
   over_children [] h = refl

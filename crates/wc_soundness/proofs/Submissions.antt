@@ -123,6 +123,7 @@ module _ (w : World) (library : List Definition) (caching : List (List ℕ)) (na
       given = λ calculates over. absurd (cc over);
       live = λ alive. fresh_on_track after new refl refl refl;
       ended = λ over. absurd (cc over);
+      few = λ over. absurd (cc over);
     }
 
     pub submitted_sound : IsSound after

@@ -131,6 +131,7 @@ module _ (w : World) (r : ProcessRecord) (k : Chain) (library : List Definition)
     given = λ calculates over. absurd (cc (calculates, no_calculation));
     live = λ alive. h.track;
     ended = λ over. absurd (cc over);
+    few = λ over. absurd (cc over);
   }
 
   lists : IsConsistent v → HasSoundLists v

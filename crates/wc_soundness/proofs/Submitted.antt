@@ -1,5 +1,5 @@
 -- A consistent world accepts a submission for which there is room; the world after it continues the one before, and touches no process of it.
-use Rattle.std.proofs.Common.{◌≡◌, ℕ, suc, ◌+◌, ◌<◌, ◌≤◌, Bool, true, false, Some, None, List, [], ◌∷◌, ◌++◌, length, map, get_or, refl, sym, ap, ◌∙◌, subst, arith, inr}
+use Rattle.std.proofs.Common.{◌≡◌, ℕ, suc, ◌+◌, ◌<◌, ◌≤◌, Bool, true, false, Some, None, List, [], ◌∷◌, ◌++◌, length, map, get_or, refl, sym, ap, ◌∙◌, subst, arith, inl, inr}
 use Rattle.std.specs.Prelude.{All, ◌==◌, ◌&&◌, not}
 use Rattle.std.proofs.lemmas.Bool.{cond-true, eq-eqb}
 use Rattle.std.proofs.lemmas.List.Elements.{All-head, All-tail, All-weaker, All-push, All-nil, All-cons}
@@ -145,7 +145,7 @@ linked_adds : (nodes : List NodeKind) (by pid : ℕ) (k : ProcessKind) → lengt
 linked_adds nodes by pid k lt source [] = All-nil (AddsFor nodes by)
 linked_adds nodes by pid k lt source (i ∷ is) =
     All-cons (AddsFor nodes by) (record { source = source; target = pid; link = input_link k; label = i.0 }) (linked (input_link k) (suc source) pid is)
-    (inr (inr (takes k, lt))) (linked_adds nodes by pid k lt (suc source) is)
+    (inr (inr (inl (takes k, lt)))) (linked_adds nodes by pid k lt (suc source) is)
 
 beyond_records : (w : World) → IsConsistent w → (pid : ℕ) → length w.nodes < pid → (r : ProcessRecord) → find_record pid w.records ≡ Some r → ⊥
 beyond_records w c pid lt r found =

@@ -103,17 +103,24 @@ module _ (nodes : List NodeKind) (pid : ℕ) where
   new_no_input : (l : Link) → AddsFor nodes pid l → (q : ℕ) → q ≤ length nodes → is_input_of q l ≡ false
   new_no_input l (inl h) q le = first_false (takes_input l.link) (l.target == q) (output_no_input l.link (left (gives_output l.link) (l.source == pid) h))
   new_no_input l (inr (inl h)) q le = first_false (takes_input l.link) (l.target == q) (call_no_input l.link (left (calls l.link) (l.source == pid) h.0))
-  new_no_input l (inr (inr h)) q le = and_false (takes_input l.link) (l.target == q) (ne_eqb l.target q (λ e. let lt : length nodes < l.target = h.1 in absurd (omega arith)))
+  new_no_input l (inr (inr (inl h))) q le = and_false (takes_input l.link) (l.target == q) (ne_eqb l.target q (λ e. let lt : length nodes < l.target = h.1 in absurd (omega arith)))
+  new_no_input l (inr (inr (inr h))) q le = and_false (takes_input l.link) (l.target == q) (ne_eqb l.target q (λ e. let lt : length nodes < l.target = h.1 in absurd (omega arith)))
 
-  new_no_output : (l : Link) → AddsFor nodes pid l → (q : ℕ) → pid ≢ q → is_output_of q l ≡ false
-  new_no_output l (inl h) q ne = and_false (gives_output l.link) (l.source == q) (other_source l (gives_output l.link) q ne h)
-  new_no_output l (inr (inl h)) q ne = first_false (gives_output l.link) (l.source == q) (call_no_output l.link (left (calls l.link) (l.source == pid) h.0))
-  new_no_output l (inr (inr h)) q ne = first_false (gives_output l.link) (l.source == q) (input_no_output l.link h.0)
+  -- a new link between new nodes leads from none of the old ones
+  new_source : (l : Link) → length nodes < l.source → (q : ℕ) → q ≤ length nodes → (l.source == q) ≡ false
+  new_source l lt q le = ne_eqb l.source q (λ e. absurd (omega arith))
 
-  new_no_call : (l : Link) → AddsFor nodes pid l → (q : ℕ) → pid ≢ q → is_call_from q l ≡ false
-  new_no_call l (inl h) q ne = first_false (calls l.link) (l.source == q) (output_no_call l.link (left (gives_output l.link) (l.source == pid) h))
-  new_no_call l (inr (inl h)) q ne = and_false (calls l.link) (l.source == q) (other_source l (calls l.link) q ne h.0)
-  new_no_call l (inr (inr h)) q ne = first_false (calls l.link) (l.source == q) (input_no_call l.link h.0)
+  new_no_output : (l : Link) → AddsFor nodes pid l → (q : ℕ) → q ≤ length nodes → pid ≢ q → is_output_of q l ≡ false
+  new_no_output l (inl h) q le ne = and_false (gives_output l.link) (l.source == q) (other_source l (gives_output l.link) q ne h)
+  new_no_output l (inr (inl h)) q le ne = first_false (gives_output l.link) (l.source == q) (call_no_output l.link (left (calls l.link) (l.source == pid) h.0))
+  new_no_output l (inr (inr (inl h))) q le ne = first_false (gives_output l.link) (l.source == q) (input_no_output l.link h.0)
+  new_no_output l (inr (inr (inr h))) q le ne = and_false (gives_output l.link) (l.source == q) (new_source l h.0 q le)
+
+  new_no_call : (l : Link) → AddsFor nodes pid l → (q : ℕ) → q ≤ length nodes → pid ≢ q → is_call_from q l ≡ false
+  new_no_call l (inl h) q le ne = first_false (calls l.link) (l.source == q) (output_no_call l.link (left (gives_output l.link) (l.source == pid) h))
+  new_no_call l (inr (inl h)) q le ne = and_false (calls l.link) (l.source == q) (other_source l (calls l.link) q ne h.0)
+  new_no_call l (inr (inr (inl h))) q le ne = first_false (calls l.link) (l.source == q) (input_no_call l.link h.0)
+  new_no_call l (inr (inr (inr h))) q le ne = and_false (calls l.link) (l.source == q) (new_source l h.0 q le)
 
 -- ---- paths
 
@@ -154,11 +161,11 @@ module _ (v w : World) (pid : ℕ) (s : IsSound v) (t : Touches v w pid) (may : 
   pub no_input : (q : ℕ) → q ≤ length v.nodes → NoInput q t.new
   no_input q le = λ i d lt. new_no_input v.nodes pid (get_or t.new i d) (t.added i d lt) q le
 
-  pub no_output : (q : ℕ) → pid ≢ q → NoOutput q t.new
-  no_output q ne = λ i d lt. new_no_output v.nodes pid (get_or t.new i d) (t.added i d lt) q ne
+  pub no_output : (q : ℕ) → q ≤ length v.nodes → pid ≢ q → NoOutput q t.new
+  no_output q le ne = λ i d lt. new_no_output v.nodes pid (get_or t.new i d) (t.added i d lt) q le ne
 
-  pub no_call : (q : ℕ) → pid ≢ q → NoCallFrom q t.new
-  no_call q ne = λ i d lt. new_no_call v.nodes pid (get_or t.new i d) (t.added i d lt) q ne
+  pub no_call : (q : ℕ) → q ≤ length v.nodes → pid ≢ q → NoCallFrom q t.new
+  no_call q le ne = λ i d lt. new_no_call v.nodes pid (get_or t.new i d) (t.added i d lt) q le ne
 
   pub within : (q : ℕ) (r : ProcessRecord) → find_record q v.records ≡ Some r → q ≤ length v.nodes
   within q r h =
@@ -171,16 +178,16 @@ module _ (v w : World) (pid : ℕ) (s : IsSound v) (t : Touches v w pid) (may : 
       (λ i. values_alone (inputs_after (t.nodes.1 i) q (t.links i) []))
       ∙ ap values_alone (inputs_stay v.nodes t.nodes.0 q v.links t.new s.links.ends (no_input q le))
 
-  pub outputs_kept : (q : ℕ) → pid ≢ q → recorded_outputs w q ≡ recorded_outputs v q
-  outputs_kept q ne =
+  pub outputs_kept : (q : ℕ) → q ≤ length v.nodes → pid ≢ q → recorded_outputs w q ≡ recorded_outputs v q
+  outputs_kept q le ne =
       (λ i. values_alone (outputs_after (t.nodes.1 i) q (t.links i) []))
-      ∙ ap values_alone (outputs_stay v.nodes t.nodes.0 q v.links t.new s.links.ends (no_output q ne))
+      ∙ ap values_alone (outputs_stay v.nodes t.nodes.0 q v.links t.new s.links.ends (no_output q le ne))
 
-  pub branches_kept : (tree : ℕ → Option Tree) (q : ℕ) → pid ≢ q → branches tree q w.links ≡ branches tree q v.links
-  branches_kept tree q ne = ap (branches tree q) t.links ∙ branches_before tree q v.links t.new (no_call q ne)
+  pub branches_kept : (tree : ℕ → Option Tree) (q : ℕ) → q ≤ length v.nodes → pid ≢ q → branches tree q w.links ≡ branches tree q v.links
+  branches_kept tree q le ne = ap (branches tree q) t.links ∙ branches_before tree q v.links t.new (no_call q le ne)
 
-  pub called_kept : (q : ℕ) (label : Label) → pid ≢ q → called_under w.links q label ≡ called_under v.links q label
-  called_kept q label ne = ap (λ (ls : List Link). called_under ls q label) t.links ∙ called_before v.links t.new q label (no_call q ne)
+  pub called_kept : (q : ℕ) (label : Label) → q ≤ length v.nodes → pid ≢ q → called_under w.links q label ≡ called_under v.links q label
+  called_kept q label le ne = ap (λ (ls : List Link). called_under ls q label) t.links ∙ called_before v.links t.new q label (no_call q le ne)
 
   -- ---- definitions
 
@@ -224,7 +231,7 @@ module _ (v w : World) (pid : ℕ) (s : IsSound v) (t : Touches v w pid) (may : 
   result_kept q x (own r code files found is_job is_code folder) =
       let ne : pid ≢ r.node = λ e. let none = (fitting r found).code (live r found e) in absurd (cc (none, is_code)) in
       own r code files (found_kept r found ne) is_job is_code
-      (ap (λ (os : Values). option_and_then folder_of (lookup (codes "retrieved") os)) (outputs_kept r.node ne) ∙ folder)
+      (ap (λ (os : Values). option_and_then folder_of (lookup (codes "retrieved") os)) (outputs_kept r.node (within r.node r found) ne) ∙ folder)
   result_kept q x (cached r source y found is_job alive from rest) =
       let ne : pid ≢ r.node = λ e. let none = (fitting r found).source (live r found e) in absurd (cc (none, from)) in
       cached r source y (found_kept r found ne) is_job alive from (result_kept source y rest)
@@ -274,8 +281,8 @@ module _ (v w : World) (pid : ℕ) (s : IsSound v) (t : Touches v w pid) (may : 
   untouched = record {
     found = λ q h. t.records q (over_differs q h) (within q h.0 h.1);
     keeps = λ q r h is. record {
-      outputs = outputs_kept q (over_differs q h);
-      calls = λ tree. branches_kept tree q (over_differs q h);
+      outputs = outputs_kept q (within q h.0 h.1) (over_differs q h);
+      calls = λ tree. branches_kept tree q (within q h.0 h.1) (over_differs q h);
       below = called_over q h;
     };
   }
@@ -287,13 +294,13 @@ module _ (v w : World) (pid : ℕ) (s : IsSound v) (t : Touches v w pid) (may : 
   lead_on : (label : Label) (path : Path) (q : ℕ) → IsOver q → ((c : ℕ) → IsOver c → LeadsSame path c) → (o : Option ℕ) → called_under v.links q label ≡ o
       → LeadsSame (label ∷ path) q
   lead_on label path q h rest None is =
-      let before : called_under w.links q label ≡ None = called_kept q label (over_differs q h) ∙ is in (
+      let before : called_under w.links q label ≡ None = called_kept q label (within q h.0 h.1) (over_differs q h) ∙ is in (
         ap (option_and_then (λ c. follow w.links c path)) before ∙ sym (ap (option_and_then (λ c. follow v.links c path)) is),
         λ x e. let none : None ≡ Some x = sym (ap (option_and_then (λ c. follow v.links c path)) is) ∙ e in absurd (cc none),
       )
   lead_on label path q h rest (Some c) is =
       let over : IsOver c = called_link IsOver v.links q label c (called_over q h) is in
-      let before : called_under w.links q label ≡ Some c = called_kept q label (over_differs q h) ∙ is in
+      let before : called_under w.links q label ≡ Some c = called_kept q label (within q h.0 h.1) (over_differs q h) ∙ is in
       let next : LeadsSame path c = rest c over in (
         ap (option_and_then (λ y. follow w.links y path)) before ∙ next.0 ∙ sym (ap (option_and_then (λ y. follow v.links y path)) is),
         λ x e. next.1 x (sym (ap (option_and_then (λ y. follow v.links y path)) is) ∙ e),
@@ -303,16 +310,16 @@ module _ (v w : World) (pid : ℕ) (s : IsSound v) (t : Touches v w pid) (may : 
   follow_over [] q h = (refl, λ x e. let same : q ≡ x = cc in subst IsOver same h)
   follow_over (label ∷ path) q h = lead_on label path q h (follow_over path) (called_under v.links q label) refl
 
-  cut_kept : (r : ProcessRecord) → pid ≢ r.node → cut_after w r ≡ cut_after v r
-  cut_kept r ne =
-      ap (λ (n : ℕ). if is_killed r.state then Some n else None) (ap (calls_from r.node) t.links ∙ calls_before r.node v.links t.new (no_call r.node ne))
+  cut_kept : (r : ProcessRecord) → r.node ≤ length v.nodes → pid ≢ r.node → cut_after w r ≡ cut_after v r
+  cut_kept r le ne =
+      ap (λ (n : ℕ). if is_killed r.state then Some n else None) (ap (calls_from r.node) t.links ∙ calls_before r.node v.links t.new (no_call r.node le ne))
 
   cut_at : (x : ℕ) → IsOver x → option_and_then (cut_after w) (find_record x w.records) ≡ option_and_then (cut_after v) (find_record x v.records)
   cut_at x h =
       let ne : pid ≢ x = over_differs x h in
       let number : h.0.node ≡ x = found_node x v.records h.0 h.1 in
       ap (option_and_then (cut_after w)) (t.records x ne (within x h.0 h.1) ∙ h.1)
-      ∙ cut_kept h.0 (λ e. ne (e ∙ number)) ∙ sym (ap (option_and_then (cut_after v)) h.1)
+      ∙ cut_kept h.0 (within h.0.node h.0 (ap (λ (n : ℕ). find_record n v.records) number ∙ h.1)) (λ e. ne (e ∙ number)) ∙ sym (ap (option_and_then (cut_after v)) h.1)
 
   pub kill_kept : (q : ℕ) → IsOver q → (path : Path) → kills w q path ≡ kills v q path
   kill_kept q h path =
@@ -333,7 +340,7 @@ module _ (v w : World) (pid : ℕ) (s : IsSound v) (t : Touches v w pid) (may : 
       record {
         found = found_kept r found ne;
         inputs = inputs_kept r.node (within r.node r found);
-        outputs = outputs_kept r.node ne;
+        outputs = outputs_kept r.node (within r.node r found) ne;
         tree = tree;
         kills = kill_kept r.node h;
         meant = λ table agrees.

@@ -67,7 +67,7 @@ module _ (w : World) (r : ProcessRecord) (sound : IsSound w) (found : find_recor
       links_all w r (AddsFor w.nodes r.node) (first_free w r) (first_free w r) calls (omega arith) (λ n c le.
       let lt : length w.nodes < called_number w r n c = omega arith in
       call_all w r (AddsFor w.nodes r.node) n c
-      (inputs_all (AddsFor w.nodes r.node) (input_link (kind_of_callee w r c)) n (called_number w r n c) c.args (λ source port. inr (inr (input_takes (kind_of_callee w r c), lt))))
+      (inputs_all (AddsFor w.nodes r.node) (input_link (kind_of_callee w r c)) n (called_number w r n c) c.args (λ source port. inr (inr (inl (input_takes (kind_of_callee w r c), lt)))))
       (inr (inl (its_link_calls w r n c, lt))))
 
   pub calls_touch : Touches w v r.node

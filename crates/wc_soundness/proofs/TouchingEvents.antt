@@ -39,7 +39,7 @@ linked_adds : (nodes : List NodeKind) (by pid : ℕ) (k : ProcessKind) → lengt
 linked_adds nodes by pid k lt source [] = All-nil (AddsFor nodes by)
 linked_adds nodes by pid k lt source (i ∷ is) =
     All-cons (AddsFor nodes by) (record { source = source; target = pid; link = input_link k; label = i.0 }) (linked (input_link k) (suc source) pid is)
-    (inr (inr (takes k, lt))) (linked_adds nodes by pid k lt (suc source) is)
+    (inr (inr (inl (takes k, lt)))) (linked_adds nodes by pid k lt (suc source) is)
 
 beyond_records : (w : World) → IsConsistent w → (pid : ℕ) → length w.nodes < pid → (r : ProcessRecord) → find_record pid w.records ≡ Some r → ⊥
 beyond_records w c pid lt r found =

@@ -11,7 +11,7 @@ use Rattle.wc_world.specs.Fits.{part_fits, fails_fit, standing_fits, is_settled}
 use Rattle.wc_world.specs.Records.{find_record, at_process, has_ended, is_calculation}
 use Rattle.wc_machine.specs.Created.{IsGiven}
 use Rattle.wc_machine.specs.Resting.{IsOnTrack}
-use Rattle.wc_machine.specs.Sound.{AllDiffer, awaited_numbers, OutputsAscend, is_job_part, CallsAreKept, AwaitsLastCalls, NamesKnown, IsMeant, IsSound, fuel_in}
+use Rattle.wc_machine.specs.Sound.{AllDiffer, awaited_numbers, OutputsAscend, is_job_part, CallsAreKept, AwaitsLastCalls, NamesKnown, IsMeant, IsSound, KeepsFew, fuel_in}
 
 -- a process is set to a state with this fuel and part; it isn't paused, took no other's outcome, and has no exit code
 abbrev pub set_to : ProcessRecord → ProcessState → ℕ → Part → SetProcess
@@ -58,6 +58,7 @@ pub record SetsWell (w : World) (batch : ℕ) (r : ProcessRecord) (s : ProcessSt
   pub names : NamesKnown (world_to w batch r s fuel p) (record_to batch r s fuel p) p
   pub live : has_ended s ≡ false → IsOnTrack (world_to w batch r s fuel p) (record_to batch r s fuel p)
   pub meant : has_ended s ≡ true → IsMeant (world_to w batch r s fuel p) (record_to batch r s fuel p)
+  pub few : has_ended s ≡ true → KeepsFew (record_to batch r s fuel p)
   pub kept : fuel_in (world_to w batch r s fuel p).records (world_to w batch r s fuel p).records ≤ batch + length w.nodes
 
 -- A world is sound where a process of a sound world is set so.

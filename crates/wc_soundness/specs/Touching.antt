@@ -17,14 +17,16 @@ use Rattle.wc_machine.specs.Created.{IsGiven}
 use Rattle.wc_machine.specs.Resting.{IsOnTrack}
 use Rattle.wc_machine.specs.Sources.{KeepsRule}
 use Rattle.wc_machine.specs.Submitting.{IsKeptLibrary}
-use Rattle.wc_machine.specs.Sound.{AwaitsLastCalls, CallsAreKept, GoesUp, IsFitting, IsMeant, IsPlaced, NamesKnown, fuel_in}
+use Rattle.wc_machine.specs.Sound.{AwaitsLastCalls, CallsAreKept, GoesUp, IsFitting, IsMeant, IsPlaced, KeepsFew, NamesKnown, fuel_in}
 
--- A link that an event adds for a process: to an output of it, or, where the node at its target is new, as a call from it or as an input.
+-- A link that an event adds for a process: to an output of it, or, where the node at its target is new, as a call from it or as an input, or
+-- between two new nodes.
 abbrev pub AddsFor : List NodeKind → ℕ → Link → Type 0
 AddsFor nodes pid l =
     (is_output_of pid l ≡ true)
     ⊎ ((is_call_from pid l ≡ true) × (length nodes < l.target))
     ⊎ ((takes_input l.link ≡ true) × (length nodes < l.target))
+    ⊎ ((length nodes < l.source) × (length nodes < l.target))
 
 -- The world w is v after an event that touches this process alone, or makes it: lists grow, each new link is for the process, its record is
 -- carried over, and each other record stays.
@@ -68,6 +70,7 @@ pub record IsSoundRecord (w : World) (r : ProcessRecord) : Type 0 where
   pub given : is_calculation r.kind ≡ true → has_ended r.state ≡ true → IsGiven w r
   pub live : has_ended r.state ≡ false → IsOnTrack w r
   pub ended : has_ended r.state ≡ true → IsMeant w r
+  pub few : has_ended r.state ≡ true → KeepsFew r
 
 -- What it asks of the lists.
 pub record HasSoundLists (w : World) : Type 0 where

@@ -1,5 +1,5 @@
 -- What the lines of an answer say of a name.
-use Rattle.std.proofs.Common.{◌≡◌, ◌<◌, ◌≤◌, ◌+◌, ℕ, Bool, true, false, if◌then◌else◌, List, [], ◌∷◌, ◌++◌, Option, Some, None, length, take, get_or, refl, sym, ap, subst, ◌∙◌}
+use Rattle.std.proofs.Common.{◌≡◌, ◌<◌, ◌≤◌, ◌+◌, ℕ, Bool, true, false, if◌then◌else◌, List, [], ◌∷◌, ◌++◌, Option, Some, None, length, take, get_or, refl, sym, ap, ◌∙◌}
 use Rattle.std.specs.Prelude.{◌&&◌}
 use Rattle.std.specs.Str.{bytes_eq}
 use Rattle.std.specs.Ordering.{nat_cmp, is_lt, is_eq}
@@ -11,7 +11,7 @@ use Rattle.std.proofs.lemmas.Map.Text.{is_eq-slice_cmp}
 use Rattle.std.proofs.lemmas.List.{take_all, take_more}
 use Rattle.wc_value.specs.Ascending.{before, lookup, put}
 use Rattle.wc_value.proofs.Puts.{same_name}
-use Rattle.wc_local.specs.Queue.{name_in, rest_in, is_of_job, told_later, told_by, last_told, key_of, with_told, with_line}
+use Rattle.wc_local.specs.Queue.{name_in, rest_in, is_of_job, told_later, told_by, last_told, with_told, with_line}
 
 -- ---- a value put by its name
 

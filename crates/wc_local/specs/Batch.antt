@@ -1,5 +1,5 @@
 -- The batch script of a job on a cluster.
-use Rattle.std.specs.Prelude.{◌≡◌, ◌++◌, ℕ, ◌==◌, Bool, true, false, not, if◌then◌else◌, List, [], ◌∷◌, map, codes, nat_eq}
+use Rattle.std.specs.Prelude.{◌≡◌, ◌++◌, ℕ, ◌==◌, Bool, not, if◌then◌else◌, List, [], ◌∷◌, map, codes, nat_eq}
 use Rattle.std.specs.List.{concat, filter, slice_split, starts_with}
 
 -- the lines of a text

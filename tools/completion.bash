@@ -1,6 +1,5 @@
 # Completions of bash for maroonclamp and its tools: words of commands, options, workflow files, the definitions and ports of a file, and
-# the
-# numbers of processes as tools/peek tells them. To have them: . tools/completion.bash
+# the numbers of processes as tools/peek tells them. To have them: . tools/completion.bash
 _maroonclamp_words() { mapfile -t COMPREPLY < <(compgen -W "$1" -- "$word"); }
 _maroonclamp_files() {
   mapfile -t COMPREPLY < <(compgen -f -X "!$1" -- "$word"; compgen -d -S / -- "$word")

@@ -1,5 +1,5 @@
-# Completions of bash for maroonclamp and its tools: words of commands, options, workflow files, the definitions and ports of a file, and the
-# numbers of processes as tools/peek tells them. To have them: . tools/completion.bash
+# Completions of bash for maroonclamp and its tools: words of commands, options, workflow files, the definitions and ports of a file, and
+# the numbers of processes as tools/peek tells them. To have them: . tools/completion.bash
 _maroonclamp_words() { mapfile -t COMPREPLY < <(compgen -W "$1" -- "$word"); }
 _maroonclamp_files() {
   mapfile -t COMPREPLY < <(compgen -f -X "!$1" -- "$word"; compgen -d -S / -- "$word")
@@ -11,7 +11,8 @@ _maroonclamp_numbers() {
 }
 # The ports of a definition of a file, each with '='.
 _maroonclamp_ports() {
-  tr '\n' ' ' <"$1" 2>/dev/null | grep -oE "(calcfunction|calcjob|workchain) +$2 *\([^)]*\)" | sed 's/^[^(]*(//; s/)$//' | grep -oE '[A-Za-z_][A-Za-z0-9_]*\??:' | sed 's/?*:$/=/'
+  tr '\n' ' ' <"$1" 2>/dev/null | grep -oE "(calcfunction|calcjob|workchain) +$2 *\([^)]*\)" | sed 's/^[^(]*(//; s/)$//' |
+    grep -oE '[A-Za-z_][A-Za-z0-9_]*\??:' | sed 's/?*:$/=/'
 }
 _maroonclamp() {
   local word=${COMP_WORDS[COMP_CWORD]} before=${COMP_WORDS[COMP_CWORD - 1]} name=${COMP_WORDS[0]##*/} command first at operand operands=()
@@ -48,7 +49,9 @@ _maroonclamp() {
         *)
           case ${#operands[@]} in
             0) _maroonclamp_files '*.wcf' ;;
-            1) _maroonclamp_words "$(sed -nE 's/^ *(calcfunction|calcjob|workchain) +([A-Za-z_0-9]+).*/\2/p' "${operands[0]}" 2>/dev/null)" ;;
+            1)
+              _maroonclamp_words "$(sed -nE 's/^ *(calcfunction|calcjob|workchain) +([A-Za-z_0-9]+).*/\2/p' "${operands[0]}" 2>/dev/null)"
+              ;;
             *)
               _maroonclamp_words "$(_maroonclamp_ports "${operands[0]}" "${operands[1]}")"
               compopt -o nospace 2>/dev/null
@@ -58,8 +61,16 @@ _maroonclamp() {
       esac
       ;;
     run) _maroonclamp_words "--turns --seed --settings" ;;
-    daemon) [ "$COMP_CWORD" -eq 1 ] && _maroonclamp_words "start stop status serve settle clear" || _maroonclamp_words "--turns --seed --settings" ;;
-    table) [ "${#operands[@]}" -gt 0 ] || { [ -d wc.store ] && _maroonclamp_words "$("${_maroonclamp_tools:-tools}/peek" list 2>/dev/null | cut -d ' ' -f 3 | sort -u)"; } ;;
+    daemon)
+      case $COMP_CWORD in
+        1) _maroonclamp_words "start stop status serve settle clear" ;;
+        *) _maroonclamp_words "--turns --seed --settings" ;;
+      esac
+      ;;
+    table)
+      [ "${#operands[@]}" -eq 0 ] && [ -d wc.store ] &&
+        _maroonclamp_words "$("${_maroonclamp_tools:-tools}/peek" list 2>/dev/null | cut -d ' ' -f 3 | sort -u)"
+      ;;
     tree | show | pause | play | kill | report | stop | history | clean) _maroonclamp_numbers ;;
   esac
 }

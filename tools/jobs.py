@@ -1,4 +1,6 @@
-"""What the folder of a job tells: its request, whether its program runs, and the processes that belong to it. Part of the tools. Needs Linux's /proc."""
+"""What the folder of a job tells: its request, whether its program runs, and the processes that belong to it. Part
+of the tools. Needs Linux's /proc.
+"""
 import fcntl
 import os
 
@@ -50,8 +52,8 @@ def is_of(pid, top):
 
 
 def processes(number):
-    """The processes of a job that run, as pairs of process and its moment: its script, what writes to its stdout.txt or stderr.txt, and what is in a session
-    that one of these leads, or whose leader is gone. Someone who only looks at the folder isn't met."""
+    """The processes of a job that run, as pairs of process and its moment: its script, what writes to its stdout.txt or stderr.txt,
+    and what is in a session that one of these leads, or whose leader is gone. Someone who only looks at the folder isn't met."""
     top = os.path.realpath(folder_of(number))
     moments, sessions = {}, {}
     for name in os.listdir("/proc"):

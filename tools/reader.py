@@ -1,7 +1,9 @@
-"""Reads the store of a folder from its two files, as docs/FORMATS.md has them. Part of the tools; nothing here is proved.
+"""Reads the store of a folder from its two files, as docs/FORMATS.md has them. Part of the tools; nothing here is
+proved.
 
-A copy is taken by the rule of tools/peek: each file from its front, and both again where a header isn't as it was read. So a run may go on. Python 3.9
-or later. The tools that stand on it tell numbers, states and texts as the program does, and leave the judging of a store that isn't as the formats say to it.
+A copy is taken by the rule of tools/peek: each file from its front, and both again where a header isn't as it
+was read. So a run may go on. Python 3.9 or later. The tools that stand on it tell numbers, states and texts as
+the program does, and leave the judging of a store that isn't as the formats say to it.
 """
 import json
 import os
@@ -357,7 +359,7 @@ def world_of(image, at=None):
 
 
 def patiently(work):
-    """What work on a copy of the files gives: taken again where they make no store, since another command may be making it, or packing it."""
+    """What work on a copy of the files gives: done again where they make no store, since another command may be making or packing it."""
     for left in (4, 3, 2, 1, 0):
         try:
             return work()

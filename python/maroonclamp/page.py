@@ -18,9 +18,9 @@ def text_of(text, width):
 
 
 def file_of(name, data, width):
-    """A file of a folder: its name, its length, and its text, or nothing where it isn't UTF-8."""
+    """A file of a folder: its name, its length, and its text with its whole length where it was cut; no text where it isn't UTF-8."""
     try:
-        return [name, len(data), *text_of(data[: 4 * width].decode("utf-8", "strict" if len(data) <= 4 * width else "ignore"), width)[:1]]
+        return [name, len(data), *text_of(data.decode("utf-8"), width)]
     except UnicodeDecodeError:
         return [name, len(data)]
 
@@ -64,7 +64,7 @@ def page(store, width=None, pictures=40):
     world = store.refresh()._world
     width = width or (4000 if len(world.nodes) <= LONG_STORE else 400)
     data = {
-        "path": store.path,
+        "name": os.path.basename(store.path),
         "made": time.strftime("%Y-%m-%d %H:%M"),
         "counts": store.counts(),
         "nodes": [value_of(it, width) if isinstance(it, Value) else process_of(store, it, width) for it in world.nodes],

@@ -11,6 +11,9 @@ from .notebook import process_html, store_html
 from .values import Folder, cut, kind_of
 from .world import STATES, Misfit, ProcessNode, World
 
+# How often files that make no store are looked at, since another command may be making or packing it, and the seconds between.
+LOOKS, REST = 5, 0.1
+
 Done = collections.namedtuple("Done", "committed live paused status")
 Done.__doc__ = """What a run did: how many turns were committed, how many processes haven't ended, how many of these are paused, and the program's status: 0, 3 or 4."""
 
@@ -162,7 +165,7 @@ class Store:
 
     def refresh(self):
         """Looks at the files: takes what came since the last look, or reads all anew where the store was packed. Answers the store itself."""
-        for left in (4, 3, 2, 1, 0):
+        for left in reversed(range(LOOKS)):
             try:
                 if self._journal is None or not self._go_on():
                     self._read()
@@ -171,7 +174,7 @@ class Store:
                 self._journal = None
                 if not left or not os.path.isdir(os.path.join(self.path, "wc.store")):
                     raise
-                time.sleep(0.1)
+                time.sleep(REST)
 
     def _read(self):
         found = journal.images(self.path)

@@ -156,6 +156,7 @@ class World:
         else:
             fits(6 not in tags and 7 not in tags)
         kept = {it[0]: it[1:] for tag, it in changes if tag == 7}
+        fits(len(kept) == tags.count(7))
         for tag, change in changes:
             (None, self.library, self.value, self.made, self.link, self.set, self.counted, self.kept)[tag](change, kept if is_snapshot else None)
         for number in self.touched:

@@ -3,7 +3,6 @@ use Rattle.std.proofs.Common.{◌≡◌, ℕ, zero, suc, ◌+◌, Bool, true, fa
 use Rattle.std.specs.Prelude.{if◌then◌else◌, length, option_map, option_and_then}
 use Rattle.wc_value.specs.declared.process.ProcessState.TheVariants.{Killed}
 use Rattle.wc_value.specs.declared.process.Tree.{Tree}
-use Rattle.wc_value.specs.declared.value.Kind.{Kind}
 use Rattle.wc_syntax.specs.declared.expression.Expr.{Expr}
 use Rattle.wc_syntax.specs.declared.outline.Instr.{Instr, out-Instr}
 use Rattle.wc_syntax.specs.declared.outline.Instr.TheOpen.{Instr-F}
@@ -26,7 +25,7 @@ use Rattle.wc_semantics.specs.declared.progress.Stepped.{Stepped}
 use Rattle.wc_semantics.specs.declared.progress.Stepped.TheVariants.{Stops, Makes}
 use Rattle.wc_semantics.specs.Tables.{Label}
 use Rattle.wc_semantics.specs.Statements.{statements}
-use Rattle.wc_semantics.specs.Run.{Call, Around, Act, ◌>->◌, spend, taken, by_value, label, next_label, with_call, take_calls, is_stop, stopped, make_calls, after, test, picked, turns, exec, run_block, run, instrs}
+use Rattle.wc_semantics.specs.Run.{Call, Around, Act, ◌>->◌, spend, taken, by_value, label, next_label, with_call, take_calls, is_stop, stopped, after, test, picked, turns, exec, run_block, run, instrs}
 use Rattle.wc_semantics.specs.Laws.{arm_block, arm_list, else_list}
 use Rattle.wc_semantics.proofs.Induction.{AllOf, OptionOf, Inside, every_list}
 use Rattle.wc_semantics.proofs.Acts.{opened, exec_is, block_is, picked_lists}

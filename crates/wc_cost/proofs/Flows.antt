@@ -1,5 +1,5 @@
 -- Flows that end, or go on: what came before them went on.
-use Rattle.std.proofs.Common.{◌≡◌, ℕ, zero, suc, List, Option, Some, None, refl}
+use Rattle.std.proofs.Common.{◌≡◌, ℕ, zero, suc, List, None, refl}
 use Rattle.wc_syntax.specs.declared.definition.Port.{Port}
 use Rattle.wc_semantics.specs.declared.progress.Answer.{Answer}
 use Rattle.wc_semantics.specs.declared.progress.Answer.TheVariants.{Gave, TooLittle, Without, Astray}

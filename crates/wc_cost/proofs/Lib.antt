@@ -1,8 +1,11 @@
 pub mod Cost
-pub mod Tried
 pub mod Costed
 pub mod Prices
 pub mod OneLeft
 pub mod Owing
 pub mod Flows
 pub mod LiveMeanings
+pub mod Told
+pub mod SmallRuns
+pub mod FanCost
+pub mod CostAdvance

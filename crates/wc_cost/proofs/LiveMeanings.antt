@@ -1,5 +1,5 @@
 -- Each live process of a sound world means a tree, where those that nothing called do.
-use Rattle.std.proofs.Common.{◌≡◌, ℕ, zero, suc, ◌+◌, ◌-◌, ◌≤◌, Bool, true, false, List, [], ◌∷◌, Option, Some, None, inl, inr, length, map, take, drop, refl, sym, ap, subst, ◌∙◌, arith}
+use Rattle.std.proofs.Common.{◌≡◌, ℕ, zero, suc, ◌+◌, ◌≤◌, Bool, true, false, List, [], ◌∷◌, Option, Some, None, inl, inr, length, map, take, drop, refl, sym, ap, subst, ◌∙◌, arith}
 use Rattle.std.specs.Prelude.{All, ◌==◌, ◌&&◌, ◌||◌, not, option_map}
 use Rattle.std.specs.List.{list_any}
 use Rattle.std.proofs.lemmas.Bool.{and_parts, cases_Bool, cases_eq, eqb-true}
@@ -11,7 +11,6 @@ use Rattle.wc_value.specs.declared.process.Tree.{Tree}
 use Rattle.wc_syntax.specs.declared.definition.Chain.{Chain}
 use Rattle.wc_syntax.specs.declared.definition.Definition.{Definition}
 use Rattle.wc_syntax.specs.declared.definition.Definition.TheVariants as definition
-use Rattle.wc_syntax.specs.declared.definition.Port.{Port}
 use Rattle.wc_graph.specs.declared.link.Link.{Link}
 use Rattle.wc_semantics.specs.Rules.{Values}
 use Rattle.wc_semantics.specs.declared.progress.Answer.{Answer}
@@ -19,7 +18,7 @@ use Rattle.wc_semantics.specs.declared.progress.Answer.TheVariants.{Gave}
 use Rattle.wc_semantics.specs.declared.progress.Planned.{Planned}
 use Rattle.wc_semantics.specs.declared.progress.Progress.{Progress}
 use Rattle.wc_semantics.specs.declared.progress.Replayed.{Replayed}
-use Rattle.wc_semantics.specs.Meaning.{around, ended, meaning, within}
+use Rattle.wc_semantics.specs.Meaning.{around, meaning, within}
 use Rattle.wc_semantics.specs.Run.{Around, ◌>->◌, label, make_calls, next_label, run, stopped, take_calls, taken, with_call}
 use Rattle.wc_semantics.specs.Tables.{Label, Path, Table, under}
 use Rattle.wc_state.specs.declared.environment.Env.{Env}

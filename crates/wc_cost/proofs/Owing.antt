@@ -1,5 +1,5 @@
 -- A live process owes something.
-use Rattle.std.proofs.Common.{◌≡◌, ℕ, zero, suc, ◌+◌, Bool, true, false, List, [], ◌∷◌, Option, Some, None, inl, inr, get_or, refl, sym, ap, subst, ◌∙◌, arith}
+use Rattle.std.proofs.Common.{◌≡◌, ℕ, zero, suc, ◌+◌, Bool, true, false, List, [], ◌∷◌, Option, Some, None, inl, inr, get_or, refl, ap, subst, ◌∙◌, arith}
 use Rattle.std.specs.Prelude.{All, if◌then◌else◌, option_and_then, option_map}
 use Rattle.std.proofs.lemmas.Bool.{cases_Bool}
 use Rattle.std.proofs.lemmas.List.Elements.{All-nil, All-cons}
@@ -29,7 +29,6 @@ use Rattle.wc_state.specs.declared.record.ProcessKind.TheVariants as kind
 use Rattle.wc_state.specs.declared.record.ProcessRecord.{ProcessRecord}
 use Rattle.wc_state.specs.declared.record.Task.{Task}
 use Rattle.wc_state.specs.declared.record.Task.TheVariants as task
-use Rattle.wc_world.specs.Consistent.{IsConsistent}
 use Rattle.wc_world.specs.Fits.{calls_from, part_fits}
 use Rattle.wc_world.specs.Records.{find_record, has_ended, library_at}
 use Rattle.wc_world.specs.World.{World}

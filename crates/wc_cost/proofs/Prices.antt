@@ -3,7 +3,6 @@ use Rattle.std.proofs.Common.{◌≡◌, ℕ, zero, suc, ◌+◌, ◌-◌, ◌�
 use Rattle.std.specs.Prelude.{option_map}
 use Rattle.wc_value.specs.declared.process.JobResult.{JobResult}
 use Rattle.wc_value.specs.declared.process.Request.{Request}
-use Rattle.wc_value.specs.declared.process.Tree.{Tree}
 use Rattle.wc_syntax.specs.Findings.{definition_named}
 use Rattle.wc_syntax.specs.declared.definition.Definition.{Definition}
 use Rattle.wc_syntax.specs.declared.definition.Definition.TheVariants as definition
@@ -21,14 +20,14 @@ use Rattle.wc_semantics.specs.declared.progress.Flow.{Flow}
 use Rattle.wc_semantics.specs.declared.progress.Flow.TheVariants.{Goes, Ends, NoFuel, Lacks, Off}
 use Rattle.wc_semantics.specs.declared.progress.Progress.{Progress}
 use Rattle.wc_semantics.specs.declared.progress.Replayed.{Replayed}
-use Rattle.wc_semantics.specs.Tables.{Label, Table, Kills, under}
+use Rattle.wc_semantics.specs.Tables.{Table, Kills, under}
 use Rattle.wc_semantics.specs.Laws.{MoreAnswer}
 use Rattle.wc_semantics.specs.Run.{Around, run, instrs}
 use Rattle.wc_semantics.specs.Meaning.{around, by_kill, by_result, ended, first, job, meaning, whole, within}
 use Rattle.wc_semantics.proofs.Keeps.{meaning_more}
 use Rattle.wc_cost.specs.Laws.{MeaningsCost, RunsCost}
 use Rattle.wc_cost.specs.Cost.{Costing, cost, Costs, due_of, job_cost, price_of, price_by, price, tolls, Prices, bare}
-use Rattle.wc_cost.proofs.Cost.{Keeps, keep_map, kept, KeepsDue, cost_keeps, cost_unique}
+use Rattle.wc_cost.proofs.Cost.{Keeps, kept, KeepsDue, cost_keeps, cost_unique}
 use Rattle.wc_cost.proofs.Costed.{Fair, AnEnd, run_costed}
 
 -- ---- the price doesn't hang on the bound

@@ -6,7 +6,7 @@ use Rattle.wc_syntax.specs.declared.definition.Chain.{Chain}
 use Rattle.wc_syntax.specs.declared.definition.Definition.{Definition}
 use Rattle.wc_syntax.specs.declared.definition.Definition.TheVariants as definition
 use Rattle.wc_expression.specs.declared.outcome.Outcome.{Outcome}
-use Rattle.wc_expression.specs.declared.outcome.Outcome.TheVariants.{Gives, Faults}
+use Rattle.wc_expression.specs.declared.outcome.Outcome.TheVariants.{Gives}
 use Rattle.wc_semantics.specs.Tables.{Table}
 use Rattle.wc_semantics.specs.declared.progress.Planned.{Planned}
 use Rattle.wc_semantics.specs.declared.progress.Progress.{Progress}

@@ -1,3 +1,5 @@
 pub mod Cost
 pub mod Left
 pub mod Laws
+pub mod SmallLaws
+pub mod Advances

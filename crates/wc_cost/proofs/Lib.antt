@@ -9,3 +9,5 @@ pub mod Told
 pub mod SmallRuns
 pub mod FanCost
 pub mod CostAdvance
+pub mod KillsKept
+pub mod Bystanders

@@ -3,3 +3,4 @@ pub mod Left
 pub mod Laws
 pub mod SmallLaws
 pub mod Advances
+pub mod Framing

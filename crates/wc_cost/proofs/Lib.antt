@@ -11,3 +11,5 @@ pub mod FanCost
 pub mod CostAdvance
 pub mod KillsKept
 pub mod Bystanders
+pub mod OneLowered
+pub mod CalculationsLowered

@@ -140,7 +140,7 @@ module _ (results : Request → Option JobResult) (w : World) (r : ProcessRecord
   fresh_positive None n p = p
   fresh_positive (Some library) n p = price_positive (levels_of r) library (by_request results) (kills w r.node) p.0 r.definition (recorded_inputs w r.node) n p.1
 
-  part_positive : (x : Part) → part_fits r.kind r.state x ≡ true → has_ended r.state ≡ false → kills w r.node [] ≡ None → PartOwes results w r x 0 → ⊥
+  pub part_positive : (x : Part) → part_fits r.kind r.state x ≡ true → has_ended r.state ≡ false → kills w r.node [] ≡ None → PartOwes results w r x 0 → ⊥
   part_positive part.Fresh fits live n p = fresh_positive (library_at w.libraries r.library) n p
   part_positive (part.Chain c) fits live n p = chain_positive c (library_at w.libraries r.library) (its_definition w r) (awaited w c.awaiting) (progress_of w r c) p
   part_positive (part.Job j) fits live n p = job_owes j.task (recorded_request w r) p

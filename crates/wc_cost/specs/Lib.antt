@@ -4,3 +4,4 @@ pub mod Laws
 pub mod SmallLaws
 pub mod Advances
 pub mod Framing
+pub mod Lowering

@@ -1,0 +1,15 @@
+pub mod Cost
+pub mod Costed
+pub mod Prices
+pub mod OneLeft
+pub mod Owing
+pub mod Flows
+pub mod LiveMeanings
+pub mod Told
+pub mod SmallRuns
+pub mod FanCost
+pub mod CostAdvance
+pub mod KillsKept
+pub mod Bystanders
+pub mod OneLowered
+pub mod CalculationsLowered

@@ -1,0 +1,7 @@
+pub mod Cost
+pub mod Left
+pub mod Laws
+pub mod SmallLaws
+pub mod Advances
+pub mod Framing
+pub mod Lowering

@@ -1,0 +1,36 @@
+-- How a turn lowers what is left of a world.
+use Rattle.std.specs.Prelude.{◌≡◌, ℕ, suc, ◌<◌, true, List, Option, Some, None}
+use Rattle.wc_value.specs.declared.process.JobResult.{JobResult}
+use Rattle.wc_value.specs.declared.process.Request.{Request}
+use Rattle.wc_state.specs.declared.record.ProcessRecord.{ProcessRecord}
+use Rattle.wc_world.specs.declared.change.Change.{Change}
+use Rattle.wc_world.specs.Applied.{applied}
+use Rattle.wc_world.specs.Records.{find_record, is_calculation}
+use Rattle.wc_world.specs.World.{World}
+use Rattle.wc_machine.specs.declared.answer.TaskAnswer.{TaskAnswer}
+use Rattle.wc_machine.specs.declared.answer.TaskAnswer.TheVariants as answer
+use Rattle.wc_machine.specs.Sound.{IsSound}
+use Rattle.wc_machine.specs.Turning.{TurnGives}
+use Rattle.wc_cost.specs.Left.{IsLeft}
+
+-- neither a failure nor a program that runs on
+abbrev pub IsCalm : TaskAnswer → Type 0
+IsCalm answer.Nothing = Unit {0}
+IsCalm answer.Done = Unit {0}
+IsCalm answer.Running = ⊥
+IsCalm answer.Failed = ⊥
+IsCalm (answer.Result r) = Unit {0}
+
+-- the process took no outcome of another
+abbrev pub TakesNoClones : ℕ → World → Type 0
+TakesNoClones pid v = (r : ProcessRecord) → find_record pid v.records ≡ Some r → r.cached_from ≡ None
+
+-- Less is left of the world than so many turns, and exactly one less where the process took no outcome of another.
+abbrev pub LeavesLess : (Request → Option JobResult) → ℕ → World → ℕ → Type 0
+LeavesLess results pid v k = (m : ℕ) × IsLeft results v m × (m < k) × (TakesNoClones pid v → k ≡ suc m)
+
+-- The turn of a ready function or job of a sound world lowers what is left of it, where its task doesn't fail and its program has ended.
+abbrev pub CalculationTurnsLower : Type 0
+CalculationTurnsLower = (results : Request → Option JobResult) (poll now : ℕ) (w : World) (r : ProcessRecord) (a : TaskAnswer) (cs : List Change) (k : ℕ) → IsSound w
+    → find_record r.node w.records ≡ Some r → is_calculation r.kind ≡ true → TurnGives poll now w r a cs → IsCalm a → IsLeft results w k
+    → LeavesLess results r.node (applied w cs) k

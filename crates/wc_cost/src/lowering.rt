@@ -1,0 +1,7 @@
+//! Laws of turns that lower what is left of a world.
+ghost use Rattle.wc_cost.specs.Lowering.{CalculationTurnsLower};
+
+/// The turn of a function or a job lowers what is left by exactly one, or by more where it takes another's outcome.
+pub fn calculation_turns_lower()
+    ensures { CalculationTurnsLower }
+{}

@@ -1,0 +1,9 @@
+-- The number of the values of an array.
+use Rattle.std.proofs.Common.{◌≡◌, refl, ap, suc, List, [], ◌∷◌, length}
+use Rattle.toml.specs.View.{items_view}
+use Rattle.toml.specs.declared.value.Value.{Value}
+use Rattle.wc_handlers.specs.Values.{count}
+
+pub count_view : (vs : List Value) → count (items_view vs) ≡ length vs
+count_view [] = refl
+count_view (v ∷ vs) = ap suc (count_view vs)

@@ -1,0 +1,5 @@
+mod Counts
+mod Kept
+mod Least
+mod Nothing
+mod Read

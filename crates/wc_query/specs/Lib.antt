@@ -1,0 +1,4 @@
+pub mod Pieces
+pub mod Names
+pub mod Words
+pub mod Laws

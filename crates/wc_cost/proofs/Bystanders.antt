@@ -1,11 +1,10 @@
 -- A process that an event doesn't touch owes what it owed.
-use Rattle.std.proofs.Common.{◌≡◌, ◌≢◌, ℕ, suc, ◌+◌, Bool, true, List, [], ◌∷◌, ◌++◌, Option, Some, None, length, refl, sym, ap, subst, ◌∙◌}
-use Rattle.std.specs.Prelude.{All, ◌&&◌, not, take, option_map, option_and_then}
+use Rattle.std.proofs.Common.{◌≡◌, ◌≢◌, ℕ, Bool, true, List, [], ◌∷◌, Option, Some, None, refl, sym, ap, subst, ◌∙◌}
+use Rattle.std.specs.Prelude.{◌&&◌, not, take, option_map, option_and_then}
 use Rattle.std.specs.List.{list_all}
 use Rattle.std.proofs.lemmas.List.Elements.{All-weaker}
 use Rattle.wc_value.specs.declared.process.JobResult.{JobResult}
 use Rattle.wc_value.specs.declared.process.Request.{Request}
-use Rattle.wc_syntax.specs.declared.definition.Chain.{Chain}
 use Rattle.wc_syntax.specs.declared.definition.Definition.{Definition}
 use Rattle.wc_syntax.specs.declared.definition.Definition.TheVariants as definition
 use Rattle.wc_graph.specs.Rules.{node_of}
@@ -42,7 +41,7 @@ use Rattle.wc_cost.proofs.KillsKept.{kills_kept}
 module _ (results : Request → Option JobResult) (v w : World) (pid : ℕ) (s : IsSound v) (t : Touches v w pid) (may : MayBeTouched v pid) (none : KillsNone v w pid)
     (r : ProcessRecord) (found : find_record r.node v.records ≡ Some r) (ne : pid ≢ r.node) (n : ℕ) where
   quiet : NoCallFrom r.node t.new
-  quiet = no_call v w pid s t may r.node ne
+  quiet = no_call v w pid s t may r.node (within v w pid s t may r.node r found) ne
 
   abbrev again : (q : ProcessRecord) × (find_record r.node w.records ≡ Some q) × (context_of q.part ≡ context_of r.part)
   again = (r, found_kept v w pid s t may r found ne, refl)

@@ -1,5 +1,5 @@
 -- An event that kills nothing leaves the recorded kills as they were.
-use Rattle.std.proofs.Common.{◌≡◌, ◌≢◌, ℕ, suc, ◌+◌, ◌<◌, ◌≤◌, Bool, true, false, List, [], ◌∷◌, ◌++◌, Option, Some, None, get_or, inl, inr, length, refl, sym, ap, subst, ◌∙◌, arith}
+use Rattle.std.proofs.Common.{◌≡◌, ℕ, ◌<◌, ◌≤◌, Bool, true, false, List, [], ◌∷◌, ◌++◌, Option, Some, None, get_or, inl, inr, length, refl, sym, ap, ◌∙◌, arith}
 use Rattle.std.specs.Prelude.{All, ◌==◌, ◌&&◌, if◌then◌else◌, option_and_then}
 use Rattle.std.specs.Str.{bytes_eq}
 use Rattle.std.proofs.lemmas.Bool.{cases_Bool, cases_eq, eqb-true}
@@ -9,15 +9,15 @@ use Rattle.wc_semantics.specs.Meaning.{is_killed}
 use Rattle.wc_semantics.specs.Tables.{Label, Path}
 use Rattle.wc_state.specs.declared.record.ProcessRecord.{ProcessRecord}
 use Rattle.wc_world.specs.World.{World}
-use Rattle.wc_world.specs.Fits.{calls_from, is_call_between, call_fits}
-use Rattle.wc_world.specs.Records.{calls, find_record, gives_output, has_ended, is_call_from, takes_input}
+use Rattle.wc_world.specs.Fits.{calls_from, is_call_between}
+use Rattle.wc_world.specs.Records.{calls, find_record, gives_output, has_ended, is_call_from}
 use Rattle.wc_world.proofs.FoundRecords.{IsDeeper, call_is_deeper, calls_is, left, right}
 use Rattle.wc_world.proofs.ReachedLists.{found_node}
 use Rattle.wc_machine.specs.Paths.{called_under, cut_after, follow, kills}
 use Rattle.wc_machine.specs.Sound.{IsSound}
 use Rattle.wc_machine.proofs.Frames.{NoCallFrom, called_before, calls_before}
 use Rattle.wc_soundness.specs.Touching.{AddsFor, MayBeTouched, Touches}
-use Rattle.wc_soundness.proofs.Touched.{called_kept, called_link, carried_on, first_false, found_kept, input_no_call, no_call, output_no_call, within}
+use Rattle.wc_soundness.proofs.Touched.{called_kept, called_link, carried_on, found_kept, no_call, output_no_call, within}
 use Rattle.wc_cost.specs.Framing.{KillsNone, KillsStay}
 use Rattle.wc_cost.proofs.Owing.{alive}
 
@@ -46,11 +46,13 @@ source_there : (label : List ℕ) (o t : Option ProcessRecord) → is_call_betwe
 source_there label None t h = absurd (cc h)
 source_there label (Some x) t h = (x, refl)
 
-new_target : (nodes : List NodeKind) (pid : ℕ) (l : Link) → AddsFor nodes pid l → is_call_from pid l ≡ true → length nodes < l.target
+-- a new link that calls leads to a new process
+new_target : (nodes : List NodeKind) (pid : ℕ) (l : Link) → AddsFor nodes pid l → calls l.link ≡ true → length nodes < l.target
 new_target nodes pid l (inl h) called =
-    let none : is_call_from pid l ≡ false = first_false (calls l.link) (l.source == pid) (output_no_call l.link (left (gives_output l.link) (l.source == pid) h)) in absurd (cc (called, none))
+    let none : calls l.link ≡ false = output_no_call l.link (left (gives_output l.link) (l.source == pid) h) in absurd (cc (called, none))
 new_target nodes pid l (inr (inl h)) called = h.1
-new_target nodes pid l (inr (inr h)) called = h.1
+new_target nodes pid l (inr (inr (inl h))) called = h.1
+new_target nodes pid l (inr (inr (inr h))) called = h.1
 
 module _ (v w : World) (pid : ℕ) (s : IsSound v) (t : Touches v w pid) (may : MayBeTouched v pid) (none : KillsNone v w pid) where
   not_cut : (x : ProcessRecord) → is_killed x.state ≡ false → cut_after w x ≡ None
@@ -70,8 +72,25 @@ module _ (v w : World) (pid : ℕ) (s : IsSound v) (t : Touches v w pid) (may : 
         | inr not ↦ not
       ]
 
-  fresh_kills : (c : ℕ) → length v.nodes < c → pid ≢ c → (path : Path) → kills w c path ≡ None
-  fresh_kills c beyond ne [] = at (find_record c w.records) refl
+  through : (u : World) (pid' : ℕ) (label : Label) (path : Path) (o : Option ℕ) → called_under u.links pid' label ≡ o
+      → kills u pid' (label ∷ path) ≡ option_and_then (λ q. option_and_then (cut_after u) (find_record q u.records)) (option_and_then (λ c. follow u.links c path) o)
+  through u pid' label path o is = ap (λ (z : Option ℕ). option_and_then (λ q. option_and_then (cut_after u) (find_record q u.records)) (option_and_then (λ q. follow u.links q path) z)) is
+
+  -- what a new process calls is new
+  beyond_call : (c : ℕ) → length v.nodes < c → (label : Label) (q : ℕ) → called_under w.links c label ≡ Some q → length v.nodes < q
+  beyond_call c beyond label q is =
+      let before : called_under v.links c label ≡ None = called_before [] v.links c label (no_calls c beyond) in
+      let here : called_under t.new c label ≡ Some q = sym (called_new v.links t.new c label before) ∙ sym (ap (λ (ls : List Link). called_under ls c label) t.links) ∙ is in
+      called_link (λ n. length v.nodes < n) t.new c label q
+      (λ i d lt called. new_target v.nodes pid (get_or t.new i d) (t.added i d lt) (left (calls (get_or t.new i d).link) ((get_or t.new i d).source == c) called)) here
+
+  fresh_on : (label : Label) (path : Path) → ((q : ℕ) → length v.nodes < q → kills w q path ≡ None) → (c : ℕ) → length v.nodes < c
+      → (o : Option ℕ) → called_under w.links c label ≡ o → kills w c (label ∷ path) ≡ None
+  fresh_on label path rest c beyond None is = through w c label path None is
+  fresh_on label path rest c beyond (Some q) is = through w c label path (Some q) is ∙ rest q (beyond_call c beyond label q is)
+
+  fresh_kills : (path : Path) (c : ℕ) → length v.nodes < c → kills w c path ≡ None
+  fresh_kills [] c beyond = at (find_record c w.records) refl
     where
       at : (o : Option ProcessRecord) → find_record c w.records ≡ o → option_and_then (cut_after w) (find_record c w.records) ≡ None
       at None is = ap (option_and_then (cut_after w)) is
@@ -79,9 +98,7 @@ module _ (v w : World) (pid : ℕ) (s : IsSound v) (t : Touches v w pid) (may : 
           let number : x.node ≡ c = found_node c w.records x is in
           ap (option_and_then (cut_after w)) is
           ∙ not_cut x (none x (ap (λ (n : ℕ). find_record n w.records) number ∙ is) (inr (omega (arith, number, beyond))))
-  fresh_kills c beyond ne (label ∷ path) =
-      ap (λ (o : Option ℕ). option_and_then (λ q. option_and_then (cut_after w) (find_record q w.records)) (option_and_then (λ q. follow w.links q path) o))
-      (called_kept v w pid s t may c label ne ∙ called_before [] v.links c label (no_calls c beyond))
+  fresh_kills (label ∷ path) c beyond = fresh_on label path (fresh_kills path) c beyond (called_under w.links c label) refl
 
   -- ---- and one that was there has those that it had
 
@@ -95,7 +112,7 @@ module _ (v w : World) (pid : ℕ) (s : IsSound v) (t : Touches v w pid) (may : 
         (ap (option_and_then (cut_after w)) c.1 ∙ not_cut c.0 (none c.0 itself (inl (e ∙ sym number)))) ∙ sym (alive v r found live)
     | inr ne ↦
         ap (option_and_then (cut_after w)) (found_kept v w pid s t may r found ne)
-        ∙ ap (λ (n : ℕ). if is_killed r.state then Some n else None) (ap (calls_from r.node) t.links ∙ calls_before r.node v.links t.new (no_call v w pid s t may r.node ne))
+        ∙ ap (λ (n : ℕ). if is_killed r.state then Some n else None) (ap (calls_from r.node) t.links ∙ calls_before r.node v.links t.new (no_call v w pid s t may r.node (within v w pid s t may r.node r found) ne))
         ∙ sym (ap (option_and_then (cut_after v)) found)
   ]
 
@@ -111,10 +128,6 @@ module _ (v w : World) (pid : ℕ) (s : IsSound v) (t : Touches v w pid) (may : 
   abbrev Kept : Path → Type 0
   Kept path = (r : ProcessRecord) → find_record r.node v.records ≡ Some r → kills w r.node path ≡ kills v r.node path
 
-  through : (u : World) (pid' : ℕ) (label : Label) (path : Path) (o : Option ℕ) → called_under u.links pid' label ≡ o
-      → kills u pid' (label ∷ path) ≡ option_and_then (λ q. option_and_then (cut_after u) (find_record q u.records)) (option_and_then (λ c. follow u.links c path) o)
-  through u pid' label path o is = ap (λ (z : Option ℕ). option_and_then (λ q. option_and_then (cut_after u) (find_record q u.records)) (option_and_then (λ q. follow u.links q path) z)) is
-
   none_before : (r : ProcessRecord) → find_record r.node v.records ≡ Some r → (label : Label) (path : Path) → called_under v.links r.node label ≡ None
       → (o : Option ℕ) → called_under w.links r.node label ≡ o → kills w r.node (label ∷ path) ≡ None
   none_before r found label path before None is = through w r.node label path None is
@@ -122,10 +135,9 @@ module _ (v w : World) (pid : ℕ) (s : IsSound v) (t : Touches v w pid) (may : 
     | inl e ↦
         let here : called_under t.new r.node label ≡ Some c = sym (called_new v.links t.new r.node label before) ∙ sym (ap (λ (ls : List Link). called_under ls r.node label) t.links) ∙ is in
         let beyond : length v.nodes < c = called_link (λ q. length v.nodes < q) t.new r.node label c
-        (λ i d lt called. new_target v.nodes pid (get_or t.new i d) (t.added i d lt) (ap (λ (n : ℕ). is_call_from n (get_or t.new i d)) e ∙ called)) here in
-        let low : r.node ≤ length v.nodes = within v w pid s t may r.node r found in
-        through w r.node label path (Some c) is ∙ fresh_kills c beyond (λ same. omega (arith, same, e, low, beyond)) path
-    | inr ne ↦ let same : None ≡ Some c = sym before ∙ sym (called_kept v w pid s t may r.node label ne) ∙ is in absurd (cc same)
+        (λ i d lt called. new_target v.nodes pid (get_or t.new i d) (t.added i d lt) (left (calls (get_or t.new i d).link) ((get_or t.new i d).source == r.node) called)) here in
+        through w r.node label path (Some c) is ∙ fresh_kills path c beyond
+    | inr ne ↦ let same : None ≡ Some c = sym before ∙ sym (called_kept v w pid s t may r.node label (within v w pid s t may r.node r found) ne) ∙ is in absurd (cc same)
   ]
 
   along : (label : Label) (path : Path) → Kept path → (r : ProcessRecord) → find_record r.node v.records ≡ Some r → (o : Option ℕ) → called_under v.links r.node label ≡ o

@@ -6,7 +6,9 @@ crate, and so is what stands in a job's folder, as far as that is there still. T
 import datetime
 import json
 import os
+import re
 import shutil
+import urllib.parse
 
 from . import prov, report
 from .errors import MaroonclampError
@@ -30,14 +32,33 @@ class Crate:
         self.entities[at] = {"@id": at, "@type": kind, **{key: it for key, it in told.items() if it is not None}}
         return at
 
-    def file(self, path, data, **told):
-        """A file of the crate, and its name."""
+    def place(self, path):
+        """Where a file of the crate stands."""
         place = os.path.join(self.folder, *path.split("/"))
         os.makedirs(os.path.dirname(place), exist_ok=True)
-        with open(place, "wb") as it:
-            it.write(data)
+        return place
+
+    def listed(self, path, **told):
+        """The entity of a file that stands there, and its name."""
         self.files.append(path)
-        return self.add(path, "File", name=told.pop("name", os.path.basename(path)), contentSize=str(len(data)), **told)
+        size = os.path.getsize(self.place(path))
+        return self.add(path, "File", name=told.pop("name", os.path.basename(path)), contentSize=str(size), **told)
+
+    def file(self, path, data, **told):
+        """A file with these bytes, and its name."""
+        with open(self.place(path), "wb") as it:
+            it.write(data)
+        return self.listed(path, **told)
+
+    def copy(self, path, source, **told):
+        """A copy of a file, and its name."""
+        shutil.copyfile(source, self.place(path))
+        return self.listed(path, **told)
+
+
+def plain_name(name, k):
+    """A name that a file may have in any folder and address: of another one its signs are replaced, and its place in the folder stands before."""
+    return name if re.fullmatch(r"[A-Za-z0-9_-][A-Za-z0-9._-]*", name) else f"{k}_" + re.sub(r"[^A-Za-z0-9._-]", "_", name)
 
 
 def refer(names):
@@ -59,7 +80,7 @@ def values_of(crate, world, links):
     for label, number in links:
         value = world.node(number).value
         if isinstance(value, Folder):
-            found += [crate.file(f"values/{number}/{name}", data) for name, data in value.items()]
+            found += [crate.file(f"values/{number}/{plain_name(name, k)}", data, name=name) for k, (name, data) in enumerate(value.items())]
         else:
             name = f"#value-{number}"
             told = value if kind_of(value) in ("int", "bool", "text") else as_json(value)
@@ -75,11 +96,10 @@ def folder_of(crate, process):
         names = sorted(os.listdir(process.folder))
     except OSError:
         return found
-    for name in names:
+    for k, name in enumerate(names):
         path = os.path.join(process.folder, name)
         if os.path.isfile(path) and not os.path.islink(path) and (not name.startswith("_wc_") or name in ("_wc_request", "_wc_status")):
-            with open(path, "rb") as it:
-                found.append(crate.file(f"jobs/{process.number}/{name}", it.read()))
+            found.append(crate.copy(f"jobs/{process.number}/{plain_name(name, k)}", path, name=name))
     return found
 
 
@@ -88,7 +108,7 @@ def instrument_of(crate, process):
     it = process._it
     request = report.request(process) if it.kind == "calcjob" else None
     if request:
-        return crate.add(f"#program-{request['program']}", "SoftwareApplication", name=request["program"])
+        return crate.add("#program-" + urllib.parse.quote(request["program"], safe=""), "SoftwareApplication", name=request["program"])
     file = f"definitions/{it.library}.wcf"
     if file not in crate.entities:
         crate.file(file, process.store._world.libraries[it.library - 1].encode("utf-8"))

@@ -1,4 +1,5 @@
 mod Counts
+mod Examples
 mod Kept
 mod Least
 mod Nothing

@@ -19,7 +19,7 @@ no_table bytes false is h = refl
 pub not_toml : (bytes : List ℕ) → (IsUtf8 bytes → parse_document bytes ≡ None) → spec_in bytes ≡ Err NotToml
 not_toml bytes h = ap spec_in_document (no_table bytes (is_utf8 bytes) refl h)
 
-of_table : (bytes : List ℕ) (ms : Members) → IsUtf8 bytes → parse_document bytes ≡ Some ms → spec_in bytes ≡ unless_refused ms (least (refusals ms))
+pub of_table : (bytes : List ℕ) (ms : Members) → IsUtf8 bytes → parse_document bytes ≡ Some ms → spec_in bytes ≡ unless_refused ms (least (refusals ms))
 of_table bytes ms utf8 parsed =
     ap spec_in_document (ap (λ (b : Bool). if b then parse_document bytes else None) (is_utf8-from_IsUtf8 bytes utf8) ∙ parsed)
 

@@ -5,3 +5,4 @@ pub mod Refusals
 pub mod Seen
 pub mod Specs
 pub mod Reading
+pub mod Examples

@@ -3,6 +3,7 @@
 
 mod error;
 mod keys;
+mod laws;
 mod names;
 mod reading;
 mod refusals;
@@ -10,5 +11,6 @@ mod spec;
 mod values;
 
 pub use error::RestartError;
+pub use laws::worked_files;
 pub use reading::read_spec;
 pub use spec::{Handler, Handlers, Remedy, Spec, Statuses};

@@ -69,7 +69,7 @@ use Rattle.wc_cost.proofs.Owing.{alive, part_positive}
 
 -- ---- states and answers
 
-not_killed : (s : ProcessState) → s ≢ state.Killed → is_killed s ≡ false
+pub not_killed : (s : ProcessState) → s ≢ state.Killed → is_killed s ≡ false
 not_killed state.Created h = refl
 not_killed state.Running h = refl
 not_killed state.Waiting h = refl
@@ -98,7 +98,7 @@ task_less p answer.Done now poll task.Retrieve m calm h = absurd (cc h)
 -- ---- prices of calculations
 
 -- a price is that of the definition, where it wasn't killed
-price_is : (levels : ℕ) (library : List Definition) (results : Request → Option JobResult) (kills : Kills) (b : ℕ) (name : List ℕ) (inputs : Values) (d : Definition)
+pub price_is : (levels : ℕ) (library : List Definition) (results : Request → Option JobResult) (kills : Kills) (b : ℕ) (name : List ℕ) (inputs : Values) (d : Definition)
     → kills [] ≡ None → definition_named name library ≡ Some d
     → price levels library (by_request results) kills b name inputs
     ≡ price_of (Some d) results (λ ports. cost (tolls levels library (by_request results) kills ports) b) inputs

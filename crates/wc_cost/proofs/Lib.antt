@@ -13,3 +13,4 @@ pub mod KillsKept
 pub mod Bystanders
 pub mod OneLowered
 pub mod CalculationsLowered
+pub mod ChainsLowered

@@ -11,6 +11,13 @@ use Rattle.wc_machine.specs.declared.answer.TaskAnswer.{TaskAnswer}
 use Rattle.wc_machine.specs.declared.answer.TaskAnswer.TheVariants as answer
 use Rattle.wc_machine.specs.Sound.{IsSound}
 use Rattle.wc_machine.specs.Turning.{TurnGives}
+use Rattle.wc_syntax.specs.declared.definition.Chain.{Chain}
+use Rattle.wc_syntax.specs.declared.definition.Definition.{Definition}
+use Rattle.wc_state.specs.declared.environment.Env.{Env}
+use Rattle.wc_state.specs.declared.record.Checkpoint.{Checkpoint}
+use Rattle.wc_machine.specs.Advancing.{Advanced, goes, loops, submits, ends, advance}
+use Rattle.wc_machine.specs.Calling.{advanced}
+use Rattle.wc_soundness.specs.TrackLaws.{IsAtTurn}
 use Rattle.wc_cost.specs.Left.{IsLeft}
 
 -- neither a failure nor a program that runs on
@@ -34,3 +41,16 @@ abbrev pub CalculationTurnsLower : Type 0
 CalculationTurnsLower = (results : Request → Option JobResult) (poll now : ℕ) (w : World) (r : ProcessRecord) (a : TaskAnswer) (cs : List Change) (k : ℕ) → IsSound w
     → find_record r.node w.records ≡ Some r → is_calculation r.kind ≡ true → TurnGives poll now w r a cs → IsCalm a → IsLeft results w k
     → LeavesLess results r.node (applied w cs) k
+
+-- the advance submits no calls
+abbrev pub SubmitsNone : Advanced → Type 0
+SubmitsNone (goes d) = Unit {0}
+SubmitsNone (loops d) = Unit {0}
+SubmitsNone (submits d calls) = ⊥
+SubmitsNone (ends s outputs) = Unit {0}
+
+-- So does the turn of a work chain that is created or runs, where it submits no calls: it goes on, a loop turns, or it ends.
+abbrev pub AdvancesLower : Type 0
+AdvancesLower = (results : Request → Option JobResult) (w : World) (r : ProcessRecord) (k : Chain) (library : List Definition) (c : Checkpoint) (env : Env) (total : ℕ)
+    → IsAtTurn w r k library c env → SubmitsNone (advance library k r.depth env c) → IsLeft results w total
+    → LeavesLess results r.node (applied w (advanced w r k.head.outputs (advance library k r.depth env c))) total

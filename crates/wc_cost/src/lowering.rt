@@ -1,7 +1,12 @@
 //! Laws of turns that lower what is left of a world.
-ghost use Rattle.wc_cost.specs.Lowering.{CalculationTurnsLower};
+ghost use Rattle.wc_cost.specs.Lowering.{AdvancesLower, CalculationTurnsLower};
 
 /// The turn of a function or a job lowers what is left by exactly one, or by more where it takes another's outcome.
 pub fn calculation_turns_lower()
     ensures { CalculationTurnsLower }
+{}
+
+/// The turn of a work chain that goes on or ends lowers it by exactly one.
+pub fn advances_lower()
+    ensures { AdvancesLower }
 {}

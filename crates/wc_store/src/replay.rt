@@ -8,7 +8,7 @@ ghost use Rattle.wc_store.specs.Held.{is_plain, suits};
 ghost use Rattle.wc_store.specs.Played.{RefusesReading, RefusesChanges, RefusesPayload, IsPlayed, stop_of, Makes, RefusesBatches, RefusesPlaying};
 
 use crate::error::StoreError;
-use std::alloc::Global;
+use std::alloc::{AllocError, Global};
 use wc_journal::Batches;
 use wc_record::{LastLibrary, RecordError, read_changes};
 use wc_world::{Change, Changes, Played, World, WorldError, is_in_order};
@@ -141,18 +141,30 @@ fn play_all(alloc: Global, generation: u64, batches: &Batches) -> Result<Played,
     Ok(played)
 }
 
-/// The world that the batches of the disk of this number make of the empty one.
+/// The world that was played, with the digests of what it has finished where they are asked for.
+fn world_of(alloc: Global, played: Played, digests: bool) -> Result<World, AllocError>
+    ensures { IfOk result (λ world. world.world ≡ played) }
+{
+    let mut world = World::of(alloc, played)?;
+    if digests {
+        world.make_digests(alloc)?;
+    }
+    Ok(world)
+}
+
+/// The world that the batches of the disk of this number make of the empty one, with its digests where they are asked for.
 pub fn play(
     alloc: Global,
     number: u8,
     generation: u64,
     batches: &Batches,
+    digests: bool,
 ) -> Result<World, StoreError>
     ensures ok { IfOk result (λ world. Makes generation batches.now.placed world.world) }
     ensures refused { IfErr result (RefusesPlaying number batches.now.image generation batches.now.placed) }
 {
     match play_all(alloc, generation, batches) {
-        Ok(played) => Ok(World::of(alloc, played)?),
+        Ok(played) => Ok(world_of(alloc, played, digests)?),
         Err(Stop::At(at)) => Err(StoreError::Damaged(number, at, batches.found_at(at))),
         Err(Stop::OutOfMemory) => Err(StoreError::OutOfMemory),
     }

@@ -10,7 +10,7 @@ ghost use Rattle.wc_store.specs.Played.{RefusesReading, RefusesChanges, RefusesP
 use crate::error::StoreError;
 use std::alloc::{AllocError, Global};
 use wc_journal::Batches;
-use wc_record::{LastLibrary, RecordError, read_changes};
+use wc_record::{RecordError, SharedLibraries, read_changes};
 use wc_world::{Change, Changes, Played, World, WorldError, is_in_order};
 
 /// Why a payload isn't played.
@@ -55,11 +55,15 @@ fn suits(snapshot: bool, changes: &[Change]) -> bool
 }
 
 /// Reads a payload.
-fn changes_of(alloc: Global, payload: &[u8], last: &mut LastLibrary) -> Result<Changes, Unplayed>
+fn changes_of(
+    alloc: Global,
+    payload: &[u8],
+    read: &mut SharedLibraries,
+) -> Result<Changes, Unplayed>
     ensures ok { IfOk result (λ changes. whole payload.now (Ok changes)) }
     ensures refused { IfErr result (RefusesReading payload.now) }
 {
-    match read_changes(alloc, payload, last) {
+    match read_changes(alloc, payload, read) {
         Ok(changes) => Ok(changes),
         Err(RecordError::OutOfMemory) => Err(Unplayed::OutOfMemory),
         Err(
@@ -93,12 +97,12 @@ fn play_one(
     played: Played,
     snapshot: bool,
     payload: &[u8],
-    last: &mut LastLibrary,
+    read: &mut SharedLibraries,
 ) -> Result<Played, Unplayed>
     ensures ok { IfOk result (λ after. IsPlayed snapshot payload.now played after) }
     ensures refused { IfErr result (RefusesPayload snapshot payload.now played) }
 {
-    let changes = changes_of(alloc, payload, last)?;
+    let changes = changes_of(alloc, payload, read)?;
     if !suits(snapshot, changes.as_slice()) {
         return Err(Unplayed::Unfit);
     }
@@ -129,11 +133,11 @@ fn play_all(alloc: Global, generation: u64, batches: &Batches) -> Result<Played,
     ensures refused { IfErr result (RefusesBatches generation batches.now.placed) }
 {
     let mut played = Played::new(alloc);
-    let mut last = LastLibrary::none();
+    let mut read = SharedLibraries::new(alloc);
     for number in 0..batches.len() {
         let (at, payload) = batches.payload(number);
         let snapshot = is_snapshot(generation, number);
-        match play_one(alloc, played, snapshot, payload, &mut last) {
+        match play_one(alloc, played, snapshot, payload, &mut read) {
             Ok(after) => played = after,
             Err(unplayed) => return Err(stop_of(at, unplayed)),
         }

@@ -63,6 +63,11 @@ fn worked<D: Disk, T: Transport, P: Pacer>(
     }
 }
 
+/// Whether processes take turns, some of which look for a calculation with the same key.
+fn takes_turns(work: &Work) -> bool {
+    matches!(work, Work::Run(_))
+}
+
 /// The reply of what is done on the store that the disks hold, if they hold one.
 fn work_reply<D: Disk, T: Transport, P: Pacer>(
     alloc: Global,
@@ -85,7 +90,7 @@ fn work_reply<D: Disk, T: Transport, P: Pacer>(
         → ActsOutside (exchange T.Transport P.Pacer transport.old transport.new pacer.old pacer.new) (OnStore work) (D.seen one.old, D.seen two.old) (D.seen one.new, D.seen two.new) r.status) }
     ensures cause { CountsDisks result (D.faults one.old) (D.faults one.new) (D.faults two.old) (D.faults two.new) (D.failed one.new) (D.failed two.new) }
 {
-    match open_store(alloc, one, two)? {
+    match open_store(alloc, one, two, takes_turns(&work))? {
         Opened::Told(reply) => Ok(reply),
         Opened::Held(mut store) => { worked(alloc, &mut store, work, one, two, transport, pacer) }
     }

@@ -73,11 +73,12 @@ pub(crate) fn refused(alloc: Global, error: StoreError) -> Result<Reply, ActErro
     }
 }
 
-/// Reads what two disks hold.
+/// Reads what two disks hold, with the digests of what has finished where they are asked for.
 pub(crate) fn open_store<D: Disk>(
     alloc: Global,
     one: &mut D,
     two: &mut D,
+    digests: bool,
 ) -> Result<Opened, ActError>
     ensures opens { IfOk result (λ o. Opens D.Disk one.old two.old one.new two.new o) }
     ensures live { IfOk result (λ o. IsHeldLive o) }
@@ -89,7 +90,7 @@ pub(crate) fn open_store<D: Disk>(
     ensures unwritten { LeavesUnwritten D.Disk one.old two.old one.new two.new }
     ensures cause { CountsDisks result (D.faults one.old) (D.faults one.new) (D.faults two.old) (D.faults two.new) (D.failed one.new) (D.failed two.new) }
 {
-    match Store::load(alloc, one, two) {
+    match Store::load(alloc, one, two, digests) {
         Ok(Some(store)) => Ok(Opened::Held(store)),
         Ok(None) => Ok(Opened::Told(refuse(alloc, Cause::NoStore)?)),
         Err(error) => Ok(Opened::Told(refused(alloc, error)?)),

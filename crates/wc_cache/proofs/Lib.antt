@@ -3,3 +3,4 @@ mod Keyed
 mod Parts
 mod Valid
 mod Lowest
+mod LookedAt

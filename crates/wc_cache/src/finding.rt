@@ -2,6 +2,9 @@
 
 ghost use Rattle.std.specs.Prelude.{◌≡◌, ◌+◌, ◌↔◌, IsTrue, IsSome, IfOk, IfSome};
 ghost use Rattle.wc_state.specs.declared.record.ProcessRecord.{ProcessRecord};
+ghost use Rattle.sha2.specs.Sha256.{sha256};
+ghost use Rattle.wc_keys.specs.Order.{IsPartOf};
+ghost use Rattle.wc_world.specs.Keys.{digest_at};
 ghost use Rattle.wc_world.specs.Records.{find_record};
 ghost use Rattle.wc_machine.specs.Ending.{TakesSource};
 ghost use Rattle.wc_machine.specs.Recorded.{its_definition};
@@ -12,7 +15,7 @@ ghost use Rattle.wc_cache.specs.Keys.{IsKeyOf};
 use crate::keys::key_of_process;
 use crate::sources::is_valid;
 use std::alloc::{AllocError, Global};
-use wc_keys::digest_of;
+use wc_keys::{Sealed, digest_of};
 use wc_state::ProcessRecord;
 use wc_world::{World, reached_worlds_are_consistent};
 
@@ -47,18 +50,20 @@ fn is_source(
     has_key(alloc, world, process, key)
 }
 
-/// The lowest valid source with this key for a start in the next batch, if there is one. So it is the source of each
-/// process that has the key. Of the calculations that have finished, those with the digest of the key alone are looked at.
-pub fn find(alloc: Global, world: &World, key: &[u8]) -> Result<Option<u32>, AllocError>
-    ensures lowest { IfOk result (IsLowestWith world.now.world (world.now.world.batches + 1) key.now) }
-    ensures source { IfOk result (λ source. (r : ProcessRecord) → IsKeyOf world.now.world r key.now
-        → IsLowestSource world.now.world (world.now.world.batches + 1) r source) }
+/// The lowest valid source with this key among those calculations that have finished with the digest of the key.
+fn find_among(
+    alloc: Global,
+    world: &World,
+    key: &[u8],
+    seals: &[Sealed],
+) -> Result<Option<u32>, AllocError>
+    requires { IsPartOf (digest_at world.now.world) (sha256 key.now) seals.now }
+    ensures { IfOk result (IsLowestWith world.now.world (world.now.world.batches + 1) key.now) }
 {
     // A reached world is consistent, so that each of its processes is found by its number.
     let _ = world.graph();
     reached_worlds_are_consistent();
-    let digest = digest_of(key);
-    for seal in world.with_digest(digest.as_slice()) {
+    for seal in seals {
         let process = world.record_of(seal.pid).unwrap();
         let is = is_source(alloc, world, process, key)?;
         if is {
@@ -66,6 +71,43 @@ pub fn find(alloc: Global, world: &World, key: &[u8]) -> Result<Option<u32>, All
         }
     }
     Ok(None)
+}
+
+/// The same, where the digests aren't made: each process is looked at.
+fn find_in_all(alloc: Global, world: &World, key: &[u8]) -> Result<Option<u32>, AllocError>
+    ensures { IfOk result (IsLowestWith world.now.world (world.now.world.batches + 1) key.now) }
+{
+    let _ = world.graph();
+    reached_worlds_are_consistent();
+    for process in world.records().as_slice() {
+        let is = is_source(alloc, world, process, key)?;
+        if is {
+            return Ok(Some(process.node));
+        }
+    }
+    Ok(None)
+}
+
+/// The lowest valid source with this key for a start in the next batch, if there is one.
+fn find_lowest(alloc: Global, world: &World, key: &[u8]) -> Result<Option<u32>, AllocError>
+    ensures { IfOk result (IsLowestWith world.now.world (world.now.world.batches + 1) key.now) }
+{
+    let digest = digest_of(key);
+    match world.with_digest(digest.as_slice()) {
+        Some(seals) => find_among(alloc, world, key, seals),
+        None => find_in_all(alloc, world, key),
+    }
+}
+
+/// The lowest valid source with this key for a start in the next batch, if there is one. So it is the source of each
+/// process that has the key. Of the calculations that have finished, those with the digest of the key alone are looked at,
+/// where the world's digests are made, and else all.
+pub fn find(alloc: Global, world: &World, key: &[u8]) -> Result<Option<u32>, AllocError>
+    ensures lowest { IfOk result (IsLowestWith world.now.world (world.now.world.batches + 1) key.now) }
+    ensures source { IfOk result (λ source. (r : ProcessRecord) → IsKeyOf world.now.world r key.now
+        → IsLowestSource world.now.world (world.now.world.batches + 1) r source) }
+{
+    find_lowest(alloc, world, key)
 }
 
 /// The source that a process takes where it starts in the next batch: with caching on the lowest that there is, else

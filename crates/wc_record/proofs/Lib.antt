@@ -12,5 +12,6 @@ pub mod Whole
 pub mod Some
 pub mod Tolds
 pub mod Printed
+mod Shared
 pub mod Remaining
 pub mod SnapshotLength

@@ -16,7 +16,7 @@ pub use error::RecordError;
 pub use laws::{
     reading_has_an_answer, reading_has_one_answer, what_is_read_is_written, what_is_written_is_read,
 };
-pub use library::LastLibrary;
+pub use library::SharedLibraries;
 pub use reading::read_changes;
 pub use snapshot::write_snapshot;
 pub use writing::write_changes;

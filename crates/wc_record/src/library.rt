@@ -14,6 +14,7 @@ ghost use Rattle.wc_record.specs.Libraries.{Prints};
 use crate::error::RecordError;
 use crate::pieces::{text_at, u32_at};
 use std::alloc::{AllocError, Global};
+use std::collections::BTreeMap;
 use std::marker::Model;
 use wc_check::{CheckError, check};
 use wc_parser::{ParseError, parse};
@@ -70,64 +71,68 @@ fn library_of(alloc: Global, text: &Text) -> Result<Option<Checked>, AllocError>
     }
 }
 
-/// The library that was read last, with the text that prints it. Where the same text comes again, it stands for the same
-/// library, which is shared and not read once more: a store has few files, and many processes of each.
+/// The libraries that were read, each by the text that prints it. Where a text comes again, it stands for the same library, which is
+/// shared and not read once more: a store has few files, and many processes of each. Contracts see how many there are.
 #[derive(Drop)]
-pub struct LastLibrary {
-    read: Option<(Text, Checked)>,
+pub struct SharedLibraries {
+    read: BTreeMap<Vec<u8>, Checked>,
 }
 
-impl Model for LastLibrary {
-    ghost use Rattle.std.specs.Prelude.{ℕ, List, Option, IfSome};
-    ghost use Rattle.wc_syntax.specs.declared.definition.Definition.{Definition};
-    ghost use Rattle.wc_record.specs.Reading.{IsPrinted};
+impl Model for SharedLibraries {
+    ghost use Rattle.std.specs.Prelude.{ℕ, length};
+    ghost use Rattle.wc_record.specs.Libraries.{ArePrinted};
 
-    ghost Value = { Option (List ℕ × List Definition) };
+    ghost Value = { ℕ };
 
-    ghost use Rattle.std.specs.Coded.{coded_list, coded_option, coded×, coded_ℕ};
-    ghost use Rattle.wc_syntax.specs.contracts.definition.Definition as row;
+    ghost view = { λ l. length l.read.entries };
 
-    ghost coded = { coded_option (coded× (coded_list coded_ℕ) (coded_list row.the_row.coded)) };
-
-    ghost view = { λ l. l.read };
-
-    ghost invariant = { λ l. IfSome l.read (λ r. IsPrinted r.0 r.1) };
+    ghost invariant = { λ l. ArePrinted l.read.entries };
 }
 
-impl LastLibrary {
-    /// None was read yet.
-    pub fn none() -> LastLibrary {
-        LastLibrary { read: None }
+impl SharedLibraries {
+    /// None was read yet. This takes no memory.
+    pub fn new(alloc: Global) -> SharedLibraries {
+        SharedLibraries {
+            read: BTreeMap::new(alloc),
+        }
     }
 
-    /// The library that was read last, where this text prints it.
+    /// The library that is kept for this text.
+    fn kept(&self, text: &Text) -> Option<&Checked>
+        ensures { IfSome result (λ l. IsPrinted text.now l.now) }
+    {
+        self.read.get(text.bytes())
+    }
+
+    /// The library that this text prints, where it was read.
     fn shared(&self, text: &Text) -> Result<Option<Checked>, AllocError>
         ensures { IfOk result (λ found. IfSome found (λ l. IsPrinted text.now l)) }
     {
-        match &self.read {
-            Some((last, library)) if same_text(last, text) => Ok(Some(library.clone()?)),
-            _ => Ok(None),
+        match self.kept(text) {
+            Some(library) => Ok(Some(library.clone()?)),
+            None => Ok(None),
         }
     }
 
     /// Keeps what a text prints.
-    fn keep(&mut self, text: Text, library: &Checked) -> Result<(), AllocError>
-        requires { IsPrinted text library.now }
+    fn keep(&mut self, alloc: Global, text: &Text, library: Checked) -> Result<(), AllocError>
+        requires { IsPrinted text.now library }
     {
-        self.read = Some((text, library.clone()?));
+        let key = Vec::from_slice(alloc, text.bytes())?;
+        self.read.insert(key, library)?;
         Ok(())
     }
 
     /// The library whose printed text this is, if there is one.
-    fn library_of(&mut self, alloc: Global, text: Text) -> Result<Option<Checked>, AllocError>
-        ensures { IfOk result (λ found. Prints text found) }
+    fn library_of(&mut self, alloc: Global, text: &Text) -> Result<Option<Checked>, AllocError>
+        ensures { IfOk result (λ found. Prints text.now found) }
     {
-        if let Some(library) = self.shared(&text)? {
+        if let Some(library) = self.shared(text)? {
             return Ok(Some(library));
         }
-        let found = library_of(alloc, &text)?;
+        let found = library_of(alloc, text)?;
         if let Some(library) = &found {
-            self.keep(text, library)?;
+            self.keep(alloc, text, library.clone()?)?;
         }
         Ok(found)
     }
@@ -138,14 +143,14 @@ pub fn library_at(
     alloc: Global,
     bytes: &[u8],
     at: usize,
-    last: &mut LastLibrary,
+    read: &mut SharedLibraries,
 ) -> Result<(Checked, usize), RecordError>
     requires { at ≤ length bytes.now }
     ensures answer { Told result (library bytes.now at) }
     ensures within { IfOk result (λ x. x.1 ≤ length bytes.now) }
 {
     let (text, next) = text_at(alloc, bytes, at)?;
-    match last.library_of(alloc, text)? {
+    match read.library_of(alloc, &text)? {
         Some(library) => Ok((library, next)),
         None => Err(RecordError::BadLibrary(at + 4)),
     }

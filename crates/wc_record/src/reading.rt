@@ -8,7 +8,7 @@ ghost use Rattle.wc_record.specs.Reading.{library_change, one_change, counted_ch
 
 use crate::error::RecordError;
 use crate::fields::other_change_at;
-use crate::library::{LastLibrary, library_at, names_at};
+use crate::library::{SharedLibraries, library_at, names_at};
 use crate::pieces::u32_at;
 use std::alloc::Global;
 use wc_world::{Change, Changes};
@@ -21,13 +21,13 @@ fn library_change_at(
     alloc: Global,
     bytes: &[u8],
     at: usize,
-    last: &mut LastLibrary,
+    read: &mut SharedLibraries,
 ) -> Result<(Change, usize), RecordError>
     requires { at ≤ length bytes.now }
     ensures answer { Told result (library_change bytes.now at) }
     ensures within { IfOk result (λ x. x.1 ≤ length bytes.now) }
 {
-    let (library, place) = library_at(alloc, bytes, at, last)?;
+    let (library, place) = library_at(alloc, bytes, at, read)?;
     let (names, next) = names_at(alloc, bytes, place)?;
     Ok((Change::Library(library, names), next))
 }
@@ -37,14 +37,14 @@ fn change_at(
     alloc: Global,
     bytes: &[u8],
     at: usize,
-    last: &mut LastLibrary,
+    read: &mut SharedLibraries,
 ) -> Result<(Change, usize), RecordError>
     requires { at ≤ length bytes.now }
     ensures answer { Told result (one_change bytes.now at) }
     ensures within { IfOk result (λ x. x.1 ≤ length bytes.now) }
 {
     if at < bytes.len() && bytes[at] == LIBRARY {
-        return library_change_at(alloc, bytes, at + 1, last);
+        return library_change_at(alloc, bytes, at + 1, read);
     }
     other_change_at(alloc, bytes, at)
 }
@@ -53,7 +53,7 @@ fn change_at(
 fn changes_at(
     alloc: Global,
     bytes: &[u8],
-    last: &mut LastLibrary,
+    read: &mut SharedLibraries,
 ) -> Result<(Changes, usize), RecordError>
     ensures answer { Told result (counted_changes bytes.now 0) }
     ensures within { IfOk result (λ x. x.1 ≤ length bytes.now) }
@@ -62,7 +62,7 @@ fn changes_at(
     let mut changes = Changes::new(alloc);
     let mut place = start;
     for _item in 0..count {
-        let (change, next) = change_at(alloc, bytes, place, last)?;
+        let (change, next) = change_at(alloc, bytes, place, read)?;
         changes.push(change)?;
         place = next;
     }
@@ -73,11 +73,11 @@ fn changes_at(
 fn changes_of_all(
     alloc: Global,
     bytes: &[u8],
-    last: &mut LastLibrary,
+    read: &mut SharedLibraries,
 ) -> Result<Changes, RecordError>
     ensures { Told result (whole bytes.now) }
 {
-    let (changes, next) = changes_at(alloc, bytes, last)?;
+    let (changes, next) = changes_at(alloc, bytes, read)?;
     if next < bytes.len() {
         return Err(RecordError::Trailing(next));
     }
@@ -85,11 +85,12 @@ fn changes_of_all(
 }
 
 /// The changes that these bytes spell, or the first refusal that reading from the left meets. No memory is taken for
-/// lengths and counts that the bytes don't hold. A library whose text is that of the last one is shared with it.
+/// lengths and counts that the bytes don't hold. A library whose text was read before is shared with
+/// that one.
 pub fn read_changes(
     alloc: Global,
     bytes: &[u8],
-    last: &mut LastLibrary,
+    read: &mut SharedLibraries,
 ) -> Result<Changes, RecordError>
     // What is answered is what reading gives.
     ensures told { Told result (whole bytes.now) }
@@ -98,5 +99,5 @@ pub fn read_changes(
     // What is spelled so is read, unless memory runs out.
     ensures only { (changes : List Changed) → bytes.now ≡ spelled changes → IsWritten changes → Meets result (Ok changes) }
 {
-    changes_of_all(alloc, bytes, last)
+    changes_of_all(alloc, bytes, read)
 }

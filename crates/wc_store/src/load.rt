@@ -22,8 +22,13 @@ use wc_disk::Disk;
 use wc_journal::{Journal, JournalError};
 use wc_world::World;
 
-/// What two disks hold: a store, or none.
-fn open<D: Disk>(alloc: Global, one: &mut D, two: &mut D) -> Result<Option<Store>, StoreError>
+/// What two disks hold: a store, or none. The digests of what its world has finished are made where they are asked for.
+fn open<D: Disk>(
+    alloc: Global,
+    one: &mut D,
+    two: &mut D,
+    digests: bool,
+) -> Result<Option<Store>, StoreError>
     ensures ok { IfOk result (λ found. IsTrue (D.tells one.old) → IsTrue (D.tells two.old) → Opens D.Disk found one.new two.new) }
     ensures images { IfOk result (λ found. OfImages D.Disk one.old two.old (IsOpenedOf found)) }
     ensures live { IfOk result (λ found. IfSome found (λ store. store.live ≡ true)) }
@@ -44,7 +49,7 @@ fn open<D: Disk>(alloc: Global, one: &mut D, two: &mut D) -> Result<Option<Store
         return Ok(None);
     };
     let generation = loaded.journal.generation();
-    let world = play(alloc, place.number(), generation, &loaded.batches)?;
+    let world = play(alloc, place.number(), generation, &loaded.batches, digests)?;
     Ok(Some(Store {
         world,
         journal: loaded.journal,
@@ -74,7 +79,7 @@ impl Store {
         ensures tells { (D.tells one.new ≡ D.tells one.old) × (D.tells two.new ≡ D.tells two.old) }
         ensures cause { Counts result (D.faults one.old) (D.faults one.new) (D.faults two.old) (D.faults two.new) (D.failed one.new) (D.failed two.new) }
     {
-        if open(alloc, one, two)?.is_some() {
+        if open(alloc, one, two, false)?.is_some() {
             return Err(StoreError::AlreadyThere);
         }
         match Journal::create(one, 1) {
@@ -89,11 +94,13 @@ impl Store {
         }
     }
 
-    /// The store that two disks hold, or none where they hold none.
+    /// The store that two disks hold, or none where they hold none. Where turns are to be taken, ask for the digests of what its
+    /// world has finished: without them the search for a calculation with the same key looks at each process.
     pub fn load<D: Disk>(
         alloc: Global,
         one: &mut D,
         two: &mut D,
+        digests: bool,
     ) -> Result<Option<Store>, StoreError>
         ensures ok { IfOk result (λ store. IsTrue (D.tells one.old) → IsTrue (D.tells two.old) → Loads D.Disk store one.new two.new) }
         ensures images { IfOk result (λ store. OfImages D.Disk one.old two.old (IsLoadedOf store)) }
@@ -107,6 +114,6 @@ impl Store {
         ensures tells { (D.tells one.new ≡ D.tells one.old) × (D.tells two.new ≡ D.tells two.old) }
         ensures cause { Counts result (D.faults one.old) (D.faults one.new) (D.faults two.old) (D.faults two.new) (D.failed one.new) (D.failed two.new) }
     {
-        open(alloc, one, two)
+        open(alloc, one, two, digests)
     }
 }

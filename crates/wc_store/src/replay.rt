@@ -8,9 +8,9 @@ ghost use Rattle.wc_store.specs.Held.{is_plain, suits};
 ghost use Rattle.wc_store.specs.Played.{RefusesReading, RefusesChanges, RefusesPayload, IsPlayed, stop_of, Makes, RefusesBatches, RefusesPlaying};
 
 use crate::error::StoreError;
-use std::alloc::Global;
+use std::alloc::{AllocError, Global};
 use wc_journal::Batches;
-use wc_record::{LastLibrary, RecordError, read_changes};
+use wc_record::{RecordError, SharedLibraries, read_changes};
 use wc_world::{Change, Changes, Played, World, WorldError, is_in_order};
 
 /// Why a payload isn't played.
@@ -55,11 +55,15 @@ fn suits(snapshot: bool, changes: &[Change]) -> bool
 }
 
 /// Reads a payload.
-fn changes_of(alloc: Global, payload: &[u8], last: &mut LastLibrary) -> Result<Changes, Unplayed>
+fn changes_of(
+    alloc: Global,
+    payload: &[u8],
+    read: &mut SharedLibraries,
+) -> Result<Changes, Unplayed>
     ensures ok { IfOk result (λ changes. whole payload.now (Ok changes)) }
     ensures refused { IfErr result (RefusesReading payload.now) }
 {
-    match read_changes(alloc, payload, last) {
+    match read_changes(alloc, payload, read) {
         Ok(changes) => Ok(changes),
         Err(RecordError::OutOfMemory) => Err(Unplayed::OutOfMemory),
         Err(
@@ -93,12 +97,12 @@ fn play_one(
     played: Played,
     snapshot: bool,
     payload: &[u8],
-    last: &mut LastLibrary,
+    read: &mut SharedLibraries,
 ) -> Result<Played, Unplayed>
     ensures ok { IfOk result (λ after. IsPlayed snapshot payload.now played after) }
     ensures refused { IfErr result (RefusesPayload snapshot payload.now played) }
 {
-    let changes = changes_of(alloc, payload, last)?;
+    let changes = changes_of(alloc, payload, read)?;
     if !suits(snapshot, changes.as_slice()) {
         return Err(Unplayed::Unfit);
     }
@@ -129,11 +133,11 @@ fn play_all(alloc: Global, generation: u64, batches: &Batches) -> Result<Played,
     ensures refused { IfErr result (RefusesBatches generation batches.now.placed) }
 {
     let mut played = Played::new(alloc);
-    let mut last = LastLibrary::none();
+    let mut read = SharedLibraries::new(alloc);
     for number in 0..batches.len() {
         let (at, payload) = batches.payload(number);
         let snapshot = is_snapshot(generation, number);
-        match play_one(alloc, played, snapshot, payload, &mut last) {
+        match play_one(alloc, played, snapshot, payload, &mut read) {
             Ok(after) => played = after,
             Err(unplayed) => return Err(stop_of(at, unplayed)),
         }
@@ -141,18 +145,30 @@ fn play_all(alloc: Global, generation: u64, batches: &Batches) -> Result<Played,
     Ok(played)
 }
 
-/// The world that the batches of the disk of this number make of the empty one.
+/// The world that was played, with the digests of what it has finished where they are asked for.
+fn world_of(alloc: Global, played: Played, digests: bool) -> Result<World, AllocError>
+    ensures { IfOk result (λ world. world.world ≡ played) }
+{
+    let mut world = World::of(alloc, played)?;
+    if digests {
+        world.make_digests(alloc)?;
+    }
+    Ok(world)
+}
+
+/// The world that the batches of the disk of this number make of the empty one, with its digests where they are asked for.
 pub fn play(
     alloc: Global,
     number: u8,
     generation: u64,
     batches: &Batches,
+    digests: bool,
 ) -> Result<World, StoreError>
     ensures ok { IfOk result (λ world. Makes generation batches.now.placed world.world) }
     ensures refused { IfErr result (RefusesPlaying number batches.now.image generation batches.now.placed) }
 {
     match play_all(alloc, generation, batches) {
-        Ok(played) => Ok(World::of(alloc, played)?),
+        Ok(played) => Ok(world_of(alloc, played, digests)?),
         Err(Stop::At(at)) => Err(StoreError::Damaged(number, at, batches.found_at(at))),
         Err(Stop::OutOfMemory) => Err(StoreError::OutOfMemory),
     }

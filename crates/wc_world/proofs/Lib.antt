@@ -16,9 +16,10 @@ pub mod LabelledValues
 pub mod RecordedEnvironments
 pub mod RecordedTrees
 pub mod Slotted
-mod Ascents
+pub mod Ascents
 mod Needs
 mod Applies
+mod Making
 mod Awaiting
 mod LinkCorrect
 mod ChangedDigests

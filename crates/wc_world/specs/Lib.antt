@@ -19,3 +19,4 @@ pub mod Playing
 pub mod Linked
 pub use Rattle.wc_keys.specs.Keys
 pub use Rattle.wc_keys.specs.Ports
+pub mod Digested

@@ -1,5 +1,5 @@
 -- The room that a world has for further items.
-use Rattle.std.specs.Prelude.{ℕ, suc, ◌≤◌, List, [], ◌∷◌}
+use Rattle.std.specs.Prelude.{ℕ, suc, ◌≤◌, Bool, List, [], ◌∷◌}
 use Rattle.wc_world.specs.declared.change.Change.{Change}
 use Rattle.wc_world.specs.declared.change.Change.TheVariants as change
 use Rattle.wc_world.specs.World.{World}
@@ -13,10 +13,11 @@ pub record Room : Type 0 where
   -- for how many further processes there is a place for a digest
   pub seals : ℕ
 
--- a world with its room
+-- a world with its room, and whether the digests of what has finished are made
 pub record Holding : Type 0 where
   pub world : World
   pub room : Room
+  pub digested : Bool
 
 abbrev pub with_node : Room → Room
 with_node r = record { nodes = suc r.nodes; links = r.links; records = r.records; libraries = r.libraries; seals = r.seals }

@@ -11,7 +11,8 @@ ghost use Rattle.wc_world.specs.Applied.{made, set, after_change, applied};
 ghost use Rattle.wc_world.specs.Accepted.{IsAccepted};
 ghost use Rattle.wc_world.specs.Room.{HasRoom, needed};
 ghost use Rattle.wc_world.specs.Applying.{world_of, room_of, CanApply, Ascend, IsAtLeast};
-ghost use Rattle.wc_world.specs.Keys.{AreSealed, AreDefined, digest_from};
+ghost use Rattle.wc_world.specs.Digested.{AreMade, AreMadeOf};
+ghost use Rattle.wc_world.specs.Keys.{AreDefined, digest_from};
 ghost use Rattle.wc_keys.specs.Order.{AreSealsOf};
 
 use crate::change::{Change, Changes};
@@ -172,6 +173,57 @@ fn set_process_sealed(
     seal(graph, libraries, records, seals, pid);
 }
 
+/// Puts a link that breaks no rule at the end, and keeps the entries in step, where the digests are made.
+fn put_link(
+    graph: &mut Graph,
+    records: &Records,
+    libraries: &[Known],
+    seals: &mut Seals,
+    digested: bool,
+    link: Link,
+)
+    requires allowed { IsAllowed graph.old.nodes graph.old.links link }
+    requires room { 0 < graph.old.link_room }
+    requires sealed { AreMadeOf digested (digest_from graph.old.nodes graph.old.links libraries.now records.now.0) seals.old.0 }
+    requires places { length records.now.0 ≤ seals.old.1 }
+    ensures links { graph.new.links ≡ graph.old.links ++ link ∷ [] }
+    ensures others { (graph.new.nodes ≡ graph.old.nodes) × (graph.new.node_room ≡ graph.old.node_room) }
+    ensures room { graph.old.link_room ≤ graph.new.link_room + 1 }
+    ensures sealed { AreMadeOf digested (digest_from graph.new.nodes graph.new.links libraries.now records.now.0) seals.new.0 }
+    ensures places { seals.new.1 ≡ seals.old.1 }
+{
+    if digested {
+        put_link_sealed(graph, records, libraries, seals, link);
+    } else {
+        graph.push_link(link);
+    }
+}
+
+/// Sets what a process is from now on, and keeps the entries in step, where the digests are made.
+fn put_set(
+    graph: &Graph,
+    records: &mut Records,
+    libraries: &[Known],
+    seals: &mut Seals,
+    digested: bool,
+    batch: u32,
+    change: SetProcess,
+)
+    requires live { ended_at records.old.0 change.pid ≡ false }
+    requires awaits { All (λ r. awaits_called graph.now.links r ≡ true) records.old.0 }
+    requires sealed { AreMadeOf digested (digest_from graph.now.nodes graph.now.links libraries.now records.old.0) seals.old.0 }
+    requires places { length records.old.0 ≤ seals.old.1 }
+    ensures records { records.new ≡ (at_process change.pid (set batch change) records.old.0, records.old.1) }
+    ensures sealed { AreMadeOf digested (digest_from graph.now.nodes graph.now.links libraries.now records.new.0) seals.new.0 }
+    ensures places { seals.new.1 ≡ seals.old.1 }
+{
+    if digested {
+        set_process_sealed(graph, records, libraries, seals, batch, change);
+    } else {
+        set_process(graph, records, batch, change);
+    }
+}
+
 /// Applies one change to the parts of a world, in the batch of this number.
 fn apply_change(
     graph: &mut Graph,
@@ -179,6 +231,7 @@ fn apply_change(
     libraries: &mut Libraries,
     batches: &mut u32,
     seals: &mut Seals,
+    digested: bool,
     batch: u32,
     change: Change,
 )
@@ -187,11 +240,11 @@ fn apply_change(
     requires awaits { AwaitsCalled (world_of graph.old records.old libraries.old batches.old) }
     requires correct { IsLinkCorrect graph.old.nodes graph.old.links }
     requires defined { AreDefined (world_of graph.old records.old libraries.old batches.old) }
-    requires sealed { AreSealed (world_of graph.old records.old libraries.old batches.old) seals.old.0 }
+    requires sealed { AreMade digested (world_of graph.old records.old libraries.old batches.old) seals.old.0 }
     requires places { length records.old.0 ≤ seals.old.1 }
     requires room { HasRoom (room_of graph.old records.old libraries.old seals.old) (change ∷ []) }
     ensures world { world_of graph.new records.new libraries.new batches.new ≡ after_change batch (world_of graph.old records.old libraries.old batches.old) change }
-    ensures sealed { AreSealed (world_of graph.new records.new libraries.new batches.new) seals.new.0 }
+    ensures sealed { AreMade digested (world_of graph.new records.new libraries.new batches.new) seals.new.0 }
     ensures places { length records.new.0 ≤ seals.new.1 }
     ensures room { (cs : List Change) → HasRoom (room_of graph.old records.old libraries.old seals.old) (change ∷ cs) → HasRoom (room_of graph.new records.new libraries.new seals.new) cs }
 {
@@ -199,9 +252,19 @@ fn apply_change(
         Change::Library(library, names) => put_library(libraries, (library, names)),
         Change::Data(value) => put_node(graph, NodeKind::Data(value)),
         Change::Process(process) => put_process(graph, records, process),
-        Change::Link(link) => put_link_sealed(graph, records, libraries.as_slice(), seals, link),
+        Change::Link(link) => {
+            put_link(graph, records, libraries.as_slice(), seals, digested, link)
+        }
         Change::Set(set) => {
-            set_process_sealed(graph, records, libraries.as_slice(), seals, batch, set)
+            put_set(
+                graph,
+                records,
+                libraries.as_slice(),
+                seals,
+                digested,
+                batch,
+                set,
+            )
         }
         Change::Count(count) => *batches = count,
         Change::Kept(kept) => records.keep(kept),
@@ -227,6 +290,7 @@ impl World {
         ensures same { self.new.world ≡ self.old.world }
         ensures room { OnOk result (HasRoom self.new.room changes.now) }
         ensures kept { IsAtLeast self.old.room self.new.room }
+        ensures digested { self.new.digested ≡ self.old.digested }
     {
         let _ = changes.len();
         let need = count(changes.as_slice());
@@ -246,6 +310,7 @@ impl World {
         requires accepted { IsAccepted self.old.world changes }
         requires room { HasRoom self.old.room changes }
         ensures world { self.new.world ≡ applied self.old.world changes }
+        ensures digested { self.new.digested ≡ self.old.digested }
     {
         let batch = self.batches + 1;
         self.batches = batch;
@@ -256,6 +321,7 @@ impl World {
                 &mut self.libraries,
                 &mut self.batches,
                 &mut self.seals,
+                self.digested,
                 batch,
                 change,
             );

@@ -1,17 +1,16 @@
 //! What changes have made, on the way to a world.
 
-ghost use Rattle.std.specs.Prelude.{◌≡◌, IfOk};
+ghost use Rattle.std.specs.Prelude.{◌≡◌, true, false, IfOk, OnOk};
 ghost use Rattle.wc_world.specs.World.{empty};
 
 use crate::world::{Libraries, World};
 use std::alloc::{AllocError, Global};
 use std::marker::Model;
 use wc_graph::Graph;
-use wc_keys::seals_of;
+use wc_keys::{Seals, seals_of};
 use wc_records::Records;
 
-/// A world without the digests of what it has finished. Changes are played on it one batch after another, and the digests
-/// are made at the end, once for each calculation.
+/// A world without digests of what it has finished. Changes are played on it one batch after another.
 #[derive(Drop)]
 pub struct Played {
     /// The provenance graph.
@@ -56,17 +55,32 @@ impl Played {
 }
 
 impl World {
-    /// The world that was played, with the digests of what it has finished.
+    /// The world that was played. The digests of what it has finished aren't made.
     pub fn of(alloc: Global, played: Played) -> Result<World, AllocError>
-        ensures { IfOk result (λ world. world.world ≡ played) }
+        ensures world { IfOk result (λ world. world.world ≡ played) }
+        ensures digested { IfOk result (λ world. world.digested ≡ false) }
     {
-        let seals = seals_of(alloc, &played.graph, &played.libraries, &played.records)?;
+        let mut seals = Seals::new(alloc);
+        seals.reserve(played.records.len())?;
         Ok(World {
             graph: played.graph,
             records: played.records,
             libraries: played.libraries,
             batches: played.batches,
             seals,
+            digested: false,
         })
+    }
+
+    /// Makes the digests of what the world has finished, where they aren't made.
+    pub fn make_digests(&mut self, alloc: Global) -> Result<(), AllocError>
+        ensures same { self.new.world ≡ self.old.world }
+        ensures digested { OnOk result (self.new.digested ≡ true) }
+    {
+        if !self.digested {
+            self.seals = seals_of(alloc, &self.graph, &self.libraries, &self.records)?;
+            self.digested = true;
+        }
+        Ok(())
     }
 }

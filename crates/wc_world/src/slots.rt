@@ -2,11 +2,11 @@
 
 ghost use Rattle.std.specs.Prelude.{◌≡◌, ◌<◌, ◌≤◌, true, not, length, option_map, IfOk};
 ghost use Rattle.std.specs.List.{list_all};
-ghost use Rattle.wc_world.specs.Accepted.{kepts};
+ghost use Rattle.wc_world.specs.Accepted.{is_in_order, kepts};
 ghost use Rattle.wc_world.specs.Slots.{slot_in, slots_in, is_made, made_at, kept_at, filled, AreSlotsOf};
 
 use crate::change::Change;
-use crate::snapshots::is_in_order;
+use crate::snapshots::{Order, is_ended, order_after};
 use std::alloc::{AllocError, Global};
 use wc_records::Kept;
 
@@ -32,29 +32,41 @@ fn slot_in(change: &Change) -> Option<Slot>
     }
 }
 
-fn slots_in(alloc: Global, changes: &[Change]) -> Result<Vec<Slot>, AllocError>
-    ensures { IfOk result (λ slots. slots.items ≡ slots_in changes.now) }
+/// What one walk over changes finds.
+#[derive(Drop)]
+struct Found {
+    /// Whether they stand in the order of a snapshot.
+    ordered: bool,
+    /// What is known of the nodes that they make, before the Kepts.
+    slots: Vec<Slot>,
+    /// The Kepts, in order.
+    kepts: Vec<Kept>,
+}
+
+/// Walks over changes once.
+fn found_in(alloc: Global, changes: &[Change]) -> Result<Found, AllocError>
+    ensures ordered { IfOk result (λ found. found.ordered ≡ is_in_order changes.now) }
+    ensures slots { IfOk result (λ found. found.slots.items ≡ slots_in changes.now) }
+    ensures kepts { IfOk result (λ found. found.kepts.items ≡ kepts changes.now) }
 {
+    let mut order = Order::Others;
     let mut slots = Vec::new(alloc);
+    let mut kepts = Vec::new(alloc);
     for change in changes {
+        order = order_after(order, change);
         if let Some(slot) = slot_in(change) {
             slots.push(slot)?;
         }
-    }
-    Ok(slots)
-}
-
-/// The Kepts of changes, in order.
-fn kepts_of(alloc: Global, changes: &[Change]) -> Result<Vec<Kept>, AllocError>
-    ensures { IfOk result (λ found. found.items ≡ kepts changes.now) }
-{
-    let mut found = Vec::new(alloc);
-    for change in changes {
         if let Change::Kept(kept) = change {
-            found.push(*kept)?;
+            kepts.push(*kept)?;
         }
     }
-    Ok(found)
+    let ordered = is_ended(order);
+    Ok(Found {
+        ordered,
+        slots,
+        kepts,
+    })
 }
 
 /// Whether the node of this number is a process of which there was no Kept yet.
@@ -107,11 +119,14 @@ pub(crate) fn snapshot_slots(
 ) -> Result<Option<Vec<Slot>>, AllocError>
     ensures { IfOk result (λ slots. AreSlotsOf changes.now (option_map (λ v. v.items) slots)) }
 {
-    if !is_in_order(changes) {
+    let Found {
+        ordered,
+        slots,
+        kepts,
+    } = found_in(alloc, changes)?;
+    if !ordered {
         return Ok(None);
     }
-    let slots = slots_in(alloc, changes)?;
-    let kepts = kepts_of(alloc, changes)?;
     Ok(filled(slots, kepts.as_slice()))
 }
 

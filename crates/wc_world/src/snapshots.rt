@@ -1,14 +1,14 @@
-//! Whether changes stand in the order of a snapshot.
+//! How far changes stand in the order of a snapshot: the last change is the only Count, and those directly before it are the Kepts.
 
-ghost use Rattle.std.specs.Prelude.{◌≡◌};
-ghost use Rattle.wc_world.specs.Order.{after_other, after_kept, after_count, order_after};
+ghost use Rattle.std.specs.Prelude.{◌≡◌, []};
+ghost use Rattle.wc_world.specs.Order.{after_other, after_kept, after_count, order_after, may_follow};
 ghost use Rattle.wc_world.specs.Accepted.{is_in_order};
 
 use crate::change::Change;
 
 /// How far the changes of a snapshot have come.
 #[derive(Clone, Copy, Debug, PartialEq, Eq)]
-enum Order {
+pub(crate) enum Order {
     /// There was no Kept yet.
     Others,
     /// There were Kepts.
@@ -46,7 +46,8 @@ fn after_count(order: Order) -> Order
     }
 }
 
-fn order_after(order: Order, change: &Change) -> Order
+/// How far the changes have come with one more.
+pub(crate) fn order_after(order: Order, change: &Change) -> Order
     ensures { result ≡ order_after order change.now }
 {
     match change {
@@ -54,6 +55,13 @@ fn order_after(order: Order, change: &Change) -> Order
         Change::Count(_) => after_count(order),
         _ => after_other(order),
     }
+}
+
+/// Whether there was the Count, and nothing behind it.
+pub(crate) fn is_ended(order: Order) -> bool
+    ensures { result ≡ may_follow order [] }
+{
+    matches!(order, Order::Ended)
 }
 
 /// Whether the last change is the only Count, and those directly before it are the Kepts.
@@ -64,5 +72,5 @@ pub fn is_in_order(changes: &[Change]) -> bool
     for change in changes {
         order = order_after(order, change);
     }
-    matches!(order, Order::Ended)
+    is_ended(order)
 }

@@ -1,6 +1,6 @@
 //! The world that a store holds.
 
-ghost use Rattle.std.specs.Prelude.{◌≡◌, ◌↔◌, length, IsNone};
+ghost use Rattle.std.specs.Prelude.{◌≡◌, ◌↔◌, true, length, is_some, IsNone, IfSome};
 ghost use Rattle.std.specs.Option.{option_copied};
 ghost use Rattle.wc_graph.specs.Rules.{IsLinkCorrect};
 ghost use Rattle.wc_records.specs.Readiness.{ready_at, AreDues, live_in};
@@ -29,15 +29,17 @@ pub struct World {
     pub(crate) libraries: Libraries,
     /// How many batches there were.
     pub(crate) batches: u32,
-    /// The digests of the calculations that have finished.
+    /// The digests of the calculations that have finished, or places for them.
     pub(crate) seals: Seals,
+    /// Whether the digests are made. Only the search for a calculation with the same key looks at them.
+    pub(crate) digested: bool,
 }
 
 impl Model for World {
     ghost use Rattle.std.specs.Prelude.{◌-◌, ◌≤◌, length};
     ghost use Rattle.wc_world.specs.Room.{Holding};
     ghost use Rattle.wc_world.specs.Accepted.{IsReached};
-    ghost use Rattle.wc_world.specs.Keys.{AreSealed};
+    ghost use Rattle.wc_world.specs.Digested.{AreMade};
 
     ghost Value = { Holding };
 
@@ -50,17 +52,19 @@ impl Model for World {
     ghost view = { λ a. record {
       world = record { nodes = a.graph.nodes; links = a.graph.links; records = a.records.0; libraries = a.libraries.0; batches = a.batches };
       room = record { nodes = a.graph.node_room; links = a.graph.link_room; records = a.records.1; libraries = a.libraries.1; seals = a.seals.1 - length a.records.0 };
+      digested = a.digested;
     } };
 
     ghost invariant = { λ a. IsReached (record { nodes = a.graph.nodes; links = a.graph.links; records = a.records.0; libraries = a.libraries.0; batches = a.batches })
-        × AreSealed (record { nodes = a.graph.nodes; links = a.graph.links; records = a.records.0; libraries = a.libraries.0; batches = a.batches }) a.seals.0
+        × AreMade a.digested (record { nodes = a.graph.nodes; links = a.graph.links; records = a.records.0; libraries = a.libraries.0; batches = a.batches }) a.seals.0
         × (length a.records.0 ≤ a.seals.1) };
 }
 
 impl World {
     /// The empty world, which takes no memory.
     pub fn new(alloc: Global) -> World
-        ensures { result.world ≡ empty }
+        ensures empty { result.world ≡ empty }
+        ensures digested { result.digested ≡ true }
     {
         World {
             graph: Graph::new(alloc),
@@ -68,6 +72,7 @@ impl World {
             libraries: Libraries::new(alloc),
             batches: 0,
             seals: Seals::new(alloc),
+            digested: true,
         }
     }
 
@@ -123,12 +128,17 @@ impl World {
         self.records.ready_later()
     }
 
-    /// The calculations that have finished with this digest of their keys, in order of their numbers. The key is that of the
-    /// links as they stand. It takes no memory.
-    pub fn with_digest(&self, digest: &[u8]) -> &[Sealed]
-        ensures { IsPartOf (digest_at self.now.world) digest.now result.now }
+    /// The calculations that have finished with this digest of their keys, in order of their numbers, or none where the digests
+    /// aren't made. The key is that of the links as they stand. It takes no memory.
+    pub fn with_digest(&self, digest: &[u8]) -> Option<&[Sealed]>
+        ensures part { IfSome result (λ part. IsPartOf (digest_at self.now.world) digest.now part.now) }
+        ensures made { is_some result ≡ self.now.digested }
     {
-        self.seals.part(digest)
+        if self.digested {
+            Some(self.seals.part(digest))
+        } else {
+            None
+        }
     }
 
     /// How many processes haven't ended.

@@ -3,19 +3,19 @@
 use crate::parts::Parts;
 use crate::told::Told;
 use std::alloc::Global;
-use wc_record::{LastLibrary, RecordError, read_changes, write_changes, write_snapshot};
+use wc_record::{RecordError, SharedLibraries, read_changes, write_changes, write_snapshot};
 use wc_value::{Bytes, let_go};
 use wc_world::{Changes, World};
 
 /// The changes that bytes spell. This says nothing of the call, so that no row carries what it promises.
 pub fn changes_of(alloc: Global, bytes: &[u8]) -> Result<Changes, RecordError> {
-    read_changes(alloc, bytes, &mut LastLibrary::none())
+    read_changes(alloc, bytes, &mut SharedLibraries::new(alloc))
 }
 
 /// The changes that bytes spell, as bytes again.
 #[tactic(auto, using(crate::proofs::Writables::written_is_writable))]
 fn written_back(alloc: Global, bytes: &[u8]) -> Result<Bytes, RecordError> {
-    let changes = read_changes(alloc, bytes, &mut LastLibrary::none())?;
+    let changes = read_changes(alloc, bytes, &mut SharedLibraries::new(alloc))?;
     let written = write_changes(alloc, &changes);
     let_go(changes);
     Ok(written?)

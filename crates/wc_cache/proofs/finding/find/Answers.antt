@@ -1,66 +1,16 @@
-use Rattle.std.proofs.Common.{ℕ, List, [], Option, Some, None, get_or, ◌+◌, sym, ap, subst, ◌∙◌, arith}
-use Rattle.std.specs.Prelude.{IsSome}
-use Rattle.std.specs.Option.{option_copied}
-use Rattle.sha2.specs.Sha256.{sha256}
+use Rattle.std.proofs.Common.{ℕ, ◌+◌, Option}
+use Rattle.std.proofs.lemmas.Result.{IfOk-weaker}
 use Rattle.wc_state.specs.declared.record.ProcessRecord.{ProcessRecord}
-use Rattle.wc_keys.specs.declared.marking.Sealed.{Sealed}
-use Rattle.wc_keys.specs.Order.{IsPartOf}
-use Rattle.wc_world.specs.Keys.{digest_at}
-use Rattle.wc_cache.proofs.Keyed.{is_there}
-use Rattle.wc_cache.proofs.Lowest.{copied_there, process_there, first_found, lowest_for, none_found, none_yet}
+use Rattle.wc_machine.specs.Sources.{IsLowestSource}
+use Rattle.wc_cache.specs.Finding.{IsLowestWith}
+use Rattle.wc_cache.specs.Keys.{IsKeyOf}
+use Rattle.wc_cache.proofs.Lowest.{lowest_for}
 use Rattle.wc_cache.proofs.finding.find.Goals as goal
-
-abbrev none : Sealed
-none = record { digest = []; pid = 0 }
-
-pub unwrap-process-requires : goal.unwrap-process-requires
-unwrap-process-requires c =
-    let w = c.args.world.now.world in
-    let key = c.args.key.now in
-    let part = c.with_digest-seal-items.result.now in
-    let exact : IsPartOf (digest_at w) (sha256 key) part = subst (λ (d : List ℕ). IsPartOf (digest_at w) d part) (c.as_slice.ensures ∙ c.digest_of-digest.ensures) c.with_digest-seal-items.ensures in
-    copied_there c.record_of.result
-    (subst (λ (o : Option ProcessRecord). IsSome o) (sym c.record_of.ensures)
-    (process_there w (w.batches + 1) key part exact c.loop-seal.seal-index none c.loop-seal-test.true))
-
-pub is_source-requires : goal.is_source-requires
-is_source-requires c =
-    let at = get_or c.with_digest-seal-items.result.now c.loop-seal.seal-index none in
-    is_there c.args.world.now.world at.pid c.unwrap-process.result.now (sym c.record_of.ensures ∙ ap option_copied c.unwrap-process.ensures)
-
-pub returns-then-is-clause-lowest : goal.returns-then-is-clause-lowest
-returns-then-is-clause-lowest c =
-    let w = c.args.world.now.world in
-    let key = c.args.key.now in
-    let part = c.with_digest-seal-items.result.now in
-    let exact : IsPartOf (digest_at w) (sha256 key) part = subst (λ (d : List ℕ). IsPartOf (digest_at w) d part) (c.as_slice.ensures ∙ c.digest_of-digest.ensures) c.with_digest-seal-items.ensures in
-    first_found w (w.batches + 1) key part exact (c.reached_worlds_are_consistent.ensures w c.graph.ensures.reached) c.loop-seal.seal-index none c.unwrap-process.result.now c.loop-seal-test.true
-    c.loop-seal.invariant (sym c.record_of.ensures ∙ ap option_copied c.unwrap-process.ensures) (c.in_ok-is.ensures.0 c.if-is.true)
-
-pub returns-then-is-clause-source : goal.returns-then-is-clause-source
-returns-then-is-clause-source c =
-    let w = c.args.world.now.world in
-    let at = get_or c.with_digest-seal-items.result.now c.loop-seal.seal-index none in
-    λ r has. lowest_for w (w.batches + 1) c.args.key.now r has (Some at.pid) (returns-then-is-clause-lowest c)
-
-pub loop-seal-preserved : goal.loop-seal-preserved
-loop-seal-preserved c =
-    let w = c.args.world.now.world in
-    let key = c.args.key.now in
-    let part = c.with_digest-seal-items.result.now in
-    let exact : IsPartOf (digest_at w) (sha256 key) part = subst (λ (d : List ℕ). IsPartOf (digest_at w) d part) (c.as_slice.ensures ∙ c.digest_of-digest.ensures) c.with_digest-seal-items.ensures in
-    none_yet w (w.batches + 1) key part exact c.loop-seal.seal-index none c.unwrap-process.result.now c.loop-seal-test.true c.loop-seal.invariant
-    (sym c.record_of.ensures ∙ ap option_copied c.unwrap-process.ensures) (λ s. let e = c.in_ok-is.ensures.1 s in absurd (cc (e, c.if-is.false)))
-
-pub returns-clause-lowest : goal.returns-clause-lowest
-returns-clause-lowest c =
-    let w = c.args.world.now.world in
-    let key = c.args.key.now in
-    let part = c.with_digest-seal-items.result.now in
-    let exact : IsPartOf (digest_at w) (sha256 key) part = subst (λ (d : List ℕ). IsPartOf (digest_at w) d part) (c.as_slice.ensures ∙ c.digest_of-digest.ensures) c.with_digest-seal-items.ensures in
-    none_found w (w.batches + 1) key part exact (c.reached_worlds_are_consistent.ensures w c.graph.ensures.reached) c.loop-seal.seal-index (omega arith) c.loop-seal.invariant
 
 pub returns-clause-source : goal.returns-clause-source
 returns-clause-source c =
     let w = c.args.world.now.world in
-    λ r has. lowest_for w (w.batches + 1) c.args.key.now r has None (returns-clause-lowest c)
+    let key = c.args.key.now in
+    let P : Option ℕ → Type 0 = IsLowestWith w (w.batches + 1) key in
+    let Q : Option ℕ → Type 0 = λ s. (r : ProcessRecord) → IsKeyOf w r key → IsLowestSource w (w.batches + 1) r s in
+    IfOk-weaker c.find_lowest.result P Q (λ s low r has. lowest_for w (w.batches + 1) key r has s low) c.find_lowest.ensures

@@ -17,7 +17,7 @@ returns-in-Ok-clause-ok g c =
     λ told_one told_two.
     let told = c.open.ensures.tells_one ∙ told_one in
     let none = opens_none g.D.Disk c.in_ok-open.field-0 c.open.new.one c.open.new.two (sym c.if-is_some.ensures) (c.in_ok-open.ensures.ok told_one told_two) in
-    made g.D.Disk _ c.create.new.disk c.open.new.two refl c.in-Ok.ensures.version c.in-Ok.ensures.generation c.new.ensures (c.in-Ok.ensures.held told)
+    made g.D.Disk _ c.create.new.disk c.open.new.two refl c.in-Ok.ensures.version c.in-Ok.ensures.generation c.new.ensures.empty (c.in-Ok.ensures.held told)
     (second_counts _ _ none) (c.in-Ok.ensures.settled told) c.in_ok-open.ensures.durable_two
 
 pub returns-in-Ok-clause-parts : goal.returns-in-Ok-clause-parts
@@ -38,7 +38,7 @@ pub returns-in-Ok-clause-images : goal.returns-in-Ok-clause-images
 returns-in-Ok-clause-images g c =
     let none = none_opened g.D.Disk c.args.one.now c.args.two.now c.in_ok-open.field-0 (sym c.if-is_some.ensures) c.in_ok-open.ensures.images in
     images_as g.D.Disk c.args.one.now c.args.two.now (λ a b. chosen a b ≡ no_store) (IsMadeOf _)
-    (λ a b bare. images_made a b _ _ _ bare c.new.ensures c.in-Ok.ensures.version c.in-Ok.ensures.generation c.in-Ok.ensures.end) none
+    (λ a b bare. images_made a b _ _ _ bare c.new.ensures.empty c.in-Ok.ensures.version c.in-Ok.ensures.generation c.in-Ok.ensures.end) none
 
 pub returns-then-is_some-clause-there : goal.returns-then-is_some-clause-there
 returns-then-is_some-clause-there g c =

@@ -27,6 +27,7 @@ loop-change-init c =
           (ap begun worlds) rooms items (remain_all old c.args.self.now.room cs reached c.requires.accepted c.requires.room);
       sealed = c.self.invariant.1;
       places = c.self.invariant.2;
+      digested = ap (λ h. h.digested) c.self.view_is;
     }
 
 pub invariant_of-self : goal.invariant_of-self
@@ -77,6 +78,7 @@ loop-change-preserved c =
           (remain_next s final w room more c.in-Some.change cs remain (c.apply_change.ensures.room cs remain.enough));
       sealed = c.apply_change.ensures.sealed;
       places = c.apply_change.ensures.places;
+      digested = c.loop-change.invariant.digested;
     }
 
 pub apply_change-requires-clause-awaits : goal.apply_change-requires-clause-awaits

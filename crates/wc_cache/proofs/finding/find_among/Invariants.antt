@@ -4,9 +4,9 @@ use Rattle.wc_state.specs.declared.record.ProcessRecord.{ProcessRecord}
 use Rattle.wc_keys.specs.declared.marking.Sealed.{Sealed}
 use Rattle.wc_world.specs.Records.{find_record}
 use Rattle.wc_cache.specs.Finding.{IsSourceWith}
-use Rattle.wc_cache.proofs.finding.find.Given as goal
+use Rattle.wc_cache.proofs.finding.find_among.Given as goal
 
 abbrev pub invariant-loop-seal : goal.invariant-loop-seal
 invariant-loop-seal l =
     All (λ (s : Sealed). (q : ProcessRecord) → find_record s.pid l.world.world.records ≡ Some q → IsSourceWith l.world.world (l.world.world.batches + 1) l.key q → ⊥)
-    (take l.seal-index l.seal-items)
+    (take l.seal-index l.seals)

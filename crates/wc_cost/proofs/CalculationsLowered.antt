@@ -12,7 +12,6 @@ use Rattle.wc_syntax.specs.declared.definition.Definition.TheVariants as definit
 use Rattle.wc_syntax.specs.declared.definition.Job.{Job}
 use Rattle.wc_syntax.specs.declared.definition.Port.{Port}
 use Rattle.wc_graph.specs.Rules.{node_of}
-use Rattle.wc_graph.specs.declared.node.NodeKind.{NodeKind}
 use Rattle.wc_expression.specs.declared.outcome.Outcome.{Outcome}
 use Rattle.wc_expression.specs.declared.outcome.Outcome.TheVariants.{Gives, Faults}
 use Rattle.wc_semantics.specs.Meaning.{is_killed}
@@ -34,7 +33,7 @@ use Rattle.wc_world.specs.World.{World}
 use Rattle.wc_world.specs.Applied.{applied, set}
 use Rattle.wc_world.specs.Consistent.{Stands}
 use Rattle.wc_world.specs.Fits.{is_of_kind, part_fits}
-use Rattle.wc_world.specs.Records.{at_process, find_record, has_ended, is_calculation, library_at, process_node}
+use Rattle.wc_world.specs.Records.{find_record, has_ended, is_calculation, library_at, process_node}
 use Rattle.wc_world.proofs.FoundRecords.{found_holds}
 use Rattle.wc_machine.specs.declared.answer.TaskAnswer.{TaskAnswer}
 use Rattle.wc_machine.specs.declared.answer.TaskAnswer.TheVariants as answer
@@ -64,7 +63,7 @@ use Rattle.wc_soundness.proofs.Outputs.{nothing_good, outputs_are_inputs}
 use Rattle.wc_soundness.proofs.Tasks.{job_waits, request_is}
 use Rattle.wc_cost.specs.Cost.{Costing, cost, job_cost, price, price_by, price_of, tolls}
 use Rattle.wc_cost.specs.Left.{FreshOwes, IsLeft, JobOwes, PartOwes, by_request, tasks_left}
-use Rattle.wc_cost.specs.Lowering.{CalculationTurnsLower, IsCalm, LeavesLess, TakesNoClones}
+use Rattle.wc_cost.specs.Lowering.{CalculationTurnsLower, IsCalm, LeavesLess}
 use Rattle.wc_cost.proofs.OneLowered.{lowered, owed_in}
 use Rattle.wc_cost.proofs.Owing.{alive, part_positive}
 

@@ -1,5 +1,5 @@
 -- An event that kills nothing leaves the recorded kills as they were.
-use Rattle.std.proofs.Common.{◌≡◌, ◌≢◌, ℕ, suc, ◌+◌, ◌<◌, ◌≤◌, Bool, true, false, List, [], ◌∷◌, ◌++◌, Option, Some, None, get_or, inl, inr, length, refl, sym, ap, subst, ◌∙◌, arith}
+use Rattle.std.proofs.Common.{◌≡◌, ◌≢◌, ℕ, ◌<◌, ◌≤◌, Bool, true, false, List, [], ◌∷◌, ◌++◌, Option, Some, None, get_or, inl, inr, length, refl, sym, ap, ◌∙◌, arith}
 use Rattle.std.specs.Prelude.{All, ◌==◌, ◌&&◌, if◌then◌else◌, option_and_then}
 use Rattle.std.specs.Str.{bytes_eq}
 use Rattle.std.proofs.lemmas.Bool.{cases_Bool, cases_eq, eqb-true}
@@ -9,15 +9,15 @@ use Rattle.wc_semantics.specs.Meaning.{is_killed}
 use Rattle.wc_semantics.specs.Tables.{Label, Path}
 use Rattle.wc_state.specs.declared.record.ProcessRecord.{ProcessRecord}
 use Rattle.wc_world.specs.World.{World}
-use Rattle.wc_world.specs.Fits.{calls_from, is_call_between, call_fits}
-use Rattle.wc_world.specs.Records.{calls, find_record, gives_output, has_ended, is_call_from, takes_input}
+use Rattle.wc_world.specs.Fits.{calls_from, is_call_between}
+use Rattle.wc_world.specs.Records.{calls, find_record, gives_output, has_ended, is_call_from}
 use Rattle.wc_world.proofs.FoundRecords.{IsDeeper, call_is_deeper, calls_is, left, right}
 use Rattle.wc_world.proofs.ReachedLists.{found_node}
 use Rattle.wc_machine.specs.Paths.{called_under, cut_after, follow, kills}
 use Rattle.wc_machine.specs.Sound.{IsSound}
 use Rattle.wc_machine.proofs.Frames.{NoCallFrom, called_before, calls_before}
 use Rattle.wc_soundness.specs.Touching.{AddsFor, MayBeTouched, Touches}
-use Rattle.wc_soundness.proofs.Touched.{called_kept, called_link, carried_on, first_false, found_kept, input_no_call, no_call, output_no_call, within}
+use Rattle.wc_soundness.proofs.Touched.{called_kept, called_link, carried_on, first_false, found_kept, no_call, output_no_call, within}
 use Rattle.wc_cost.specs.Framing.{KillsNone, KillsStay}
 use Rattle.wc_cost.proofs.Owing.{alive}
 

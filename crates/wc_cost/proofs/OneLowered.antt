@@ -1,7 +1,7 @@
 -- Where the record of one process alone is set anew, what is left falls by what that process owes less.
-use Rattle.std.proofs.Common.{◌≡◌, ◌≢◌, ℕ, suc, ◌+◌, ◌<◌, ◌≤◌, Bool, true, false, List, [], ◌∷◌, Option, Some, None, inl, inr, ◌⊎◌, length, refl, sym, ap, subst, ◌∙◌, arith}
+use Rattle.std.proofs.Common.{◌≡◌, ◌≢◌, ℕ, ◌+◌, ◌<◌, ◌≤◌, Bool, true, false, List, [], ◌∷◌, Option, Some, inl, inr, ◌⊎◌, length, refl, sym, ap, subst, ◌∙◌, arith}
 use Rattle.std.specs.Prelude.{All, ◌==◌, if◌then◌else◌}
-use Rattle.std.proofs.lemmas.Bool.{cases_eq, cond-true, eq-eqb, eqb-true, eqb-false}
+use Rattle.std.proofs.lemmas.Bool.{cases_eq, cond-true, eq-eqb, eqb-true}
 use Rattle.std.proofs.lemmas.List.Elements.{All-head, All-tail}
 use Rattle.wc_value.specs.declared.process.JobResult.{JobResult}
 use Rattle.wc_value.specs.declared.process.Request.{Request}
@@ -40,7 +40,7 @@ module _ (results : Request → Option JobResult) (v w : World) (pid : ℕ) (f :
   now_found : find_record pid w.records ≡ Some (f r)
   now_found = ap (find_record pid) records ∙ found_one pid f keeps v.records r number found
 
-  kills_none : KillsNone v w pid
+  pub kills_none : KillsNone v w pid
   kills_none q is which = elim (cases_eq pid q.node) [
     | inl e ↦
         let again : Some q ≡ Some (f r) = sym is ∙ ap (λ (n : ℕ). find_record n w.records) (sym e) ∙ now_found in

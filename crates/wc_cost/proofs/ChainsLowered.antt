@@ -1,6 +1,6 @@
 -- The turn of a work chain that goes on, or ends, lowers what is left by one.
-use Rattle.std.proofs.Common.{◌≡◌, ◌≢◌, ℕ, zero, suc, ◌+◌, ◌-◌, ◌<◌, Bool, true, false, List, [], ◌∷◌, ◌++◌, Option, Some, None, length, map, take, refl, sym, ap, subst, ◌∙◌, arith}
-use Rattle.std.specs.Prelude.{All, ◌==◌, if◌then◌else◌, option_map, option_and_then, slice_get}
+use Rattle.std.proofs.Common.{◌≡◌, ◌≢◌, ℕ, zero, suc, ◌+◌, ◌-◌, true, false, List, [], ◌∷◌, ◌++◌, Option, Some, None, length, map, take, refl, sym, ap, subst, ◌∙◌, arith}
+use Rattle.std.specs.Prelude.{All, option_map, option_and_then, slice_get}
 use Rattle.std.proofs.lemmas.List.Elements.{All-filter, All-take}
 use Rattle.wc_value.specs.declared.process.JobResult.{JobResult}
 use Rattle.wc_value.specs.declared.process.ProcessState.{ProcessState}
@@ -14,8 +14,7 @@ use Rattle.wc_syntax.specs.declared.definition.Definition.TheVariants as definit
 use Rattle.wc_syntax.specs.declared.definition.Port.{Port}
 use Rattle.wc_semantics.specs.Rules.{unnumbered}
 use Rattle.wc_semantics.specs.Run.{instrs}
-use Rattle.wc_semantics.specs.Tables.{Label, Path}
-use Rattle.wc_semantics.specs.declared.progress.Progress.{Progress}
+use Rattle.wc_semantics.specs.Tables.{Label}
 use Rattle.wc_state.specs.Checkpoint.{first}
 use Rattle.wc_state.specs.declared.environment.Env.{Env}
 use Rattle.wc_state.specs.declared.environment.Item.{Item}
@@ -29,17 +28,16 @@ use Rattle.wc_world.specs.declared.change.Change.{Change}
 use Rattle.wc_world.specs.World.{World}
 use Rattle.wc_world.specs.Applied.{applied, set}
 use Rattle.wc_world.specs.Fits.{is_of_kind}
-use Rattle.wc_world.specs.Records.{find_record, has_ended, is_call_from, library_at}
+use Rattle.wc_world.specs.Records.{has_ended, is_call_from}
 use Rattle.wc_world.specs.Trees.{NamedValues, branches, context_of, environment_at, inputs_of, items_of, recorded_tree, values_alone}
 use Rattle.wc_machine.specs.Advancing.{Advanced, goes, loops, submits, ends, advance}
 use Rattle.wc_machine.specs.Calling.{advanced, chain_set, judged}
 use Rattle.wc_machine.specs.Outlines.{block_of, blocks, left}
 use Rattle.wc_machine.specs.Paths.{call_links, kills}
-use Rattle.wc_machine.specs.Recorded.{its_definition, recorded_inputs}
+use Rattle.wc_machine.specs.Recorded.{recorded_inputs}
 use Rattle.wc_machine.specs.Resting.{as_call, awaited, bound_calls, bound_trees, env_alone, levels_of, progress_of, progress_with, without_number}
 use Rattle.wc_machine.specs.Tasks.{saturated}
 use Rattle.wc_machine.proofs.Frames.{branches_by}
-use Rattle.wc_turn_laws.specs.Instead.{MadeCalls}
 use Rattle.wc_turn_laws.specs.Nodes.{HoldsAfter, NodesAre}
 use Rattle.wc_turn_laws.specs.OutlineLaws.{KeepsCalls}
 use Rattle.wc_turn_laws.specs.View.{View, context_in, env_in, progress_in, values_of}
@@ -54,7 +52,7 @@ use Rattle.wc_soundness.proofs.ChainStanding.{Standing, begins, runs, awaits_non
 use Rattle.wc_soundness.proofs.EndedChains.{touched, may}
 use Rattle.wc_soundness.proofs.OneSet.{at_checkpoint, found_now, goes_touch, kills_same, may_go, now_runs, went}
 use Rattle.wc_soundness.proofs.Rests.{IsSeenAt}
-use Rattle.wc_soundness.proofs.Returns.{applied_ending, ended_to, ending, kept_is, kept_of}
+use Rattle.wc_soundness.proofs.Returns.{applied_ending, ended_to, kept_is, kept_of}
 use Rattle.wc_soundness.proofs.SeenWorlds.{IsData, IsRead, IsThere, items_there, nodes_read, read_is_data, seen_right, values_there, view_of}
 use Rattle.wc_cost.specs.Advances.{cost_after, cost_on}
 use Rattle.wc_cost.specs.Cost.{Costs, Tolls, cost, more, tolls}

@@ -14,3 +14,4 @@ pub mod Bystanders
 pub mod OneLowered
 pub mod CalculationsLowered
 pub mod ChainsLowered
+pub mod Bound

@@ -40,7 +40,7 @@ module _ (results : Request → Option JobResult) (v w : World) (pid : ℕ) (f :
   now_found : find_record pid w.records ≡ Some (f r)
   now_found = ap (find_record pid) records ∙ found_one pid f keeps v.records r number found
 
-  kills_none : KillsNone v w pid
+  pub kills_none : KillsNone v w pid
   kills_none q is which = elim (cases_eq pid q.node) [
     | inl e ↦
         let again : Some q ≡ Some (f r) = sym is ∙ ap (λ (n : ℕ). find_record n w.records) (sym e) ∙ now_found in

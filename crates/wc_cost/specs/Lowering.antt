@@ -17,8 +17,16 @@ use Rattle.wc_state.specs.declared.environment.Env.{Env}
 use Rattle.wc_state.specs.declared.record.Checkpoint.{Checkpoint}
 use Rattle.wc_machine.specs.Advancing.{Advanced, goes, loops, submits, ends, advance}
 use Rattle.wc_machine.specs.Calling.{advanced}
+use Rattle.wc_value.specs.declared.process.ProcessState.TheVariants as state
+use Rattle.wc_syntax.specs.declared.definition.Definition.TheVariants as definition
+use Rattle.wc_state.specs.declared.record.Part.TheVariants as part
+use Rattle.wc_world.specs.Accepted.{IsAccepted}
+use Rattle.wc_machine.specs.Agreeing.{AgreesWithWorld}
+use Rattle.wc_machine.specs.Readiness.{is_ready}
+use Rattle.wc_machine.specs.Recorded.{its_definition}
+use Rattle.wc_soundness.specs.BindingLaws.{binding}
 use Rattle.wc_soundness.specs.TrackLaws.{IsAtTurn}
-use Rattle.wc_cost.specs.Left.{IsLeft}
+use Rattle.wc_cost.specs.Left.{IsLeft, by_request}
 
 -- neither a failure nor a program that runs on
 abbrev pub IsCalm : TaskAnswer → Type 0
@@ -54,3 +62,10 @@ abbrev pub AdvancesLower : Type 0
 AdvancesLower = (results : Request → Option JobResult) (w : World) (r : ProcessRecord) (k : Chain) (library : List Definition) (c : Checkpoint) (env : Env) (total : ℕ)
     → IsAtTurn w r k library c env → SubmitsNone (advance library k r.depth env c) → IsLeft results w total
     → LeavesLess results r.node (applied w (advanced w r k.head.outputs (advance library k r.depth env c))) total
+
+-- And so does the turn of one that waits and is ready, which binds its children, where the results agree with what is recorded.
+abbrev pub BindingsLower : Type 0
+BindingsLower = (results : Request → Option JobResult) (now : ℕ) (w : World) (r : ProcessRecord) (k : Chain) (c : Checkpoint) (total : ℕ) → IsSound w
+    → AgreesWithWorld (by_request results) w → find_record r.node w.records ≡ Some r → is_ready w now r ≡ true → its_definition w r ≡ Some (definition.Chain k)
+    → r.state ≡ state.Waiting → r.part ≡ part.Chain c → IsAccepted w (binding w r c) → IsLeft results w total
+    → LeavesLess results r.node (applied w (binding w r c)) total

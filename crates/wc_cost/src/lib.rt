@@ -12,6 +12,6 @@ mod worlds;
 
 pub use costs::{advances_cost_one, meanings_have_one_price, runs_have_one_cost};
 pub use framing::{kills_stay, others_owe_the_same};
-pub use lowering::{advances_lower, calculation_turns_lower};
+pub use lowering::{advances_lower, bindings_lower, calculation_turns_lower};
 pub use small::{fan_costs, small_runs_cost};
 pub use worlds::{left_is_one, left_is_there, live_owe};

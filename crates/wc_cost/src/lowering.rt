@@ -1,5 +1,5 @@
 //! Laws of turns that lower what is left of a world.
-ghost use Rattle.wc_cost.specs.Lowering.{AdvancesLower, CalculationTurnsLower};
+ghost use Rattle.wc_cost.specs.Lowering.{AdvancesLower, BindingsLower, CalculationTurnsLower};
 
 /// The turn of a function or a job lowers what is left by exactly one, or by more where it takes another's outcome.
 pub fn calculation_turns_lower()
@@ -9,4 +9,9 @@ pub fn calculation_turns_lower()
 /// The turn of a work chain that goes on or ends lowers it by exactly one.
 pub fn advances_lower()
     ensures { AdvancesLower }
+{}
+
+/// So does the turn of a work chain that binds the children that it awaited.
+pub fn bindings_lower()
+    ensures { BindingsLower }
 {}

@@ -1,0 +1,5 @@
+pub mod Firsts
+pub mod Levels
+pub mod Begun
+pub mod Cutting
+pub mod Rows

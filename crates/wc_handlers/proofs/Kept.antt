@@ -1,5 +1,5 @@
 -- The spec of a table that nothing refuses keeps the ranges of specs.
-use Rattle.std.proofs.Common.{◌≡◌, ◌≢◌, ◌∙◌, refl, sym, ap, subst, ℕ, suc, ◌≤◌, ◌==◌, ℤ, pos, negsuc, Bool, true, false, ◌&&◌, ◌||◌, nat_le, if◌then◌else◌, List, [], ◌∷◌, ◌++◌, length, Option, Some, None, is_some, option_and_then, codes, arith}
+use Rattle.std.proofs.Common.{◌≡◌, ◌∙◌, refl, sym, ap, subst, ℕ, suc, ◌≤◌, ◌==◌, ℤ, pos, negsuc, Bool, true, false, ◌&&◌, ◌||◌, nat_le, if◌then◌else◌, List, [], ◌++◌, length, Option, Some, None, is_some, option_and_then, codes, arith}
 use Rattle.std.specs.Prelude.{unwrap_or}
 use Rattle.std.specs.List.{AllByRecursion}
 use Rattle.std.proofs.lemmas.Bool.{and_parts, leb-true}
@@ -11,7 +11,7 @@ use Rattle.wc_handlers.specs.declared.spec.Remedy.TheVariants as remedy
 use Rattle.wc_handlers.specs.Names.{is_name}
 use Rattle.wc_handlers.specs.Refusals.{member_refusals, missing, remedy_refusals, handler_refusals, table_refusals, item_refusals, list_refusals, handlers_in, refusals, least}
 use Rattle.wc_handlers.specs.Specs.{number_of, status_then, statuses, statuses_in, abort_in, remedy_for, handler_of, handler_then, handlers, handlers_of, spec_of, IsStatus, IsRemedy, IsHandler, IsSpec}
-use Rattle.wc_handlers.specs.Values.{within, then_other, abort_of, count, are_few, is_status, all_statuses, are_statuses, all_tables, are_handlers, is_name_text, is_held}
+use Rattle.wc_handlers.specs.Values.{within, then_other, count, are_few, is_status, all_statuses, are_statuses, all_tables, are_handlers, is_name_text, is_held}
 use Rattle.wc_handlers.proofs.Nothing.{none_refused, front, back, is_there, member_held}
 
 -- ---- names

@@ -13,7 +13,7 @@ use Rattle.wc_handlers.specs.declared.keys.Place.{Place}
 use Rattle.wc_handlers.specs.declared.refusals.Kind.TheVariants.{BadValue}
 use Rattle.wc_handlers.specs.Keys.{holds_of, path}
 use Rattle.wc_handlers.specs.Values.{is_held}
-use Rattle.wc_handlers.specs.Refusals.{Refusal, value_refusals, member_refusals, missing, of_two, lesser, least_after, least}
+use Rattle.wc_handlers.specs.Refusals.{Refusal, value_refusals, member_refusals, missing, of_two, least_after, least}
 
 -- ---- no refusal is the least
 

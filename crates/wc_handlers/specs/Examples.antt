@@ -1,5 +1,5 @@
 -- Files of restart chains, and what they say.
-use Rattle.std.specs.Prelude.{ℕ, List, [], ◌∷◌, ◌++◌, codes}
+use Rattle.std.specs.Prelude.{ℕ, List, [], ◌∷◌, codes}
 use Rattle.wc_handlers.specs.declared.spec.Remedy.TheVariants as remedy
 use Rattle.wc_handlers.specs.declared.spec.Spec.{Spec}
 

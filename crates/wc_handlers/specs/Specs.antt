@@ -1,5 +1,5 @@
 -- The spec that a table gives, and what each spec that is read keeps.
-use Rattle.std.specs.Prelude.{◌≡◌, ◌≢◌, ℕ, ◌≤◌, Bool, true, List, [], ◌∷◌, length, Option, Some, None, option_and_then, unwrap_or, codes}
+use Rattle.std.specs.Prelude.{◌≡◌, ◌≢◌, ℕ, ◌≤◌, true, List, [], ◌∷◌, length, Option, Some, None, option_and_then, unwrap_or, codes}
 use Rattle.std.specs.List.{AllByRecursion}
 use Rattle.toml.specs.Data.{Data, as_integer, as_str, as_array, as_table, Items, no_items, item, Members, get_member}
 use Rattle.wc_handlers.specs.declared.spec.Handler.{Handler}

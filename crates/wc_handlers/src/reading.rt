@@ -2,10 +2,10 @@
 
 ghost use Rattle.std.specs.Prelude.{◌≡◌, ◌⊎◌, Ok, Err, IfOk, IfErr, option_map, option_and_then, codes};
 ghost use Rattle.toml.specs.Data.{as_str, get_member};
-ghost use Rattle.toml.specs.View.{view, table_view, array_view};
+ghost use Rattle.toml.specs.View.{table_view, array_view};
 ghost use Rattle.wc_handlers.specs.declared.error.RestartError.TheVariants.{OutOfMemory};
 ghost use Rattle.wc_handlers.specs.Reading.{told, spec_in};
-ghost use Rattle.wc_handlers.specs.Refusals.{least, refusals, handlers_in};
+ghost use Rattle.wc_handlers.specs.Refusals.{least, handlers_in};
 ghost use Rattle.wc_handlers.specs.Specs.{text_at, number_at, statuses, abort_in, remedy_of, handler_of, handlers, handlers_of, spec_of, IsSpec};
 
 use crate::error::RestartError;

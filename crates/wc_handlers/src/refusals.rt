@@ -1,7 +1,7 @@
 //! The least refusal of a table.
 
 ghost use Rattle.std.specs.Prelude.{◌≡◌, IfOk, option_map};
-ghost use Rattle.toml.specs.Data.{as_table, as_array, get_member};
+ghost use Rattle.toml.specs.Data.{as_table, as_array};
 ghost use Rattle.toml.specs.View.{view, table_view, array_view};
 ghost use Rattle.wc_handlers.specs.Keys.{holds_of};
 ghost use Rattle.wc_handlers.specs.Refusals.{value_refusals, member_refusals, missing, remedy_refusals, handler_refusals, table_refusals, item_refusals, list_refusals, handlers_in, refusals, of_two, lesser, least_after, least};

@@ -1,9 +1,9 @@
 //! What values a key may have.
 
-ghost use Rattle.std.specs.Prelude.{◌≡◌, ◌<◌, ◌^◌, option_map, option_copied};
+ghost use Rattle.std.specs.Prelude.{◌≡◌, ◌<◌, option_map};
 ghost use Rattle.toml.specs.Data.{get_member, as_integer};
 ghost use Rattle.toml.specs.View.{view, table_view, array_view};
-ghost use Rattle.wc_handlers.specs.Values.{within, abort_of, count, are_few, is_status, all_statuses, are_statuses, all_tables, are_handlers, is_name_in, is_held};
+ghost use Rattle.wc_handlers.specs.Values.{within, abort_of, count, are_few, all_statuses, are_statuses, all_tables, are_handlers, is_name_in, is_held};
 
 use crate::keys::Holds;
 use crate::names::is_name;

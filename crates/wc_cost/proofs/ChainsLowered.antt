@@ -139,10 +139,10 @@ module _ (results : Request → Option JobResult) (w : World) (r : ProcessRecord
 
   -- ---- before
 
-  abbrev CostsAt : Checkpoint → ℕ → List (Label × Tree) → Type 0
+  abbrev pub CostsAt : Checkpoint → ℕ → List (Label × Tree) → Type 0
   CostsAt d n trees = Costs g (left (blocks k.outline) d.frames) (progress_in view inputs (map as_call trees) d) n
 
-  abbrev CostsHere : Checkpoint → ℕ → Type 0
+  abbrev pub CostsHere : Checkpoint → ℕ → Type 0
   CostsHere d n = (trees : List (Label × Tree)) × (bound_trees w r d ≡ Some trees) × CostsAt d n trees
 
   named : definition_named r.definition library ≡ Some (definition.Chain k)
@@ -160,7 +160,7 @@ module _ (results : Request → Option JobResult) (w : World) (r : ProcessRecord
             ∙ priced.1,
       )
 
-  costs_by : (d : Checkpoint) → Standing r d → (n : ℕ) → PartOwes results w r r.part n → CostsHere d n
+  pub costs_by : (d : Checkpoint) → Standing r d → (n : ℕ) → PartOwes results w r r.part n → CostsHere d n
   costs_by _ (begins a b) n owes = ([], refl, costs_first n (subst (λ (x : Part). PartOwes results w r x n) b owes))
   costs_by _ (runs d a b) n owes =
       owes_into results w w r k library d (record {
@@ -175,10 +175,10 @@ module _ (results : Request → Option JobResult) (w : World) (r : ProcessRecord
       }) n (subst (λ (x : Part). PartOwes results w r x n) b owes)
 
   -- what is due after the advance is one less
-  abbrev CostsAfter : Advanced → ℕ → Type 0
+  abbrev pub CostsAfter : Advanced → ℕ → Type 0
   CostsAfter x n = (trees : List (Label × Tree)) × (bound_trees w r c ≡ Some trees) × ((b : ℕ) × (m : ℕ) × (cost_after g k view inputs (map as_call trees) b x ≡ Some m) × (n ≡ m + 1))
 
-  costs_after : (x : Advanced) → advance library k r.depth env c ≡ x → (n : ℕ) → CostsHere c n → CostsAfter x n
+  pub costs_after : (x : Advanced) → advance library k r.depth env c ≡ x → (n : ℕ) → CostsHere c n → CostsAfter x n
   costs_after x e n (trees, h, (zero, p)) = absurd (cc p)
   costs_after x e n (trees, h, (suc b, p)) =
       let law = advances_cost_one library k r.depth view inputs c (map as_call trees) (by_request results) (kills w r.node) b (seen_right w r.node) g refl in

@@ -31,6 +31,47 @@ owed_in results w pid r (x ∷ xs) k (a, b, one, rest, sum) found = at (x.node =
     at true is later = let same : x ≡ r = cc in (a, subst (λ (y : ProcessRecord). PartOwes results w y y.part a) same one)
     at false is later = later is
 
+-- ---- the sum over the records that were there
+
+module _ (results : Request → Option JobResult) (v w : World) (pid : ℕ) (f : ProcessRecord → ProcessRecord) (s : IsSound v) (t : Touches v w pid) (may : MayBeTouched v pid)
+    (none : KillsNone v w pid) (r : ProcessRecord) (found : find_record pid v.records ≡ Some r)
+    (j m : ℕ) (new : PartOwes results w (f r) (f r).part m) (was : PartOwes results v r r.part (m + j)) where
+  abbrev IsThere : ProcessRecord → Type 0
+  IsThere x = find_record x.node v.records ≡ Some x
+
+  one_lowered : (x : ProcessRecord) → IsThere x → (n : ℕ) → PartOwes results v x x.part n → (here : Bool) → (x.node == pid) ≡ here
+      → (l : ℕ) × PartOwes results w (if here then f x else x) (if here then f x else x).part l × (n ≡ l + (if here then j else 0))
+  one_lowered x there n h true is =
+      let e : x.node ≡ pid = eqb-true x.node pid is in
+      let again : Some x ≡ Some r = sym there ∙ ap (λ (i : ℕ). find_record i v.records) e ∙ found in
+      let same : x ≡ r = cc in
+      let sum : n ≡ m + j = part_one results v r r.part n (m + j) (subst (λ (y : ProcessRecord). PartOwes results v y y.part n) same h) was in
+      (m, subst (λ (y : ProcessRecord). PartOwes results w (f y) (f y).part m) (sym same) new, sum)
+  one_lowered x there n h false is =
+      let sum : n ≡ n + 0 = omega arith in
+      (n, others_owe_the_same results v w pid s t may none x there (λ e. let yes : (x.node == pid) ≡ true = eq-eqb x.node pid (sym e) in cc (yes, is)) n h, sum)
+
+  all_lowered : (rs : List ProcessRecord) → All IsThere rs → (k : ℕ) → AllOwe results v rs k → (l : ℕ) × AllOwe results w (at_process pid f rs) l × (k ≡ l + sum_of (only pid j) rs)
+  all_lowered [] there k h = (0, refl, h)
+  all_lowered (x ∷ xs) there k (a, b, one, rest, sum) =
+      let here = one_lowered x (All-head IsThere x xs there) a one (x.node == pid) refl in
+      let later = all_lowered xs (All-tail IsThere x xs there) b rest in
+      let e = here.2 in
+      let d = later.2 in
+      (here.0 + later.0, (here.0, later.0, here.1, later.1, refl), omega (arith, sum, e, d))
+
+  pub old_lowered : (k : ℕ) → IsLeft results v k → (l : ℕ) × AllOwe results w (at_process pid f v.records) l × (k ≡ l + j)
+  old_lowered k h =
+      let all = all_lowered v.records (λ i d lt. unique 1 v.nodes v.records s.consistent.numbered i d lt) k h in
+      let number : r.node ≡ pid = found_node pid v.records r found in
+      let most : sum_of (only pid j) v.records ≤ j = only_once 1 v.nodes v.records s.consistent.numbered pid j in
+      let its : only pid j r ≡ j = cond-true (r.node == pid) j 0 (eq-eqb r.node pid number) in
+      let least : only pid j r ≤ sum_of (only pid j) v.records = found_within (only pid j) pid v.records r found in
+      let sum = all.2 in
+      (all.0, all.1, omega (arith, most, its, least, sum))
+
+-- ---- where there are no other records
+
 module _ (results : Request → Option JobResult) (v w : World) (pid : ℕ) (f : ProcessRecord → ProcessRecord) (s : IsSound v) (t : Touches v w pid) (may : MayBeTouched v pid)
     (records : w.records ≡ at_process pid f v.records) (keeps : (x : ProcessRecord) → (f x).node ≡ x.node)
     (r : ProcessRecord) (found : find_record pid v.records ≡ Some r) (lives : is_killed (f r).state ≡ false) where
@@ -57,36 +98,8 @@ module _ (results : Request → Option JobResult) (v w : World) (pid : ℕ) (f :
           let high : length v.nodes < q.node = beyond in
           omega (arith, low, high)
 
-  module _ (j m : ℕ) (new : PartOwes results w (f r) (f r).part m) (was : PartOwes results v r r.part (m + j)) where
-    abbrev IsThere : ProcessRecord → Type 0
-    IsThere x = find_record x.node v.records ≡ Some x
-
-    one_lowered : (x : ProcessRecord) → IsThere x → (n : ℕ) → PartOwes results v x x.part n → (here : Bool) → (x.node == pid) ≡ here
-        → (l : ℕ) × PartOwes results w (if here then f x else x) (if here then f x else x).part l × (n ≡ l + (if here then j else 0))
-    one_lowered x there n h true is =
-        let e : x.node ≡ pid = eqb-true x.node pid is in
-        let again : Some x ≡ Some r = sym there ∙ ap (λ (i : ℕ). find_record i v.records) e ∙ found in
-        let same : x ≡ r = cc in
-        let sum : n ≡ m + j = part_one results v r r.part n (m + j) (subst (λ (y : ProcessRecord). PartOwes results v y y.part n) same h) was in
-        (m, subst (λ (y : ProcessRecord). PartOwes results w (f y) (f y).part m) (sym same) new, sum)
-    one_lowered x there n h false is =
-        let sum : n ≡ n + 0 = omega arith in
-        (n, others_owe_the_same results v w pid s t may kills_none x there (λ e. let yes : (x.node == pid) ≡ true = eq-eqb x.node pid (sym e) in cc (yes, is)) n h, sum)
-
-    all_lowered : (rs : List ProcessRecord) → All IsThere rs → (k : ℕ) → AllOwe results v rs k → (l : ℕ) × AllOwe results w (at_process pid f rs) l × (k ≡ l + sum_of (only pid j) rs)
-    all_lowered [] there k h = (0, refl, h)
-    all_lowered (x ∷ xs) there k (a, b, one, rest, sum) =
-        let here = one_lowered x (All-head IsThere x xs there) a one (x.node == pid) refl in
-        let later = all_lowered xs (All-tail IsThere x xs there) b rest in
-        let e = here.2 in
-        let d = later.2 in
-        (here.0 + later.0, (here.0, later.0, here.1, later.1, refl), omega (arith, sum, e, d))
-
-    pub lowered : (k : ℕ) → IsLeft results v k → (l : ℕ) × IsLeft results w l × (k ≡ l + j)
-    lowered k h =
-        let all = all_lowered v.records (λ i d lt. unique 1 v.nodes v.records s.consistent.numbered i d lt) k h in
-        let most : sum_of (only pid j) v.records ≤ j = only_once 1 v.nodes v.records s.consistent.numbered pid j in
-        let its : only pid j r ≡ j = cond-true (r.node == pid) j 0 (eq-eqb r.node pid number) in
-        let least : only pid j r ≤ sum_of (only pid j) v.records = found_within (only pid j) pid v.records r found in
-        let sum = all.2 in
-        (all.0, subst (λ (rs : List ProcessRecord). AllOwe results w rs all.0) (sym records) all.1, omega (arith, most, its, least, sum))
+  pub lowered : (j m : ℕ) (new : PartOwes results w (f r) (f r).part m) (was : PartOwes results v r r.part (m + j)) (k : ℕ) → IsLeft results v k
+      → (l : ℕ) × IsLeft results w l × (k ≡ l + j)
+  lowered j m new was k h =
+      let all = old_lowered results v w pid f s t may kills_none r found j m new was k h in
+      (all.0, subst (λ (rs : List ProcessRecord). AllOwe results w rs all.0) (sym records) all.1, all.2)

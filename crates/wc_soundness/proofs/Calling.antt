@@ -191,7 +191,7 @@ module _ (w v : World) (r : ProcessRecord) (k : Chain) (library : List Definitio
   values_now : set_values v d.outputs ≡ Some (values_of (view_of w) d.outputs)
   values_now = values_there v w d.outputs (All-weaker (λ (o : Label × ℕ). IsData w w o.1) (λ (o : Label × ℕ). IsData v w o.1) (λ o. data_stays o.1) d.outputs on.values)
 
-  progress_now : (o : Option (List (Label × Tree))) → bound_trees w r c ≡ o
+  pub progress_now : (o : Option (List (Label × Tree))) → bound_trees w r c ≡ o
       → progress_of v s then_at ≡ progress_with (Some (env_alone (env_in (view_of w) (inputs_of w r.node) d.ctx))) (Some (values_of (view_of w) d.outputs)) o
   progress_now o h = λ i. progress_with (option_map env_alone (env_now i)) (values_now i) ((same_trees ∙ h) i)
 

@@ -82,7 +82,7 @@ module _ (w : World) (r : ProcessRecord) (k : Chain) (library : List Definition)
     v = submitted w r d calls
 
     -- the called processes are there, with the inputs that were planned
-    made : EachCall w r (IsMade w r v) (first_free w r) calls
+    pub made : EachCall w r (IsMade w r v) (first_free w r) calls
     made = each_both w r (λ n x. find_record (called_number w r n x) v.records ≡ Some (child_record w r n x)) (λ n x. recorded_inputs v (called_number w r n x) ≡ values_in x.args)
         (first_free w r) calls (found_children w r at.sound.consistent at.found d calls)
         (called_inputs w r at.sound.consistent d calls (calls_read w r k library c env at d calls e) (calls_ascend w r k library c env at d calls e))
@@ -97,7 +97,7 @@ module _ (w : World) (r : ProcessRecord) (k : Chain) (library : List Definition)
       planned = awaited_is w r v (first_free w r) calls made;
     }
 
-    calling : IsCalling w v r k library c d calls
+    pub calling : IsCalling w v r k library c d calls
     calling = record {
       sound = at.sound;
       found = at.found;

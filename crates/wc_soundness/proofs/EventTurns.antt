@@ -54,12 +54,12 @@ of_end w last cs s places = record { accepted = s.accepted places; continues = s
 
 -- ---- kinds
 
-function_calculates : (f : Function) (k : ProcessKind) → is_of_kind k (Some (definition.Function f)) ≡ true → is_calculation k ≡ true
+pub function_calculates : (f : Function) (k : ProcessKind) → is_of_kind k (Some (definition.Function f)) ≡ true → is_calculation k ≡ true
 function_calculates f kind.Function h = refl
 function_calculates f kind.Job h = absurd (cc)
 function_calculates f kind.Chain h = absurd (cc)
 
-job_calculates : (j : Job) (k : ProcessKind) → is_of_kind k (Some (definition.Job j)) ≡ true → is_calculation k ≡ true
+pub job_calculates : (j : Job) (k : ProcessKind) → is_of_kind k (Some (definition.Job j)) ≡ true → is_calculation k ≡ true
 job_calculates j kind.Function h = absurd (cc)
 job_calculates j kind.Job h = refl
 job_calculates j kind.Chain h = absurd (cc)
@@ -67,7 +67,7 @@ job_calculates j kind.Chain h = absurd (cc)
 -- ---- turns
 
 module _ (poll now : ℕ) (w : World) (r : ProcessRecord) (sound : IsSound w) (found : find_record r.node w.records ≡ Some r) where
-  of_kind : (d : Definition) → its_definition w r ≡ Some d → is_of_kind r.kind (Some d) ≡ true
+  pub of_kind : (d : Definition) → its_definition w r ≡ Some d → is_of_kind r.kind (Some d) ≡ true
   of_kind d e =
       let stands : Stands w r = found_holds (Stands w) r.node w.records r sound.consistent.records found in
       sym (ap (is_of_kind r.kind) e) ∙ stands.defined

@@ -78,7 +78,7 @@ module _ (v w : World) (s : IsSound v) (c : Continues v w) where
     library_kept l there =
         ap (λ (ks : List Known). library_at ks r.library) c.libraries.1 ∙ library_stays v.libraries c.libraries.0 r.library l there
 
-    request_kept : (q : Request) → recorded_request v r ≡ Some (Gives q) → recorded_request w r ≡ Some (Gives q)
+    pub request_kept : (q : Request) → recorded_request v r ≡ Some (Gives q) → recorded_request w r ≡ Some (Gives q)
     request_kept q asked = by (library_at v.libraries r.library) refl asked
       where
         inputs : recorded_inputs w r.node ≡ recorded_inputs v r.node
@@ -90,12 +90,12 @@ module _ (v w : World) (s : IsSound v) (c : Continues v w) where
         by (Some l) is e = (λ i. request_by (option_and_then (definition_named r.definition) ((library_kept l is ∙ is) i)) (inputs i)) ∙ e
 
     module _ (over : has_ended r.state ≡ true) where
-      record_kept : find_record r.node w.records ≡ Some r
+      pub record_kept : find_record r.node w.records ≡ Some r
       record_kept =
           let h = found_holds (λ x. (y : ProcessRecord) × (find_record x.node w.records ≡ Some y) × Carries x y) r.node v.records r c.records found in
           h.1 ∙ ap (λ (x : ProcessRecord). Some x) (h.2.ended over)
 
-      outputs_kept : recorded_outputs w r.node ≡ recorded_outputs v r.node
+      pub outputs_kept : recorded_outputs w r.node ≡ recorded_outputs v r.node
       outputs_kept =
           let m = recorded_is_meant v r (table_of v r.node) 0 s (record { found = found; ended = over }) (its_table_agrees v s r.node) in
           let tree : recorded_tree w r.node ≡ recorded_tree v r.node
@@ -119,11 +119,11 @@ module _ (v w : World) (s : IsSound v) (c : Continues v w) where
 
   -- ---- results
 
-  result_ends : (q : ℕ) (x : JobResult) → HasResult v q x → (r : ProcessRecord) × (find_record q v.records ≡ Some r) × (has_ended r.state ≡ true)
+  pub result_ends : (q : ℕ) (x : JobResult) → HasResult v q x → (r : ProcessRecord) × (find_record q v.records ≡ Some r) × (has_ended r.state ≡ true)
   result_ends q x (own r code files found is_job is_code folder) = (r, found, code_ends r found code is_code)
   result_ends q x (cached r source y found is_job alive from rest) = (r, found, source_ends r found source from)
 
-  result_kept : (q : ℕ) (x : JobResult) → HasResult v q x → HasResult w q x
+  pub result_kept : (q : ℕ) (x : JobResult) → HasResult v q x → HasResult w q x
   result_kept q x (own r code files found is_job is_code folder) =
       let over = code_ends r found code is_code in
       own r code files (record_kept r found over) is_job is_code

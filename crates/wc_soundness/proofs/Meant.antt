@@ -66,14 +66,14 @@ use Rattle.wc_soundness.proofs.Values.{int_allowed, number_gives, input_gives, b
 
 -- ---- the jobs
 
-abbrev job_replayed : (digit asks : ℕ) → ℕ → Replayed
+abbrev pub job_replayed : (digit asks : ℕ) → ℕ → Replayed
 job_replayed digit asks n = record { tree = fans.job_tree digit (pos n); asked = ([], fans.request asks) ∷ [] }
 
 -- the call of a job that isn't killed, whose result the table has
 module _ (table : Table) (cuts : Kills) (label : Label) (n digit asks m : ℕ) (lives : cuts (label ∷ []) ≡ None)
     (requests : request double (x_is n) ≡ Gives (fans.request asks)) (row : table (label ∷ []) (fans.request asks) ≡ Some (fans.result digit))
     (parses : parsed double (x_is n) (fans.result digit) ≡ fans.job_outcome digit (pos m)) where
-  job_called : (fuel : ℕ) → (around 15 library table cuts).call label fuel (codes "double") (x_is n) ≡ Gave (job_replayed digit asks m) fuel
+  pub job_called : (fuel : ℕ) → (around 15 library table cuts).call label fuel (codes "double") (x_is n) ≡ Gave (job_replayed digit asks m) fuel
   job_called fuel =
       ap (λ o. by_kill o (Some (definition.Job double)) (surrounding library (calls_of 14 library (under label table) (under label cuts))) (table (label ∷ [])) fuel (codes "double") (x_is n)) lives
       ∙ ap (λ o. job (codes "double") o (parsed double (x_is n)) (table (label ∷ [])) fuel) requests
@@ -82,16 +82,16 @@ module _ (table : Table) (cuts : Kills) (label : Label) (n digit asks m : ℕ) (
 
 -- ---- the first step
 
-abbrev before : Env
+abbrev pub before : Env
 before = env_of fans.input
 
-abbrev kinds : List ℕ → Option Kind
+abbrev pub kinds : List ℕ → Option Kind
 kinds = kinds_of fan.head.outputs
 
-abbrev takes : List ℕ → Values → Bool
+abbrev pub takes : List ℕ → Values → Bool
 takes = takes_of library
 
-abbrev plan : ℕ → Planned
+abbrev pub plan : ℕ → Planned
 plan n = record { callee = codes "double"; key = fans.parts; append = true; inputs = x_is n }
 
 -- the value of a form, from its level
@@ -126,7 +126,7 @@ three_taken : takes (codes "double") (x_is 3) ≡ true
 unfolding out-Value denote.Hole.Carrier.out
 three_taken = refl
 
-go_plans : statements.statements false takes kinds go.stmts [] before [] ≡ Makes (plan 2 ∷ (plan 3 ∷ [])) before []
+pub go_plans : statements.statements false takes kinds go.stmts [] before [] ≡ Makes (plan 2 ∷ (plan 3 ∷ [])) before []
 go_plans =
     call_then (calls_with input_a) (plan 2) (stmt.Call (calls_with one_more) ∷ []) [] before [] (collected_as input_a 2 input_passed two_taken)
     ∙ call_then (calls_with one_more) (plan 3) [] (plan 2 ∷ []) before [] (collected_as one_more 3 sum_passed three_taken)
@@ -134,7 +134,7 @@ go_plans =
 -- ---- the second step
 
 -- a child without numbers of nodes
-abbrev child_alone : ℕ → ℕ → Child
+abbrev pub child_alone : ℕ → ℕ → Child
 child_alone digit n = record {
   node = 0;
   state = state.Finished 0;
@@ -142,7 +142,7 @@ child_alone digit n = record {
       (codes "retrieved", record { node = 0; value = value.Folder (fans.printed digit) }) ∷ ((codes "value", record { node = 0; value = value.Int (pos n) }) ∷ []);
 }
 
-abbrev after : Env
+abbrev pub after : Env
 after = record { inputs = before.inputs; ctx = (fans.parts, item.Many (child_alone 52 4 ∷ (child_alone 54 6 ∷ []))) ∷ [] }
 
 -- the value that a place among the children gives
@@ -182,22 +182,22 @@ last_value = output_from 1 6 (number_gives after (pos 1) (int_allowed _ refl)) r
 abbrev outputs : Values
 outputs = (codes "first", value.Int (pos 4)) ∷ ((codes "last", value.Int (pos 6)) ∷ [])
 
-done_sets : statements.statements false takes kinds done.stmts [] after [] ≡ Makes [] after outputs
+pub done_sets : statements.statements false takes kinds done.stmts [] after [] ≡ Makes [] after outputs
 done_sets =
     out_then (word (codes "first")) (output_at 0) (value.Int (pos 4)) (stmt.Out 0 (word (codes "last")) (output_at 1) ∷ []) [] after [] first_value
     ∙ out_then (word (codes "last")) (output_at 1) (value.Int (pos 6)) [] [] after ((codes "first", value.Int (pos 4)) ∷ []) last_value
 
 -- ---- the calls
 
-one_label : runs.label fans.parts 1 ≡ fans.one
+pub one_label : runs.label fans.parts 1 ≡ fans.one
 unfolding digits
 one_label = refl
 
-two_label : runs.label fans.parts 2 ≡ fans.two
+pub two_label : runs.label fans.parts 2 ≡ fans.two
 unfolding digits
 two_label = refl
 
-abbrev begun : Progress
+abbrev pub begun : Progress
 begun = record { env = before; outputs = []; calls = [] }
 
 -- after both calls
@@ -229,7 +229,7 @@ module _ (a : Around) (t u : Replayed) (first : (n : ℕ) → a.call fans.one n 
 does_step : (s : Step) → exec (instr.Step s) ≡ step_of s.stmts
 does_step s = ap exec (sym (instr.rolls-Step s)) ∙ fold-roll-Instr Act (Expr × Act) Act runs.instr runs.arm runs.block (Instr-F.Step s)
 
-fan_instrs : runs.instrs fan.outline ≡ instr.Step go ∷ (instr.Step done ∷ [])
+pub fan_instrs : runs.instrs fan.outline ≡ instr.Step go ∷ (instr.Step done ∷ [])
 fan_instrs = ap (λ b. b.instrs) (out-roll-Block (record { instrs = instr.Step go ∷ (instr.Step done ∷ []) }))
 
 abbrev in_fan : Option ℕ → Table → Kills → Around
@@ -251,7 +251,7 @@ first_replayed = job_replayed 52 50 4
 abbrev second_replayed : Replayed
 second_replayed = job_replayed 54 51 6
 
-job_child : (digit asks n : ℕ) → runs.child (job_replayed digit asks n) ≡ child_alone digit n
+pub job_child : (digit asks n : ℕ) → runs.child (job_replayed digit asks n) ≡ child_alone digit n
 job_child digit asks n = ap (λ (f : Tree-F Tree). record { node = 0; state = f.state; outputs = map unnumbered f.outputs }) (out-roll-Tree (record {
   definition = codes "double";
   state = state.Finished 0;

@@ -67,7 +67,7 @@ one_given TooLittle b x m h e = absurd (cc e)
 one_given (Without q) b x m h e = absurd (cc e)
 one_given Astray b x m h e = absurd (cc e)
 
-trees_again : (ts : List (Label × Tree)) → map its_tree (map as_call ts) ≡ ts
+pub trees_again : (ts : List (Label × Tree)) → map its_tree (map as_call ts) ≡ ts
 trees_again [] = refl
 trees_again (t ∷ ts) = ap (λ (l : List (Label × Tree)). t ∷ l) (trees_again ts)
 
@@ -83,7 +83,7 @@ called_is_bound (l ∷ ls) pid label c h = at (is_call_from pid l && bytes_eq l.
     at true h later = refl
     at false h later = later h
 
-awaited_none : (w : World) (as' : List Await) → awaited w as' ≡ Some [] → as' ≡ []
+pub awaited_none : (w : World) (as' : List Await) → awaited w as' ≡ Some [] → as' ≡ []
 awaited_none w [] h = refl
 awaited_none w (a ∷ as') h = absurd (at (planned_of w a (find_record a.pid w.records)) (awaited w as') h)
   where

@@ -239,7 +239,7 @@ module _ (v w : World) (pid : ℕ) (s : IsSound v) (t : Touches v w pid) (may : 
 
     -- ---- what it still gives
 
-    awaited_same : awaited w c.awaiting ≡ awaited v c.awaiting
+    pub awaited_same : awaited w c.awaiting ≡ awaited v c.awaiting
     awaited_same =
         let a = list_all (λ x. has_called v.links r.node x.pid) c.awaiting in
         let b = list_all (λ x. held_fits v.records x.1) c.ctx && list_all (λ x. is_data_node (node_of v.nodes x.1)) c.outputs in
@@ -276,7 +276,7 @@ module _ (v w : World) (pid : ℕ) (s : IsSound v) (t : Touches v w pid) (may : 
         ap (λ (ls : List Link). branches (recorded_tree w) r.node (take (bound_calls c) ls)) links_kept
         ∙ trees_kept (take (bound_calls c) (call_links v r.node)) bound_over
 
-    progress_same : progress_of w r c ≡ progress_of v r c
+    pub progress_same : progress_of w r c ≡ progress_of v r c
     progress_same = λ i. progress_with (option_map env_alone (environment_kept i)) (outputs_same i) (bound_same i)
 
   pub definition_same : its_definition w r ≡ its_definition v r

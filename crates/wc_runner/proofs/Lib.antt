@@ -4,14 +4,14 @@ pub mod Widened
 pub mod Journals
 pub mod ManyTurns
 mod Answered
-mod Sets
+pub mod Sets
 pub mod Marked
-mod Taken
+pub mod Taken
 mod Needed
 mod Accepted
 pub mod Leaving
-mod Placed
-mod Codes
+pub mod Placed
+pub mod Codes
 mod UnderWay
 mod Trailed
 mod TrailLaws

@@ -26,13 +26,12 @@ use Rattle.wc_semantics.specs.declared.progress.Replayed.{Replayed}
 use Rattle.wc_semantics.proofs.Keeps.{meaning_more}
 use Rattle.wc_state.specs.declared.environment.Env.{Env}
 use Rattle.wc_state.specs.declared.environment.Item.{Item}
-use Rattle.wc_state.specs.declared.record.Await.{Await}
 use Rattle.wc_state.specs.declared.record.Checkpoint.{Checkpoint}
 use Rattle.wc_state.specs.declared.record.Part.{Part}
 use Rattle.wc_state.specs.declared.record.Part.TheVariants as part
 use Rattle.wc_state.specs.declared.record.ProcessRecord.{ProcessRecord}
 use Rattle.wc_world.specs.Applied.{set}
-use Rattle.wc_world.specs.Records.{find_record, is_call_from, library_at}
+use Rattle.wc_world.specs.Records.{is_call_from, library_at}
 use Rattle.wc_world.specs.Trees.{Branch, branches, context_of, environment_at, inputs_of, items_of, recorded_tree}
 use Rattle.wc_world.specs.World.{World}
 use Rattle.wc_world.proofs.FoundRecords.{right}
@@ -41,7 +40,7 @@ use Rattle.wc_machine.specs.Calling.{bound, bound_in, fuel_of}
 use Rattle.wc_machine.specs.Outlines.{blocks, left}
 use Rattle.wc_machine.specs.Paths.{call_links, kills}
 use Rattle.wc_machine.specs.Readiness.{may_go}
-use Rattle.wc_machine.specs.Resting.{and_planned, as_call, awaited, bound_calls, bound_trees, env_alone, levels_of, planned_of, progress_of, progress_with}
+use Rattle.wc_machine.specs.Resting.{as_call, bound_calls, bound_trees, env_alone, levels_of, progress_of, progress_with}
 use Rattle.wc_machine.specs.Sound.{IsSound}
 use Rattle.wc_machine.specs.Tasks.{saturated}
 use Rattle.wc_machine.proofs.Frames.{branches_by}
@@ -53,6 +52,7 @@ use Rattle.wc_soundness.proofs.KillChildren.{IsOver}
 use Rattle.wc_soundness.proofs.KillTaken.{Known, Taken, bound_now, plans}
 use Rattle.wc_soundness.proofs.KilledStanding.{IsStanding, branches_append, calls_over, is_standing, library_of, many_calls, names_bound, one_level, progress_is, ready, some_awaited, standing_at}
 use Rattle.wc_soundness.proofs.KnownChildren.{AreTaken, taken_all}
+use Rattle.wc_soundness.proofs.OnTrack.{awaited_none, trees_again}
 use Rattle.wc_soundness.proofs.OthersOnTrack.{items_same, over_same}
 use Rattle.wc_soundness.proofs.Replaced.{after, found_now, may, now, touches}
 use Rattle.wc_cost.specs.Cost.{Costs, Tolls, bare, bare_calls, bill, due_of, price, tolls, unasked}
@@ -131,19 +131,6 @@ module _ (levels : ℕ) (library : List Definition) (table : Table) (cuts : Kill
 bare_as_calls : (cs : List (Label × Replayed)) → bare_calls cs ≡ map as_call (map its_tree cs)
 bare_as_calls [] = refl
 bare_as_calls (c ∷ cs) = ap (λ (l : List (Label × Replayed)). (c.0, unasked c.1.tree) ∷ l) (bare_as_calls cs)
-
-trees_again : (ts : List Branch) → map its_tree (map as_call ts) ≡ ts
-trees_again [] = refl
-trees_again (t ∷ ts) = ap (λ (l : List Branch). t ∷ l) (trees_again ts)
-
-awaited_none : (w : World) (as' : List Await) → awaited w as' ≡ Some [] → as' ≡ []
-awaited_none w [] h = refl
-awaited_none w (a ∷ as') h = absurd (at (planned_of w a (find_record a.pid w.records)) (awaited w as') h)
-  where
-    at : (o : Option Planned) (m : Option (List Planned)) → and_planned o m ≡ Some [] → ⊥
-    at None m h = cc h
-    at (Some p) None h = cc h
-    at (Some p) (Some ps) h = cc h
 
 -- ---- a waiting chain whose children have ended
 

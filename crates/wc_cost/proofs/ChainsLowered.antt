@@ -21,13 +21,11 @@ use Rattle.wc_state.specs.declared.environment.Item.{Item}
 use Rattle.wc_state.specs.declared.record.Checkpoint.{Checkpoint}
 use Rattle.wc_state.specs.declared.record.Part.{Part}
 use Rattle.wc_state.specs.declared.record.Part.TheVariants as part
-use Rattle.wc_state.specs.declared.record.ProcessKind.{ProcessKind}
 use Rattle.wc_state.specs.declared.record.ProcessKind.TheVariants as kind
 use Rattle.wc_state.specs.declared.record.ProcessRecord.{ProcessRecord}
 use Rattle.wc_world.specs.declared.change.Change.{Change}
 use Rattle.wc_world.specs.World.{World}
 use Rattle.wc_world.specs.Applied.{applied, set}
-use Rattle.wc_world.specs.Fits.{is_of_kind}
 use Rattle.wc_world.specs.Records.{has_ended, is_call_from}
 use Rattle.wc_world.specs.Trees.{NamedValues, branches, context_of, environment_at, inputs_of, items_of, recorded_tree, values_alone}
 use Rattle.wc_machine.specs.Advancing.{Advanced, goes, loops, submits, ends, advance}
@@ -48,7 +46,8 @@ use Rattle.wc_soundness.specs.Replacing.{set_to}
 use Rattle.wc_soundness.specs.TrackLaws.{IsAtTurn}
 use Rattle.wc_soundness.proofs.Alive.{advances_end_alive}
 use Rattle.wc_soundness.proofs.ChainAdvances.{env_is, numbered}
-use Rattle.wc_soundness.proofs.ChainStanding.{Standing, begins, runs, awaits_none, is_live, its_fit, its_stand, keys_here, keys_there, outputs_data, stands_at, trees_stay}
+use Rattle.wc_soundness.proofs.ChainStanding.{Standing, begins, runs, awaits_none, is_live, its_fit, keys_here, keys_there, outputs_data, stands_at, trees_stay}
+use Rattle.wc_soundness.proofs.ChainSubmissions.{is_chain}
 use Rattle.wc_soundness.proofs.EndedChains.{touched, may}
 use Rattle.wc_soundness.proofs.OneSet.{at_checkpoint, found_now, goes_touch, kills_same, may_go, now_runs, went}
 use Rattle.wc_soundness.proofs.Rests.{IsSeenAt}
@@ -104,11 +103,6 @@ module _ (results : Request → Option JobResult) (v w : World) (s : ProcessReco
 one_more : (o : Option ℕ) (n : ℕ) → more 1 o ≡ Some n → (m : ℕ) × (o ≡ Some m) × (n ≡ m + 1)
 one_more None n h = absurd (cc h)
 one_more (Some m) n h = let e : 1 + m ≡ n = cc in (m, refl, omega (arith, e))
-
-chain_kind : (o : ProcessKind) (k : Chain) → is_of_kind o (Some (definition.Chain k)) ≡ true → o ≡ kind.Chain
-chain_kind kind.Function k h = absurd (cc)
-chain_kind kind.Job k h = absurd (cc)
-chain_kind kind.Chain k h = refl
 
 judged_alive : (w : World) (r : ProcessRecord) (ports : List Port) (s : ProcessState) (os : List (Label × ℕ)) → has_ended s ≡ true → s ≢ state.Killed
     → (has_ended (judged w r ports s os) ≡ true) × (judged w r ports s os ≢ state.Killed)
@@ -248,17 +242,17 @@ module _ (results : Request → Option JobResult) (w : World) (r : ProcessRecord
       let lives : EndsAlive (ends s os) = subst EndsAlive e (advances_end_alive library k r.depth env c) in
       let to : ProcessState = judged w r k.head.outputs s os in
       let good = judged_alive w r k.head.outputs s os lives.0 lives.1 in
-      let is_chain : r.kind ≡ kind.Chain = chain_kind r.kind k (ap (is_of_kind r.kind) (sym at.definition) ∙ (its_stand w at.sound r at.found).defined) in
+      let chain : r.kind ≡ kind.Chain = is_chain w r k library c env at in
       let os' = kept_of s os in
       let l = lowered results w (ended_to w r to os') r.node (set (w.batches + 1) (set_to r to r.fuel part.Over)) at.sound
-      (touched w r c at.sound at.found stands is_chain to os' good.0) (may w r c at.sound at.found stands is_chain to os' good.0) refl (λ x. refl) r at.found (not_killed to good.1)
+      (touched w r c at.sound at.found stands chain to os' good.0) (may w r c at.sound at.found stands chain to os' good.0) refl (λ x. refl) r at.found (not_killed to good.1)
       1 0 refl (let z : 1 ≡ 0 + 1 = omega arith in subst (PartOwes results w r r.part) z was) total rest in
       let sum = l.2 in
       let same : applied w (advanced w r k.head.outputs (ends s os)) ≡ ended_to w r to os' =
       ap (λ (cs : List Change). applied w (cs ++ chain_set w r to r.fuel part.Over ∷ [])) (kept_is w r s os) ∙ applied_ending w r to os' in
       subst (λ (v : World). LeavesLess results r.node v total) (sym same) (l.0, l.1, omega (arith, sum), λ none. omega (arith, sum))
 
-  -- ---- each advance that submits no calls
+  -- ---- an advance
 
   advance_less : (total n : ℕ) → IsLeft results w total → PartOwes results w r r.part n → (x : Advanced) → advance library k r.depth env c ≡ x → SubmitsNone x → CostsAfter x n
       → LeavesLess results r.node (applied w (advanced w r k.head.outputs x)) total
@@ -275,11 +269,12 @@ module _ (results : Request → Option JobResult) (w : World) (r : ProcessRecord
       let one : n ≡ 1 = omega (arith, sum, zero_is) in
       ends_less total rest (subst (PartOwes results w r r.part) one was) s os e
 
-  pub turn_less : (total : ℕ) → IsLeft results w total → SubmitsNone (advance library k r.depth env c)
-      → LeavesLess results r.node (applied w (advanced w r k.head.outputs (advance library k r.depth env c))) total
-  turn_less total rest none =
+  -- each advance that submits no calls
+  pub advance_lowers : (total : ℕ) → IsLeft results w total → (x : Advanced) → advance library k r.depth env c ≡ x → SubmitsNone x
+      → LeavesLess results r.node (applied w (advanced w r k.head.outputs x)) total
+  advance_lowers total rest x e none =
       let owed = owed_in results w r.node r w.records total rest at.found in
-      advance_less total owed.0 rest owed.1 (advance library k r.depth env c) refl none (costs_after (advance library k r.depth env c) refl owed.0 (costs_by c stands owed.0 owed.1))
+      advance_less total owed.0 rest owed.1 x e none (costs_after x e owed.0 (costs_by c stands owed.0 owed.1))
 
 pub advances_lower : AdvancesLower
-advances_lower results w r k library c env total at none rest = turn_less results w r k library c env at total rest none
+advances_lower results w r k library c env total at none rest = advance_lowers results w r k library c env at total rest (advance library k r.depth env c) refl none

@@ -15,3 +15,5 @@ pub mod OneLowered
 pub mod CalculationsLowered
 pub mod ChainsLowered
 pub mod Bound
+pub mod CallsLowered
+pub mod TurnsLowered

@@ -22,8 +22,10 @@ use Rattle.wc_syntax.specs.declared.definition.Definition.TheVariants as definit
 use Rattle.wc_state.specs.declared.record.Part.TheVariants as part
 use Rattle.wc_world.specs.Accepted.{IsAccepted}
 use Rattle.wc_machine.specs.Agreeing.{AgreesWithWorld}
+use Rattle.wc_machine.specs.Machine.{Leads, turn}
 use Rattle.wc_machine.specs.Readiness.{is_ready}
 use Rattle.wc_machine.specs.Recorded.{its_definition}
+use Rattle.wc_machine.specs.Stepping.{Call}
 use Rattle.wc_soundness.specs.BindingLaws.{binding}
 use Rattle.wc_soundness.specs.TrackLaws.{IsAtTurn}
 use Rattle.wc_cost.specs.Left.{IsLeft, by_request}
@@ -63,9 +65,22 @@ AdvancesLower = (results : Request → Option JobResult) (w : World) (r : Proces
     → IsAtTurn w r k library c env → SubmitsNone (advance library k r.depth env c) → IsLeft results w total
     → LeavesLess results r.node (applied w (advanced w r k.head.outputs (advance library k r.depth env c))) total
 
+-- So it does where it submits calls: what they cost is what the called processes owe.
+abbrev pub CallsLower : Type 0
+CallsLower = (results : Request → Option JobResult) (w : World) (r : ProcessRecord) (k : Chain) (library : List Definition) (c d : Checkpoint) (env : Env) (total : ℕ)
+    (calls : List Call) → IsAtTurn w r k library c env → advance library k r.depth env c ≡ submits d calls → IsAccepted w (advanced w r k.head.outputs (submits d calls))
+    → IsLeft results w total → LeavesLess results r.node (applied w (advanced w r k.head.outputs (submits d calls))) total
+
 -- And so does the turn of one that waits and is ready, which binds its children, where the results agree with what is recorded.
 abbrev pub BindingsLower : Type 0
 BindingsLower = (results : Request → Option JobResult) (now : ℕ) (w : World) (r : ProcessRecord) (k : Chain) (c : Checkpoint) (total : ℕ) → IsSound w
     → AgreesWithWorld (by_request results) w → find_record r.node w.records ≡ Some r → is_ready w now r ≡ true → its_definition w r ≡ Some (definition.Chain k)
     → r.state ≡ state.Waiting → r.part ≡ part.Chain c → IsAccepted w (binding w r c) → IsLeft results w total
     → LeavesLess results r.node (applied w (binding w r c)) total
+
+-- Each turn of a ready process lowers what is left of a sound world, where its task doesn't fail, its program has ended and the results agree
+-- with what is recorded: by exactly one, or by more where it takes another's outcome.
+abbrev pub TurnsLower : Type 0
+TurnsLower = (results : Request → Option JobResult) (poll now pid : ℕ) (a : TaskAnswer) (w : World) (cs : List Change) (total : ℕ) → IsSound w
+    → AgreesWithWorld (by_request results) w → Leads poll w (turn pid a now) cs → IsAccepted w cs → IsCalm a → IsLeft results w total
+    → LeavesLess results pid (applied w cs) total

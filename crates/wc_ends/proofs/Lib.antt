@@ -1,0 +1,10 @@
+pub mod Counts
+pub mod Rows
+pub mod HeldUp
+pub mod CalmTurns
+pub mod NoPauses
+pub mod Requests
+pub mod Agreement
+pub mod Directories
+pub mod Moments
+pub mod EveryProcess

@@ -7,7 +7,8 @@ use Rattle.wc_query.specs.declared.query.NodeTest.{NodeTest}
 use Rattle.wc_query.specs.declared.query.Query.{Query}
 use Rattle.wc_matches.specs.First.{AreFirst}
 use Rattle.wc_matches.specs.Levels.{AreEach, joined, GoesOnFrom, GoesOn, Begins, IsBegun, last_of, GoesTo}
-use Rattle.wc_matches.specs.Matches.{IsJoined, Follows, IsMatch}
+use Rattle.wc_matches.specs.Joins.{IsJoined}
+use Rattle.wc_matches.specs.Matches.{Follows, IsMatch}
 use Rattle.wc_matches.specs.Meets.{meets}
 use Rattle.wc_matches.proofs.Levels.{level}
 

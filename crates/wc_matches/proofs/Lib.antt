@@ -2,4 +2,10 @@ pub mod Firsts
 pub mod Levels
 pub mod Begun
 pub mod Cutting
+pub mod Finding
+pub mod Ordering
+pub mod Growing
+pub mod Placing
+pub mod Answering
 pub mod Rows
+pub mod Names

@@ -4,7 +4,8 @@ use Rattle.wc_fits.specs.World.{World}
 use Rattle.wc_query.specs.declared.query.LinkTest.{LinkTest}
 use Rattle.wc_query.specs.declared.query.NodeTest.{NodeTest}
 use Rattle.wc_matches.specs.First.{AreFirst}
-use Rattle.wc_matches.specs.Matches.{IsJoined, Follows}
+use Rattle.wc_matches.specs.Joins.{IsJoined}
+use Rattle.wc_matches.specs.Matches.{Follows}
 use Rattle.wc_matches.specs.Meets.{meets}
 
 -- a row with one number behind it, which it may have there
@@ -27,6 +28,10 @@ AreEach R n (row ∷ rows) (firsts ∷ more) = AreFirst (Goes R row) n firsts ×
 abbrev pub joined : ℕ → List (List (List ℕ)) → List (List ℕ)
 joined n [] = []
 joined n (firsts ∷ more) = take n (firsts ++ joined n more)
+
+-- the first so many that rows go on to
+abbrev pub GoOnTo : (List ℕ → ℕ → Type 0) → ℕ → List (List ℕ) → List (List ℕ) → Type 0
+GoOnTo R most rows out = (each : List (List (List ℕ))) × AreEach R most rows each × (out ≡ joined most each)
 
 -- a row of which P holds goes on to it
 abbrev pub GoesOnFrom : (List ℕ → Type 0) → (List ℕ → ℕ → Type 0) → List ℕ → Type 0

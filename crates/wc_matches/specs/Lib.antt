@@ -1,6 +1,12 @@
 pub mod Meets
+pub mod Joins
 pub mod Matches
 pub mod First
 pub mod Levels
+pub mod Found
+pub mod Numbers
+pub mod Sets
+pub mod Texts
+pub mod Names
 pub mod Laws
 pub mod Rows

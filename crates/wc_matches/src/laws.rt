@@ -1,6 +1,7 @@
 //! Laws of rows.
 
 ghost use Rattle.wc_matches.specs.Laws.{FirstAreOne, OneLevel, LastLevel};
+ghost use Rattle.wc_matches.specs.Names.{TypesAreRead, KindsAreRead, StatesAreRead};
 ghost use Rattle.wc_matches.specs.Rows.{SumsAreFound, OriginsAreFound, OneOriginIsFound};
 
 /// There is one list of the first so many rows of a query.
@@ -23,4 +24,11 @@ pub fn rows_are_found()
     ensures sums { SumsAreFound }
     ensures origins { OriginsAreFound }
     ensures one { OneOriginIsFound }
+{}
+
+/// What types of links, kinds and states are called in other texts is what a query reads.
+pub fn names_are_read()
+    ensures types { TypesAreRead }
+    ensures kinds { KindsAreRead }
+    ensures states { StatesAreRead }
 {}

@@ -1,8 +1,19 @@
 //! Which rows of nodes match a query.
 #![tactic(auto)]
 
+mod found;
 mod laws;
+mod level;
+mod numbers;
 mod passing;
+mod search;
+mod sets;
+mod text;
 
-pub use laws::{first_rows_are_one, last_level_matches, levels_go_on, rows_are_found};
+pub use found::{Matches, answers};
+pub use laws::{
+    first_rows_are_one, last_level_matches, levels_go_on, names_are_read, rows_are_found,
+};
+pub use level::Rows;
 pub use passing::meets;
+pub use text::rows_text;

@@ -1,0 +1,7 @@
+use Rattle.std.proofs.Common.{◌≡◌, ◌++◌, drop}
+use Rattle.std.specs.Prelude.{string_bytes, flat_map}
+use Rattle.wc_matches.specs.Texts.{row_line}
+use Rattle.wc_matches.proofs.text.put_rows.Given as goal
+
+abbrev pub invariant-loop-row : goal.invariant-loop-row
+invariant-loop-row l = string_bytes l.out ++ flat_map row_line (drop l.row-index l.rows) ≡ string_bytes l.fn.out ++ flat_map row_line l.rows

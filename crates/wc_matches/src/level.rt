@@ -1,0 +1,123 @@
+//! Rows that grow by one node.
+
+ghost use Rattle.std.specs.Prelude.{◌≡◌, ◌++◌, ◌∷◌, [], ◌<◌, ◌≤◌, true, false, take, length, IfOk, OnOk, slice_index_or};
+ghost use Rattle.wc_matches.specs.Joins.{IsJoined};
+ghost use Rattle.wc_matches.specs.Sets.{LeadsInto};
+ghost use Rattle.wc_matches.specs.Found.{AreBlank};
+ghost use Rattle.wc_matches.specs.Levels.{GoOnTo};
+ghost use Rattle.wc_matches.specs.Numbers.{AreNumbers, with_each};
+
+use crate::numbers::{marked_of, put_in_order};
+use crate::search::{joined, unmark};
+use std::alloc::{AllocError, Global};
+use wc_graph::{Graph, Ids};
+use wc_query::LinkTest;
+use wc_value::List;
+
+/// Rows of numbers of nodes.
+pub type Rows = List<Ids>;
+
+/// A row with one number more.
+fn longer(alloc: Global, row: &[u32], number: u32) -> Result<Ids, AllocError>
+    ensures { IfOk result (λ longer. longer ≡ row.now ++ number ∷ []) }
+{
+    let mut longer = Ids::new(alloc);
+    longer.extend(row)?;
+    longer.push(number)?;
+    Ok(longer)
+}
+
+/// Puts a row with each of these numbers behind others, as long as there are fewer than the most.
+#[tactic(auto, using(crate::proofs::Growing::puts_more, crate::proofs::Growing::puts_full, crate::proofs::Growing::puts_all))]
+pub(crate) fn put_rows(
+    alloc: Global,
+    out: &mut Rows,
+    row: &[u32],
+    numbers: &[u32],
+    most: usize,
+) -> Result<(), AllocError>
+    requires { length out.old ≤ most }
+    ensures { OnOk result (out.new ≡ take most (out.old ++ with_each row.now numbers.now)) }
+{
+    for number in numbers {
+        if out.len() >= most {
+            return Ok(());
+        }
+        out.push(longer(alloc, row, *number)?)?;
+    }
+    Ok(())
+}
+
+/// The marked nodes that a join leads to from a node, in order.
+fn nexts(
+    alloc: Global,
+    graph: &Graph,
+    join: &LinkTest,
+    set: &[bool],
+    node: u32,
+    marks: &mut [bool],
+) -> Result<Vec<u32>, AllocError>
+    requires size { length graph.now.nodes < length marks.old }
+    requires blank { AreBlank marks.old }
+    ensures blank { OnOk result (AreBlank marks.new) }
+    ensures nexts { IfOk result (λ ids. AreNumbers (λ m. IsJoined graph.now.links join.now node m × (slice_index_or set.now m false ≡ true)) ids.items) }
+{
+    let found = joined(
+        alloc,
+        graph,
+        join.forward,
+        join.walk,
+        &join.types,
+        &[node],
+        marks,
+    )?;
+    unmark(marks, &found);
+    let mut ids = marked_of(alloc, &found, set)?;
+    put_in_order(&mut ids);
+    Ok(ids)
+}
+
+/// The marked nodes that a row goes on to, in order.
+#[tactic(auto, using(crate::proofs::Growing::none_behind_none, crate::proofs::Growing::behind_last))]
+fn behind(
+    alloc: Global,
+    graph: &Graph,
+    join: &LinkTest,
+    set: &[bool],
+    row: &[u32],
+    marks: &mut [bool],
+) -> Result<Vec<u32>, AllocError>
+    requires size { length graph.now.nodes < length marks.old }
+    requires blank { AreBlank marks.old }
+    ensures blank { OnOk result (AreBlank marks.new) }
+    ensures nexts { IfOk result (λ ids. AreNumbers (LeadsInto graph.now.links join.now set.now row.now) ids.items) }
+{
+    if row.len() == 0 {
+        return Ok(Vec::new(alloc));
+    }
+    nexts(alloc, graph, join, set, row[row.len() - 1], marks)
+}
+
+/// The first so many of the rows that these go on to.
+#[tactic(auto, using(crate::proofs::Growing::on_none, crate::proofs::Growing::on_next, crate::proofs::Growing::on_all, crate::proofs::Growing::few_on))]
+pub(crate) fn next_level(
+    alloc: Global,
+    graph: &Graph,
+    join: &LinkTest,
+    set: &[bool],
+    most: usize,
+    rows: &[Ids],
+    marks: &mut [bool],
+) -> Result<Rows, AllocError>
+    requires size { length graph.now.nodes < length marks.old }
+    requires blank { AreBlank marks.old }
+    ensures blank { OnOk result (AreBlank marks.new) }
+    ensures rows { IfOk result (λ out. GoOnTo (LeadsInto graph.now.links join.now set.now) most rows.now out) }
+{
+    let mut out = Rows::new(alloc);
+    for row in rows {
+        let numbers = behind(alloc, graph, join, set, row.as_slice(), marks)?;
+        put_rows(alloc, &mut out, row.as_slice(), &numbers, most)?;
+    }
+    Ok(out)
+}

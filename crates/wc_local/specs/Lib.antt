@@ -1,5 +1,1 @@
-pub mod Quotes
-pub mod Script
-pub mod Batch
-pub mod Queue
-pub mod End
+pub mod Questions

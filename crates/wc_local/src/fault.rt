@@ -77,7 +77,7 @@ impl<T: Drop> From<AllocFailed<T>> for Fault {
 }
 
 /// Whether an error is want of this program's own memory. The system's own may pass, and is an error like any other.
-fn is_want_of_memory(error: &io::Error) -> bool {
+pub fn is_want_of_memory(error: &io::Error) -> bool {
     error.kind() == io::ErrorKind::OutOfMemory && error.raw_os_error().is_none()
 }
 

@@ -1,7 +1,6 @@
 //! The folder of a job.
 
 use crate::fault::{Failure, Fault, called};
-use crate::script::script_of;
 use std::alloc::{AllocError, Global};
 use std::fs::{File, OpenOptions, TryLockError};
 use std::io::{Read, Write};
@@ -9,6 +8,7 @@ use std::path::Path;
 use std::rt::Files;
 use std::string::String;
 use std::{fs, io, str};
+use wc_slurm::script_of;
 use wc_value::{Bytes, JobResult, Keyed, Request, Text, encode_request};
 
 /// The request that the folder holds. It is written last.

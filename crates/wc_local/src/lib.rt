@@ -2,21 +2,16 @@
 //! node of a cluster.
 #![tactic(auto)]
 
-mod batch;
-mod end;
 mod fault;
 mod folder;
 mod local;
 mod mark;
-mod queue;
-mod quoting;
 mod random;
-mod script;
 mod settling;
 mod shell;
 mod slurm;
+mod squeue;
 mod submission;
 
 pub use fault::{Failure, Fault};
 pub use local::LocalTransport;
-pub use quoting::quoted;

@@ -9,8 +9,8 @@ use crate::folder::{
     sync_placed,
 };
 use crate::mark::claim;
-use crate::queue::Queue;
 use crate::slurm::{Job, followed, is_on_slurm, submitted};
+use crate::squeue::Squeue;
 use std::alloc::{AllocError, Global};
 use std::env::Env;
 use std::fs::File;
@@ -18,12 +18,24 @@ use std::io;
 use std::process::{Command, Processes, Stdio};
 use std::rt::Files;
 use std::string::String;
+use wc_slurm::Queue;
 use wc_transport::{Progress, TaskError, Transport};
 use wc_value::{JobResult, Request, Text};
 
 /// Starts the script in the background, in a session of its own where the command `setsid` is there.
 const START: &str = "\
 if command -v setsid >/dev/null; then setsid sh ./_wc_run.sh & else sh ./_wc_run.sh & fi";
+
+/// The command that starts the script in a folder, which says and hears nothing.
+fn starter(alloc: Global, folder: &str) -> Result<Command, AllocError> {
+    let mut command = Command::new(alloc, "sh")?;
+    command.arg("-c")?.arg(START)?;
+    command.current_dir(folder)?;
+    command.stdin(Stdio::null());
+    command.stdout(Stdio::null());
+    command.stderr(Stdio::null());
+    Ok(command)
+}
 
 /// Programs of this machine, or of a cluster, each in a folder below this one that is named by its number. A program is run by a script,
 /// which makes a folder first and ends where that is there, so that the program is started once. Where a file `wc.slurm` lies beside the
@@ -123,12 +135,7 @@ impl<R: Files<File = File> + Processes + Env + Drop> LocalTransport<R> {
 
     /// Starts the script, and doesn't wait for it: the `sh` that is waited for starts another in the background.
     fn started(&self, folder: &str) -> Result<io::Result<bool>, AllocError> {
-        let mut command = Command::new(self.alloc, "sh")?;
-        command.arg("-c")?.arg(START)?;
-        command.current_dir(folder)?;
-        command.stdin(Stdio::null());
-        command.stdout(Stdio::null());
-        command.stderr(Stdio::null());
+        let mut command = starter(self.alloc, folder)?;
         match command.status(&self.rt) {
             Ok(status) => Ok(Ok(status.success())),
             Err(error) => Ok(Err(error)),
@@ -157,7 +164,8 @@ impl<R: Files<File = File> + Processes + Env + Drop> LocalTransport<R> {
             request,
         };
         if is_on_slurm(&self.rt, self.alloc, job)? {
-            return submitted(&self.rt, self.alloc, &mut self.queue, job);
+            let mut squeue = Squeue::new(&self.rt);
+            return submitted(&self.rt, self.alloc, &mut self.queue, &mut squeue, job);
         }
         self.start(folder.as_str())
     }
@@ -175,7 +183,8 @@ impl<R: Files<File = File> + Processes + Env + Drop> LocalTransport<R> {
             request,
         };
         if is_on_slurm(&self.rt, self.alloc, job)? {
-            return followed(&self.rt, self.alloc, &mut self.queue, job);
+            let mut squeue = Squeue::new(&self.rt);
+            return followed(&self.rt, self.alloc, &mut self.queue, &mut squeue, job);
         }
         if is_locked(&self.rt, self.alloc, folder)? || is_alive(&self.rt, self.alloc, folder)? {
             return Ok(());

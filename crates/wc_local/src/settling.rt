@@ -1,10 +1,9 @@
 //! A job whose run the scheduler has ended, or doesn't know any more.
 
-use crate::end::{End, code_of, end_in, had_node, part, signal_in, state_in};
 use crate::fault::{Fault, called};
 use crate::folder::{
-    FAILED, LOCK, STATUS, content_of, has_ended, is_alive, is_there, length_of, path_in,
-    place_file, sync_names, write_file,
+    FAILED, LOCK, STATUS, content_of, has_ended, is_alive, length_of, path_in, place_file,
+    sync_names, write_file,
 };
 use crate::shell::output_of;
 use crate::submission::{put_line, put_over};
@@ -14,17 +13,19 @@ use std::process::Processes;
 use std::rt::Files;
 use std::string::String;
 use std::{fs, io, str};
+use wc_slurm::{End, code_under_lock, end_in, is_other_run, told_in};
 
-/// Asks for the exit code of the last job of a name, as the system gives it: 256 times the code, or the signal.
-const CODE: &str = r#"limit=
-command -v timeout >/dev/null && limit='timeout 60'
-exec $limit squeue -h -a -u "$(id -u)" -t all -n "$1" -O exit_code"#;
-
-/// Asks the accounting for the state, the exit code and the nodes of the last job of a name, and lays them out as the queue does.
+/// Asks the accounting for the state, the first node, the number and the exit code of the last job of a name, and lays them out as the queue
+/// does. Words: the name, and what the run that made the lock wrote of itself, of which the number comes first: where it is there, that job is meant.
 const ACCOUNTS: &str = r#"command -v sacct >/dev/null || exit 1
 limit=
 command -v timeout >/dev/null && limit='timeout 60'
-exec $limit sacct -n -P -X --name="$1" -S now-30days -o State,NodeList,ExitCode"#;
+$limit sacct -n -P -X --name="$1" -S now-30days -o State,NodeList,JobIDRaw,ExitCode |
+  awk -F'|' -v number="${2%% *}" 'number == "" || $3 == number { told = $0 } END { print told }' | {
+  IFS='|' read -r state nodes number code
+  case $nodes in *[[,]*) nodes=$(scontrol show hostnames "$nodes" | head -n 1) ;; esac
+  echo "$state|$nodes|$number||$code|"
+}"#;
 
 /// When an end was first seen, by the time of this file, and which.
 const ENDED: &str = "_wc_ended";
@@ -38,7 +39,7 @@ const RUNS: &str = "_wc_runs";
 /// Where the scheduler writes, and what settles a job.
 const WORDS: &str = "slurm.txt";
 
-/// The most bytes of the file of an end.
+/// The most bytes of the file of an end, and of that of a run.
 const MOST_ENDED: u64 = 4096;
 
 /// How long an end is left alone, in seconds: a node may have made a lock or written a code that isn't seen here yet.
@@ -59,11 +60,13 @@ pub struct Settled<'a> {
 
 impl<'a> Settled<'a> {
     /// A part of what is told, as text.
-    fn part(&self, at: usize) -> &str {
-        match self.told {
-            Some(told) => str::from_utf8(part(told, at)).unwrap_or(""),
-            None => "",
-        }
+    fn part(&self, at: usize) -> &'a str {
+        let Some(told) = self.told else {
+            return "";
+        };
+        let part = told.split(|b| *b == b'|').nth(at).unwrap_or(&[]);
+        let text = str::from_utf8(part).unwrap_or("");
+        text.trim()
     }
 
     /// The scheduler's words: the state and the reason.
@@ -72,7 +75,7 @@ impl<'a> Settled<'a> {
             return String::from_str(alloc, "slurm: the job isn't known");
         }
         let state = self.part(0);
-        let reason = self.part(2);
+        let reason = self.part(5);
         format!(in alloc; "slurm: {state} {reason}")
     }
 }
@@ -197,93 +200,74 @@ fn settle_cancelled<R: Files<File = File>>(
     }
 }
 
-/// The exit code for a run that met an end, if one is to be written. A job that was cancelled and never had a node, and whose lock was made
-/// by no run that told of itself, has none to wait for.
-fn code_for<R: Files>(
-    rt: &R,
-    alloc: Global,
-    job: Settled<'_>,
-    end: End,
-    signal: u32,
-) -> Result<Option<u32>, Fault> {
-    let has_run = had_node(job.part(1).as_bytes())
-        || (end == End::Cancelled && !is_there(rt, alloc, job.folder, RUNS)?);
-    Ok(code_of(end, has_run, signal))
+/// What the run that made the lock wrote of itself, nothing where it hasn't.
+fn holder_of<R: Files>(rt: &R, alloc: Global, folder: &str) -> Result<Vec<u8>, Fault> {
+    let path = path_in(alloc, folder, RUNS)?;
+    if length_of(rt, path.as_str())?.is_none() {
+        return Ok(Vec::new(alloc));
+    }
+    content_of(rt, alloc, path.as_str(), MOST_ENDED)
 }
 
-/// The signal that ended the script of a job, as far as the queue tells.
-fn signal_of<R: Processes>(rt: &R, alloc: Global, name: &str) -> Result<u32, Fault> {
-    let Some(output) = output_of(rt, alloc, CODE, name, "")? else {
-        return Ok(0);
-    };
-    match str::from_utf8(output.stdout.as_slice()) {
-        Ok(text) => Ok(signal_in(text.lines().last().unwrap_or(""))),
-        Err(_) => Ok(0),
+/// The exit code for the run with the lock, by what is told of an end, if one is to be written.
+fn code_by(told: &[u8], holder: &[u8]) -> Option<u32> {
+    match told_in(told) {
+        Some(told) => code_under_lock(told, holder),
+        None => None,
     }
 }
 
-/// The exit code for a run that the queue tells the end of.
-fn code_by_queue<R: Files + Processes>(
-    rt: &R,
-    alloc: Global,
-    job: Settled<'_>,
-    end: End,
-) -> Result<Option<u32>, Fault> {
-    let signal = if end == End::Failed {
-        signal_of(rt, alloc, job.name)?
-    } else {
-        0
-    };
-    code_for(rt, alloc, job, end, signal)
-}
-
 /// The exit code for a run that the queue knows no more, by the accounting, where there is one.
-fn code_by_accounts<R: Files + Processes>(
+fn code_by_accounts<R: Processes>(
     rt: &R,
     alloc: Global,
-    job: Settled<'_>,
-) -> Result<Option<u32>, Fault> {
-    let Some(output) = output_of(rt, alloc, ACCOUNTS, job.name, "")? else {
-        return Ok(None);
-    };
-    let Ok(text) = str::from_utf8(output.stdout.as_slice()) else {
-        return Ok(None);
-    };
-    let told = text.lines().last().unwrap_or("").as_bytes();
-    let Some(end) = end_in(told) else {
-        return Ok(None);
-    };
-    let job = Settled {
-        told: Some(told),
-        ..job
-    };
-    let signal = signal_in(job.part(2));
-    code_for(rt, alloc, job, end, signal)
+    name: &str,
+    holder: &[u8],
+) -> Result<Option<u32>, AllocError> {
+    let line = str::from_utf8(holder).unwrap_or("");
+    match output_of(rt, alloc, ACCOUNTS, name, line)? {
+        Some(output) => Ok(code_by(output.stdout.as_slice(), holder)),
+        None => Ok(None),
+    }
 }
 
-/// Settles a job whose lock is there, a minute after its end was seen.
+/// Why a job stays open whose lock is there.
+fn why_open(told: Option<&[u8]>, holder: &[u8]) -> &'static str {
+    let Some(told) = told else {
+        return "the scheduler doesn't know the job any more, whose program may run: look for it, and write its code to _wc_status, or remove _wc_lock for a new run";
+    };
+    match told_in(told) {
+        Some(told) if is_other_run(told, holder) => {
+            "the scheduler has ended another copy of the job than the one in _wc_runs (number, restarts, node), whose program may run: look for it, and write its code to _wc_status, or remove _wc_lock for a new run"
+        }
+        _ => "the scheduler has ended the job, and no exit code has come",
+    }
+}
+
+/// Settles a job whose lock is there, a minute after its end was seen. An end of another run than the one with the lock leaves it open.
 fn settle_locked<R: Files<File = File> + Processes>(
     rt: &R,
     alloc: Global,
     job: Settled<'_>,
-    end: Option<End>,
     seen: &str,
 ) -> Result<(), Fault> {
-    let code = match end {
-        Some(end) => code_by_queue(rt, alloc, job, end)?,
-        None => code_by_accounts(rt, alloc, job)?,
+    let holder = holder_of(rt, alloc, job.folder)?;
+    let code = match job.told {
+        Some(told) => code_by(told, holder.as_slice()),
+        None => code_by_accounts(rt, alloc, job.name, holder.as_slice())?,
     };
     if let Some(code) = code {
         return settle_with(rt, alloc, job, code);
     }
     // The next look that asks comes a minute later.
     place_file(rt, alloc, job.folder, ENDED, seen.as_bytes())?;
-    let why = if end.is_some() {
-        "the scheduler has ended the job, and no exit code has come"
-    } else {
-        "the scheduler doesn't know the job any more, whose program may run: look for it, and write its code to _wc_status, or remove _wc_lock for a new run"
-    };
-    tell_open(rt, alloc, job.folder, job.dir, why)
+    tell_open(
+        rt,
+        alloc,
+        job.folder,
+        job.dir,
+        why_open(job.told, holder.as_slice()),
+    )
 }
 
 /// Settles a job without a lock, a minute after its end was seen: this submission is over, and another may follow.
@@ -319,7 +303,7 @@ pub fn settle<R: Files<File = File> + Processes>(
         return Ok(());
     }
     if is_locked {
-        return settle_locked(rt, alloc, job, end, seen.as_str());
+        return settle_locked(rt, alloc, job, seen.as_str());
     }
     settle_unstarted(rt, alloc, job)
 }

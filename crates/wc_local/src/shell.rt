@@ -1,6 +1,6 @@
 //! Lines of the shell whose answer is waited for.
 
-use crate::fault::{Fault, called};
+use crate::fault::is_want_of_memory;
 use std::alloc::{AllocError, Global};
 use std::io;
 use std::process::{Command, Output, Processes};
@@ -26,10 +26,10 @@ pub fn output_of<R: Processes>(
     text: &str,
     first: &str,
     second: &str,
-) -> Result<Option<Output>, Fault> {
-    match called("starting sh", collected(rt, alloc, text, first, second)?) {
+) -> Result<Option<Output>, AllocError> {
+    match collected(rt, alloc, text, first, second)? {
         Ok(output) => Ok(Some(output)),
-        Err(Fault::OutOfMemory) => Err(Fault::OutOfMemory),
+        Err(error) if is_want_of_memory(&error) => Err(AllocError),
         Err(_) => Ok(None),
     }
 }

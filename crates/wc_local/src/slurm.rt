@@ -1,18 +1,17 @@
 //! Jobs on a cluster that Slurm schedules. What it says of a job may be the news of the day before: it forgets jobs that run, queues some
 //! again and gives a number twice. So the folder decides, and never its memory: the run that makes the lock is the only one.
 
-use crate::batch::{batch_of, is_directive, lines_of};
-use crate::end::end_in;
-use crate::fault::{Fault, called};
+ghost use Rattle.wc_slurm.specs.Queue.{AsksOnceAtMost};
+
+use crate::fault::Fault;
 use crate::folder::{
     content_of, has_ended, is_alive, is_locked, length_of, path_in, place_file, write_file,
 };
 use crate::mark::beside;
-use crate::queue::Queue;
 use crate::settling::{Settled, forget_end, settle, tell_open};
 use crate::shell::output_of;
 use crate::submission::{
-    Submission, has_submission, new_name, place_name, put_number, put_over, submission_of,
+    has_submission, new_name, place_name, put_number, put_over, submission_of,
 };
 use std::alloc::Global;
 use std::env::Env;
@@ -21,6 +20,7 @@ use std::path::Path;
 use std::process::{Output, Processes};
 use std::rt::Files;
 use std::str;
+use wc_slurm::{Queue, Scheduler, Submission, batch_for, end_in, lines_of};
 use wc_value::{Bytes, List, Request, Text};
 
 /// The file beside the folder of jobs that chooses Slurm, and that of a job's own lines.
@@ -58,6 +58,12 @@ pub struct Job<'a> {
     pub request: &'a Request,
 }
 
+/// Whether the file is there that chooses Slurm.
+fn is_chosen<R: Files<File = File>>(rt: &R, alloc: Global, jobs: &str) -> Result<bool, Fault> {
+    let head = beside(alloc, jobs, HEAD)?;
+    Ok(length_of(rt, head.as_str())?.is_some())
+}
+
 /// Whether a job is Slurm's: it was meant for it, or nothing has begun and the file is there that chooses it.
 pub fn is_on_slurm<R: Files<File = File>>(
     rt: &R,
@@ -67,8 +73,7 @@ pub fn is_on_slurm<R: Files<File = File>>(
     if has_submission(rt, alloc, job.folder)? {
         return Ok(true);
     }
-    let head = beside(alloc, job.jobs, HEAD)?;
-    if length_of(rt, head.as_str())?.is_none() {
+    if !is_chosen(rt, alloc, job.jobs)? {
         return Ok(false);
     }
     Ok(!is_locked(rt, alloc, job.folder)? && !is_alive(rt, alloc, job.folder)?)
@@ -101,31 +106,6 @@ fn head_lines<R: Files>(rt: &R, alloc: Global, path: &str) -> Result<List<Bytes>
     Ok(lines_of(alloc, content.as_slice())?)
 }
 
-/// Whether a line for Slurm asks for more than one job, or for a submission that waits for the job's end.
-fn is_refused(line: &[u8]) -> bool {
-    let Ok(text) = str::from_utf8(line) else {
-        return false;
-    };
-    text.split_ascii_whitespace().any(|word| {
-        word.starts_with("--ar")
-            || word.starts_with("-a")
-            || word == "hetjob"
-            || word == "packjob"
-            || word == "--wait"
-            || word == "-W"
-    })
-}
-
-/// Fails where a line for Slurm asks for what a job can't be.
-fn must_be_one(lines: &List<Bytes>) -> Result<(), Fault> {
-    for line in lines.as_slice() {
-        if is_directive(line.bytes()) && is_refused(line.bytes()) {
-            return Err(Fault::Directive);
-        }
-    }
-    Ok(())
-}
-
 /// The batch script of a job.
 fn batch<R: Files>(rt: &R, alloc: Global, job: Job<'_>) -> Result<Bytes, Fault> {
     let path = beside(alloc, job.jobs, HEAD)?;
@@ -142,10 +122,10 @@ fn batch<R: Files>(rt: &R, alloc: Global, job: Job<'_>) -> Result<Bytes, Fault> 
         Some(content) => lines_of(alloc, content.bytes())?,
         None => List::new(alloc),
     };
-    must_be_one(&all)?;
-    must_be_one(&program)?;
-    must_be_one(&own)?;
-    Ok(batch_of(alloc, all.as_slice(), program.as_slice(), own.as_slice())?)
+    match batch_for(alloc, all.as_slice(), program.as_slice(), own.as_slice())? {
+        Some(batch) => Ok(batch),
+        None => Err(Fault::Directive),
+    }
 }
 
 /// Keeps the number that Slurm gave, or its words where it refused.
@@ -215,15 +195,10 @@ fn send_where_room<R: Files<File = File> + Processes + Env>(
     job: Job<'_>,
     next: Try,
 ) -> Result<(), Fault> {
-    if let Some(most) = most_jobs(rt) {
-        if !queue.is_asked() {
-            queue.ask(rt, alloc)?;
-        }
-        if !queue.has_room(most) {
-            return Ok(());
-        }
+    match most_jobs(rt) {
+        Some(most) if !queue.has_room(most) => Ok(()),
+        _ => send(rt, alloc, queue, job, next),
     }
-    send(rt, alloc, queue, job, next)
 }
 
 /// What an earlier submission, whose fate isn't known, calls for, by an answer that is younger than it: nothing where Slurm has it, else
@@ -250,40 +225,62 @@ fn next_of(alloc: Global, queue: &Queue, earlier: &Submission) -> Result<Option<
     }
 }
 
-/// The submission that a job is to get now, none where Slurm has it.
-fn next_submission<R: Files<File = File> + Processes>(
-    rt: &R,
-    alloc: Global,
-    queue: &mut Queue,
-    job: Job<'_>,
-) -> Result<Option<Try>, Fault> {
-    let Some(earlier) = submission_of(rt, alloc, job.folder)? else {
-        return Ok(Some(Try::new(1)));
-    };
-    if earlier.is_over() {
-        return Ok(Some(Try::new(earlier.next_try())));
+/// Whether Slurm has to be asked before a submission: of an earlier one whose fate isn't known, or how many jobs it has.
+fn must_ask<R: Env>(rt: &R, queue: &Queue, earlier: &Option<Submission>) -> bool {
+    match earlier {
+        Some(earlier) if !earlier.is_over() => true,
+        _ => !queue.is_asked() && most_jobs(rt).is_some(),
     }
-    queue.ask(rt, alloc)?;
-    next_of(alloc, queue, &earlier)
 }
 
-/// Submits a job to Slurm, unless a run has begun or Slurm has it.
-pub fn submitted<R: Files<File = File> + Processes + Env>(
+/// The submission that a job is to get now, none where Slurm has it.
+fn next_submission(
+    alloc: Global,
+    queue: &Queue,
+    earlier: Option<Submission>,
+) -> Result<Option<Try>, Fault> {
+    match earlier {
+        None => Ok(Some(Try::new(1))),
+        Some(earlier) if earlier.is_over() => Ok(Some(Try::new(earlier.next_try()))),
+        Some(earlier) => next_of(alloc, queue, &earlier),
+    }
+}
+
+/// Submits a job to Slurm behind an earlier submission, unless Slurm has that.
+fn submitted_behind<R: Files<File = File> + Processes + Env>(
     rt: &R,
     alloc: Global,
     queue: &mut Queue,
     job: Job<'_>,
+    earlier: Option<Submission>,
 ) -> Result<(), Fault> {
-    if has_ended(rt, alloc, job.folder)? || is_locked(rt, alloc, job.folder)? {
-        return Ok(());
-    }
-    let next = next_submission(rt, alloc, queue, job)?;
+    let next = next_submission(alloc, queue, earlier)?;
     queue.note(job.dir)?;
     if let Some(next) = next {
         send_where_room(rt, alloc, queue, job, next)?;
     }
     queue.note_submitted(job.dir)?;
     Ok(())
+}
+
+/// Submits a job to Slurm, unless a run has begun or Slurm has it.
+pub fn submitted<R: Files<File = File> + Processes + Env, S: Scheduler>(
+    rt: &R,
+    alloc: Global,
+    queue: &mut Queue,
+    scheduler: &mut S,
+    job: Job<'_>,
+) -> Result<(), Fault>
+    ensures { AsksOnceAtMost (S.answers scheduler.old) (S.answers scheduler.new) }
+{
+    if has_ended(rt, alloc, job.folder)? || is_locked(rt, alloc, job.folder)? {
+        return Ok(());
+    }
+    let earlier = submission_of(rt, alloc, job.folder)?;
+    if must_ask(rt, queue, &earlier) {
+        queue.ask(scheduler, alloc)?;
+    }
+    submitted_behind(rt, alloc, queue, job, earlier)
 }
 
 /// Looks at a submission by the last answer.
@@ -319,18 +316,14 @@ fn judge<R: Files<File = File> + Processes>(
     settle(rt, alloc, settled, is_locked)
 }
 
-/// Looks at a job of Slurm's that has no exit code: one that waits or runs is left alone, one that Slurm ended is settled, and one that
-/// it doesn't have is submitted.
-pub fn followed<R: Files<File = File> + Processes + Env>(
+/// Looks at a job by the last answer: one that waits or runs is left alone, one that Slurm ended is settled, and one that it doesn't have
+/// is submitted.
+fn judged<R: Files<File = File> + Processes + Env>(
     rt: &R,
     alloc: Global,
     queue: &mut Queue,
     job: Job<'_>,
 ) -> Result<(), Fault> {
-    if queue.is_first_look(job.dir) {
-        return Ok(());
-    }
-    queue.look(rt, alloc, job.dir)?;
     let is_locked = is_locked(rt, alloc, job.folder)?;
     let Some(submission) = submission_of(rt, alloc, job.folder)? else {
         if is_locked {
@@ -347,4 +340,21 @@ pub fn followed<R: Files<File = File> + Processes + Env>(
     }
     let next = Try::new(submission.next_try());
     send_where_room(rt, alloc, queue, job, next)
+}
+
+/// Looks at a job of Slurm's that has no exit code. Slurm is asked once at most, for all jobs.
+pub fn followed<R: Files<File = File> + Processes + Env, S: Scheduler>(
+    rt: &R,
+    alloc: Global,
+    queue: &mut Queue,
+    scheduler: &mut S,
+    job: Job<'_>,
+) -> Result<(), Fault>
+    ensures { AsksOnceAtMost (S.answers scheduler.old) (S.answers scheduler.new) }
+{
+    if queue.is_first_look(job.dir) {
+        return Ok(());
+    }
+    queue.look(scheduler, alloc, job.dir)?;
+    judged(rt, alloc, queue, job)
 }

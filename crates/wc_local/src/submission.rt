@@ -11,6 +11,7 @@ use std::io::Write;
 use std::rt::Files;
 use std::string::String;
 use std::{fs, str};
+use wc_slurm::{OVER, Submission, TRY, submission_in};
 use wc_value::Text;
 
 /// The file: a line with the name, one with which try of the job it is, then one with the number, and one with `over` for each time that a
@@ -20,75 +21,9 @@ const SUBMISSION: &str = "_wc_slurm";
 /// The most bytes of that file.
 const MOST_SUBMISSION: u64 = 4096;
 
-/// What stands before the number of a try.
-const TRY: &str = "try ";
-
-/// The line of a submission that ended before the program began.
-const OVER: &str = "over";
-
-/// The most tries that are counted. A task that fails so often in a row pauses its job.
-const MOST_TRIES: u32 = 5;
-
-/// A submission of a job.
-#[derive(Drop)]
-pub struct Submission {
-    /// The name.
-    pub name: Text,
-    /// Which try of the job it is, from 1 on.
-    pub tries: u32,
-    /// Whether the scheduler gave it a number.
-    pub is_numbered: bool,
-    /// How often it was told that it ended before the program began.
-    pub overs: u32,
-}
-
-impl Submission {
-    /// Whether it was told that this one ended before the program began.
-    pub fn is_over(&self) -> bool {
-        self.overs > 0
-    }
-
-    /// Whether another one may follow one that is over: it was told once for the first try, twice for the second, and so on, so that
-    /// the engine waits twice as long behind each, and pauses the job behind the fifth.
-    pub fn may_be_followed(&self) -> bool {
-        self.overs >= self.tries
-    }
-
-    /// Which try the next one is.
-    pub fn next_try(&self) -> u32 {
-        self.tries.saturating_add(1).min(MOST_TRIES)
-    }
-}
-
 /// Whether a job was meant for a scheduler.
 pub fn has_submission<R: Files>(rt: &R, alloc: Global, folder: &str) -> Result<bool, Fault> {
     is_there(rt, alloc, folder, SUBMISSION)
-}
-
-/// The submission that a text tells of, if it has a name.
-fn submission_in(alloc: Global, text: &str) -> Result<Option<Submission>, Fault> {
-    let Some(name) = text.lines().next() else {
-        return Ok(None);
-    };
-    if !name.starts_with("wc-") {
-        return Ok(None);
-    }
-    let mut found = Submission {
-        name: Text::of_str(alloc, name)?,
-        tries: 1,
-        is_numbered: false,
-        overs: 0,
-    };
-    for line in text.lines().skip(1) {
-        if line == OVER {
-            found.overs = found.overs.saturating_add(1);
-        } else if let Some(tries) = line.strip_prefix(TRY) {
-            found.tries = tries.parse::<u32>().unwrap_or(1);
-        } else {
-            found.is_numbered = true;
-        }
-    }
-    Ok(Some(found))
 }
 
 /// The last submission of a job, if there is one.
@@ -103,7 +38,7 @@ pub fn submission_of<R: Files>(
     }
     let content = content_of(rt, alloc, path.as_str(), MOST_SUBMISSION)?;
     match str::from_utf8(content.as_slice()) {
-        Ok(text) => submission_in(alloc, text),
+        Ok(text) => Ok(submission_in(alloc, text)?),
         Err(_) => Ok(None),
     }
 }

@@ -1,4 +1,0 @@
-mod Reading
-mod Words
-mod Lines
-mod Answers

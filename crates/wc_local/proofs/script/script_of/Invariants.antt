@@ -1,7 +1,0 @@
-use Rattle.std.proofs.Common.{◌∷◌, take}
-use Rattle.wc_local.specs.declared.script.TheConstants.{BEFORE}
-use Rattle.wc_local.proofs.Words.{Line}
-use Rattle.wc_local.proofs.script.script_of.Given as goal
-
-abbrev pub invariant-loop-word : goal.invariant-loop-word
-invariant-loop-word l = Line BEFORE.now (l.request.program ∷ take l.word-index l.word-items) l.script

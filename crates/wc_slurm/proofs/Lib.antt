@@ -1,0 +1,6 @@
+mod Reading
+mod Words
+mod Parts
+mod Taken
+mod Answers
+mod Stale

@@ -1,0 +1,7 @@
+use Rattle.std.proofs.Common.{take}
+use Rattle.wc_slurm.specs.Batch.{is_directive}
+use Rattle.wc_slurm.proofs.Taken.{HasPut}
+use Rattle.wc_slurm.proofs.batch.put_directives.Given as goal
+
+abbrev pub invariant-loop-line : goal.invariant-loop-line
+invariant-loop-line l = HasPut is_directive l.fn.text (take l.line-index l.lines) l.text

@@ -25,11 +25,12 @@ use Rattle.wc_state.specs.Ranges.{AreLimits}
 use Rattle.wc_machine.specs.Refusals.{HasRoom}
 use Rattle.wc_machine.specs.declared.error.TurnError.{TurnError}
 use Rattle.wc_machine.specs.declared.error.TurnError.TheVariants as turn_error
-use Rattle.wc_store.specs.Refusals.{byte_limit, committed_bytes, RefusesCommit, IsUnchanged, is_live_after}
+use Rattle.wc_store.specs.Refusals.{RefusesCommit, IsUnchanged, is_live_after}
 use Rattle.wc_store.specs.declared.error.StoreError.{StoreError}
 use Rattle.wc_store.specs.declared.error.StoreError.TheVariants as error
 use Rattle.wc_store.specs.declared.store.Store.{Store}
 use Rattle.wc_store.specs.Held.{is_plain, a_world}
+use Rattle.wc_store.specs.Stepped.{IsCommitted}
 use Rattle.wc_store.specs.Stores.{StandsFor, HasImages}
 use Rattle.wc_machine.specs.Machine.{Event, pause, play, kill, submits as submits_by}
 use Rattle.wc_runner.specs.CoreRefusals.{RefusesMark}
@@ -219,30 +220,26 @@ idle_alone a w cs line text r leads none is same reply = inl (subst (Changes w a
 -- ---- what was done
 
 module _ (a : Asked) (store : Store) where
-  pub has_entered : (new : Store) (cs : List Change) (r : Reply) → IsStorable a store.world.world cs → new.world.world ≡ applied store.world.world cs
-      → (length (applied store.world.world cs).nodes ≤ (limits_of a).max_nodes) × (committed_bytes store.journal cs ≤ byte_limit store.journal.version (limits_of a).max_bytes)
-      → new.journal.end + 1 ≡ committed_bytes store.journal cs
-      → (new.place ≡ store.place) × (new.journal.generation ≡ store.journal.generation) × (new.journal.version ≡ store.journal.version)
-      → r ≡ prints (line_of a store.world.world)
+  pub has_entered : (new : Store) (cs : List Change) (r : Reply) → IsStorable a store.world.world cs
+      → IsCommitted (limits_of a) cs store new.world.world new.journal → new.place ≡ store.place → r ≡ prints (line_of a store.world.world)
       → (before after : Images) → AreOfStores store new before after → DoneOn (event_row a) store.world.world r before after
-  has_entered new cs r storable same fits longer place reply before after are = (
+  has_entered new cs r storable is place reply before after are = (
     are.was.held,
     inl (record {
       changes = cs;
       submits = storable.leads;
       some = storable.some;
-      held = subst (λ (w : World). Hold after (a_world w)) same are.is.held;
+      held = subst (λ (w : World). Hold after (a_world w)) is.world are.is.held;
       fits = record {
-        nodes = fits.0;
+        nodes = subst (λ (w : World). length w.nodes ≤ (limits_of a).max_nodes) is.world is.nodes;
         journal = new.journal;
         kept = journal_of_images new after are.is;
-        bytes = subst (λ (n : ℕ). new.journal.end + 1 ≤ byte_limit n (limits_of a).max_bytes) (sym place.2)
-            (subst (λ (n : ℕ). n ≤ byte_limit store.journal.version (limits_of a).max_bytes) (sym longer) fits.1);
+        bytes = is.longer.fits;
       };
       journal = store.journal;
       next = new.journal;
-      goes = goes_on_journal store new before after are place;
-      longer = longer;
+      goes = goes_on_journal store new before after are (place, is.longer.generation, is.longer.version);
+      longer = is.longer.longer;
       reply = reply;
     }),
   )

@@ -16,12 +16,12 @@ use Rattle.wc_store.specs.Held.{Standing, IsHeld, a_world}
 use Rattle.wc_store.specs.declared.place.Place.{Place}
 use Rattle.wc_store.specs.declared.place.Place.TheVariants.{One, Two}
 use Rattle.wc_store.specs.Places.{its}
-use Rattle.wc_store.specs.Stores.{other, StandsFor, CommitLeaves, HoldsBy, PackLeaves, InTwoParts, AreImages, HoldsOneOf, BeginsFrom, InitLeaves}
-use Rattle.wc_store.proofs.Parts.{then_none, then_commit, then_pack, then_worlds, weaker_parts, OfInit, init_parts}
+use Rattle.wc_store.specs.Stepped.{InGeneration, IsCommitted, IsOrCommitted, LeavesHeld}
+use Rattle.wc_store.specs.Stores.{other, StandsFor, HoldsBy, PackLeaves, InTwoParts, AreImages, BeginsFrom, InitLeaves}
+use Rattle.wc_store.proofs.Parts.{then_none, then_pack, then_worlds, weaker_parts, OfInit, init_parts}
 use Rattle.wc_store.specs.Laws.{HeldIsReached}
 use Rattle.wc_runner.specs.Laws.{StaysSound, TurnsKeepSound, WorldsContinueThemselves}
 use Rattle.wc_runner.proofs.Continuing.{continues_itself}
-use Rattle.wc_runner.specs.Leaves.{LeavesHeld}
 use Rattle.wc_runner.specs.Outside.{Outside}
 use Rattle.wc_runner.specs.Runs.{FitsIn, TakesTurns, TakesWithin}
 use Rattle.wc_act.specs.Crashes.{Keeps, HoldsKeeping, ComesOfNothing, Kept, WritesOne, LeavesPairs, LeavesKept}
@@ -115,16 +115,31 @@ module _ {D : Type 0} (g : disk.Ghosts D) (at_now : (d : D) (image : List ℕ) �
         (λ a b are.
         (store.world.world, images_hold (g.seen one) (g.seen two) a b (a_world store.world.world) stands.held are, itself (a, b), keeps_itself same_law store.world.world reached)) (inl (none_asked one))
 
+    -- a step: the store's disk alone is written, and what P holds of is what the call may make, and keeps the world
+    pub stepping : (P : World → Journal → Type 0) (makes : World → World → Images → Type 0) (one_new two_new : D)
+        → ((v : World) (journal : Journal) (images : Images) → HasJournal images journal → P v journal → makes store.world.world v images × Keeps store.world.world v)
+        → LeavesHeld g store.place P one two one_new two_new → LeavesPairs g one two one_new two_new (HoldsKeeping makes store.world.world)
+    stepping P makes one_new two_new made leaves =
+        with_one makes (λ a b. (v : World) × (journal : Journal) × P v journal × HoldsBy store.place (its store.place a b) (other store.place a b) v journal) one_new two_new
+        (then_worlds g at_now one two one two (none_asked one) (none_asked two) stands.durable_one stands.durable_two store.place P one_new two_new leaves.untouched leaves.each)
+        (λ a b held.
+        let by = holds_pair store.place a b held.0 held.1 held.3 in
+        let is = made held.0 held.1 (a, b) by.1 held.2 in
+        (held.0, by.0, is.0, is.1))
+        (own_writes store.place one two one_new two_new leaves.untouched)
+
     -- a commit
     pub committed : (makes : World → World → Images → Type 0) (limits : Limits) (cs : List Change) (one_new two_new : D)
         → ((images : Images) → makes store.world.world store.world.world images) → ((images : Images) → makes store.world.world (applied store.world.world cs) images)
-        → Keeps store.world.world (applied store.world.world cs) → CommitLeaves g store limits cs one two one_new two_new
+        → Keeps store.world.world (applied store.world.world cs)
+        → LeavesHeld g store.place (InGeneration store.journal (IsOrCommitted limits cs store)) one two one_new two_new
         → LeavesPairs g one two one_new two_new (HoldsKeeping makes store.world.world)
-    committed makes limits cs one_new two_new itself after keeps leaves =
-        with_one makes (HoldsOneOf store.world.world (applied store.world.world cs)) one_new two_new
-        (then_commit g at_now one two one two (none_asked one) (none_asked two) stands.durable_one stands.durable_two store limits cs one_new two_new leaves)
-        (λ a b. ⊎_elim (λ held. (store.world.world, held, itself (a, b), keeps_itself same_law store.world.world reached))
-        (λ held. (applied store.world.world cs, held, after (a, b), keeps))) (own_writes store.place one two one_new two_new leaves.untouched)
+    committed makes limits cs one_new two_new itself after keeps =
+        stepping (InGeneration store.journal (IsOrCommitted limits cs store)) makes one_new two_new
+        (λ v journal images kept h. ⊎_elim
+        (λ same. subst (λ (x : World). makes store.world.world x images × Keeps store.world.world x) (sym same.0)
+        (itself images, keeps_itself same_law store.world.world reached))
+        (λ (c : IsCommitted limits cs store v journal). subst (λ (x : World). makes store.world.world x images × Keeps store.world.world x) (sym c.world) (after images, keeps)) h.holds)
 
     -- a pack
     pub packed : (one_new two_new : D) → PackLeaves g store.place store.world.world one two one_new two_new
@@ -135,22 +150,16 @@ module _ {D : Type 0} (g : disk.Ghosts D) (at_now : (d : D) (image : List ℕ) �
         (λ a b held. (store.world.world, held, refl, keeps_itself same_law store.world.world reached)) (other_writes store.place one two one_new two_new leaves.untouched)
 
     -- turns and rests, within the limits that are given
-    pub taken : (o : Outside) (p : RunOptions) → TurnsKeepSound o → o.limits ≡ p.limits → (one_new two_new : D)
-        → LeavesHeld g store.place (TakesWithin o p.turns store.world.world) one two one_new two_new
+    pub taken : (P : World → Journal → Type 0) (o : Outside) (p : RunOptions) → TurnsKeepSound o → o.limits ≡ p.limits
+        → ((v : World) (journal : Journal) → P v journal → TakesWithin o p.turns store.world.world v journal) → (one_new two_new : D)
+        → LeavesHeld g store.place (InGeneration store.journal P) one two one_new two_new
         → LeavesPairs g one two one_new two_new (HoldsKeeping (TakesSome p) store.world.world)
-    taken o p law given one_new two_new leaves =
+    taken P o p law given takes one_new two_new =
         let w = store.world.world in
-        let P : World → Journal → Type 0 = TakesWithin o p.turns w in
-        with_one (TakesSome p) (λ a b. (v : World) × (journal : Journal) × P v journal × HoldsBy store.place (its store.place a b) (other store.place a b) v journal) one_new two_new
-        (then_worlds g at_now one two one two (none_asked one) (none_asked two) stands.durable_one stands.durable_two store.place P one_new two_new leaves.untouched leaves.each)
-        (λ a b held.
-        let by = holds_pair store.place a b held.0 held.1 held.3 in (
-          held.0,
-          by.0,
-          made_within o p given w held.0 held.1 a b by.1 held.2,
-          λ sound. law held.2.0.count held.2.0.rests w held.0 reached sound held.2.0.turns,
-        ))
-        (own_writes store.place one two one_new two_new leaves.untouched)
+        stepping (InGeneration store.journal P) (TakesSome p) one_new two_new
+        (λ v journal images kept h.
+        let t : TakesWithin o p.turns w v journal = takes v journal h.holds in
+        (made_within o p given w v journal images.0 images.1 kept t, λ sound. law t.0.count t.0.rests w v reached sound t.0.turns))
 
   -- ---- whole calls
 

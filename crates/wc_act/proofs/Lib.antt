@@ -26,3 +26,4 @@ pub mod Exits
 pub mod Undamaged
 pub mod Acknowledging
 mod SoundDeeds
+mod Told

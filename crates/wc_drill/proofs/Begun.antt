@@ -8,7 +8,7 @@ use Rattle.wc_disk.specs.Steps.{Only}
 use Rattle.wc_disk.proofs.Runs.{no_call, both_runs, weaker_run}
 use Rattle.wc_journal.specs.declared.journal.Journal.{Journal}
 use Rattle.wc_world.specs.World.{World, empty}
-use Rattle.wc_runner.specs.Leaves.{HoldsSome, LeavesWorlds, of_world}
+use Rattle.wc_store.specs.Stepped.{HoldsSome, LeavesWorlds, of_world}
 use Rattle.wc_store.specs.Held.{IsHeld, Standing, nothing, a_world}
 use Rattle.wc_store.specs.Refusals.{RefusesInit, IsDamageOf}
 use Rattle.wc_store.specs.Refusals.{Counts as CountsStore, IsUnchanged as IsUnchangedStore}

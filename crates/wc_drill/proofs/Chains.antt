@@ -24,7 +24,7 @@ use Rattle.wc_machine.specs.declared.error.TurnError.{TurnError}
 use Rattle.wc_machine.specs.declared.error.TurnError.TheVariants as turn_error
 use Rattle.wc_store.specs.Held.{is_plain}
 use Rattle.wc_store.specs.declared.error.StoreError.TheVariants as store_error
-use Rattle.wc_runner.specs.Refusals.{Counts, RefusesStored, is_live_after}
+use Rattle.wc_runner.specs.Refusals.{RefusesStored, is_live_after}
 use Rattle.wc_runner.specs.Turns.{IsRoomOrMemory, of_turn}
 use Rattle.wc_runner.specs.declared.error.RunError.{RunError}
 use Rattle.wc_runner.specs.declared.error.RunError.TheVariants.{DiskFault, Full, OutOfMemory}
@@ -148,9 +148,3 @@ pub crowd_live : (first second : ℕ) (w : World) (e : RunError) → IsCrowded f
 crowd_live first second w DiskFault h = absurd h
 crowd_live first second w (Full what count limit) h = refl
 crowd_live first second w OutOfMemory h = refl
-
-pub crowd_counts : (first second : ℕ) (w : World) (e : RunError) (one two : ℕ) (failed_one failed_two : Type 0) → IsCrowded first second w e
-    → Counts {T = Unit {0}} (Err e) one one two two failed_one failed_two
-crowd_counts first second w DiskFault one two failed_one failed_two h = absurd h
-crowd_counts first second w (Full what count limit) one two failed_one failed_two h = (refl, refl)
-crowd_counts first second w OutOfMemory one two failed_one failed_two h = (refl, refl)

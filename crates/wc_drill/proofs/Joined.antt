@@ -5,10 +5,8 @@ use Rattle.wc_disk.specs.declared.disk.Disk as disk
 use Rattle.wc_journal.specs.declared.journal.Journal.{Journal}
 use Rattle.wc_journal.specs.Reading.{batches_of, journal_of}
 use Rattle.wc_world.specs.World.{World, empty}
-use Rattle.wc_runner.specs.Leaves.{LeavesWorlds, SomeTurns, of_world}
-use Rattle.wc_runner.proofs.Leaving.{leaves_on, weaker_leaves}
+use Rattle.wc_runner.specs.Leaves.{SomeTurns}
 use Rattle.wc_runner.specs.Refusals.{RefusesRun, is_live_after}
-use Rattle.wc_runner.specs.Refusals.{Counts as CountsRun}
 use Rattle.wc_runner.specs.Trips as trips
 use Rattle.wc_runner.specs.declared.error.RunError.{RunError}
 use Rattle.wc_runner.specs.declared.error.RunError.TheVariants as run
@@ -16,9 +14,9 @@ use Rattle.wc_runner.specs.declared.runs.RunEnd.{RunEnd}
 use Rattle.wc_runner.specs.declared.runs.RunEnd.TheVariants as end
 use Rattle.wc_store.specs.Choices.{chosen, on}
 use Rattle.wc_store.specs.Places.{its, number_of}
+use Rattle.wc_store.specs.Stepped.{CountsFaults}
 use Rattle.wc_store.specs.Stores.{other, IsOfImages, LeadsTo, StandsFor}
 use Rattle.wc_store.specs.declared.place.Place.{Place}
-use Rattle.wc_store.specs.declared.place.Place.TheVariants.{One}
 use Rattle.wc_store.specs.declared.store.Store.{Store}
 use Rattle.wc_drill.specs.declared.error.DrillError.{DrillError}
 use Rattle.wc_drill.specs.Drilled.{Drills, HasDrilled, Submitted, outside, turns_of}
@@ -95,7 +93,7 @@ module _ (seed count : ℕ) (Holds : World → Journal → Type 0) (store : Stor
   -- all were submitted, and turns were taken
   module _ (begun : World) (submitted : Submitted seed count empty begun) (takes : SomeTurns outside (turns_of count) begun store.world.world) where
     -- the run broke off
-    pub run_refused : (e : RunError) → store.live ≡ is_live_after {T = Unit {0}} (Err e) → TakesFewer (turns_of count) begun store.world.world
+    pub run_refused : (e : RunError) → store.live ≡ is_live_after {T = RunEnd} (Err e) → TakesFewer (turns_of count) begun store.world.world
         → RefusesRun outside store e → RefusesDrilled Holds seed count (of_run e)
     run_refused run.DiskFault live fewer refused = tt
     run_refused (run.Full what most limit) live fewer refused = record {
@@ -130,15 +128,15 @@ pub durable : {D : Type 0} (g : disk.Ghosts D) (store : Store) (one two : D) →
 durable g store one two s = record { durable_one = s.durable_one; durable_two = s.durable_two }
 
 -- a store that is left by what broke off is live where a store was made and no disk failed
-pub live_begun : (A : Type 0) (e : RunError) → IsBegun {T = A} (Err (of_run e)) → is_live_after {T = Unit {0}} (Err e) ≡ true
-live_begun A run.DiskFault begun = absurd begun
-live_begun A (run.Full what most limit) begun = refl
-live_begun A run.OutOfMemory begun = absurd begun
+pub live_begun : (A B : Type 0) (e : RunError) → IsBegun {T = B} (Err (of_run e)) → is_live_after {T = A} (Err e) ≡ true
+live_begun A B run.DiskFault begun = absurd begun
+live_begun A B (run.Full what most limit) begun = refl
+live_begun A B run.OutOfMemory begun = absurd begun
 
 -- ---- counts
 
 pub counts_broken : (A B : Type 0) (e : RunError) (one one_new two two_new : ℕ) (failed_one failed_two : Type 0)
-    → CountsRun {T = A} (Err e) one one_new two two_new failed_one failed_two → Counts {T = B} (Err (of_run e)) one one_new two two_new failed_one failed_two
+    → CountsFaults (is_live_after {T = A} (Err e)) one one_new two two_new failed_one failed_two → Counts {T = B} (Err (of_run e)) one one_new two two_new failed_one failed_two
 counts_broken A B run.DiskFault one one_new two two_new failed_one failed_two h = h
 counts_broken A B (run.Full what most limit) one one_new two two_new failed_one failed_two h = h
 counts_broken A B run.OutOfMemory one one_new two two_new failed_one failed_two h = h
@@ -148,21 +146,3 @@ pub counts_ended : (e : RunEnd) (w : World) (result : Result ℕ DrillError) (on
 counts_ended end.AllEnded w result one one_new two two_new failed_one failed_two is h = subst (λ (r : Result ℕ DrillError). Counts r one one_new two two_new failed_one failed_two) (sym is) h
 counts_ended end.Spent w result one one_new two two_new failed_one failed_two is h = subst (λ (r : Result ℕ DrillError). Counts r one one_new two two_new failed_one failed_two) (sym is) h
 counts_ended end.Resting w result one one_new two two_new failed_one failed_two is h = subst (λ (r : Result ℕ DrillError). Counts r one one_new two two_new failed_one failed_two) (sym is) h
-
--- ---- what is left on the disks
-
-module _ {D : Type 0} (g : disk.Ghosts D) (seed count : ℕ) where
-  -- by submissions that broke off
-  pub chains_leave : (one two one_new two_new : D) → LeavesWorlds g One (SubmittedSome seed count empty) one two one_new two_new
-      → LeavesWorlds g One (Drills seed count) one two one_new two_new
-  chains_leave one two one_new two_new leaves =
-      weaker_leaves g One (of_world (SubmittedSome seed count empty)) (of_world (Drills seed count)) one two one_new two_new (λ v journal. of_some seed count v) leaves
-
-  -- by all submissions, and a run
-  pub run_leaves : (begun : World) (one two one_mid two_mid one_new two_new : D) → Submitted seed count empty begun
-      → LeavesWorlds g One (SubmittedSome seed count empty) one two one_mid two_mid
-      → LeavesWorlds g One (SomeTurns outside (turns_of count) begun) one_mid two_mid one_new two_new
-      → LeavesWorlds g One (Drills seed count) one two one_new two_new
-  run_leaves begun one two one_mid two_mid one_new two_new submitted first second =
-      leaves_on g One (of_world (SubmittedSome seed count empty)) (of_world (SomeTurns outside (turns_of count) begun)) (of_world (Drills seed count)) one two one_mid two_mid one_new two_new
-      (λ v journal. of_some seed count v) (λ v journal taken. of_turns seed count begun v submitted taken) first second

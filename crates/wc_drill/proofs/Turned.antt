@@ -1,5 +1,6 @@
 -- Turns of the run of a drill are turns in which each result is the square of a number.
-use Rattle.std.proofs.Common.{◌≡◌, ◌≤◌, ◌+◌, inl, inr, ⊎_elim, ℕ, Some, length, subst, arith}
+use Rattle.std.proofs.Common.{◌≡◌, ◌≤◌, inl, inr, ⊎_elim, ℕ, Some, Result, Ok, Err, length, subst, arith}
+use Rattle.std.specs.Prelude.{IfOk, OnErr}
 use Rattle.wc_io.specs.declared.pacer.Pacer as pacer
 use Rattle.wc_value.specs.declared.process.JobResult.{JobResult}
 use Rattle.wc_value.specs.declared.process.Request.{Request}
@@ -16,7 +17,7 @@ use Rattle.wc_runner.specs.declared.runs.RunEnd.TheVariants.{AllEnded, Spent, Re
 use Rattle.wc_runner.specs.Leaves.{SomeTurns}
 use Rattle.wc_runner.specs.Outside.{Outside, in_run}
 use Rattle.wc_runner.specs.Refusals.{RefusesRun}
-use Rattle.wc_runner.specs.Runs.{TakesTurns, TakesAll, TakesUpTo, TakesWithin, EndsAs, FitsAfter}
+use Rattle.wc_runner.specs.Runs.{TakesAll, TakesWithin, Ends, EndsAs}
 use Rattle.wc_runner.specs.Runs.{TakesFewer as FewerTaken}
 use Rattle.wc_runner.proofs.Widened.{Widens, step_widened, turns_widened}
 use Rattle.wc_drill.specs.Squares.{square_rows}
@@ -41,29 +42,20 @@ module _ {T P : Type 0} (h : transport.Ghosts T) (k : pacer.Ghosts P) (limits : 
   takes_just all w v begun now t = record { count = t.count; rests = t.rests; all_of_them = t.all_of_them; turns = turns_widened known outside wide t.count t.rests w v t.turns }
 
   -- and it breaks off before it has taken all
-  pub takes_fewer : (most : ℕ) (w v : World) (begun now : ℕ) → FewerTaken known most w v begun now → TakesFewer most w v
+  takes_fewer : (most : ℕ) (w v : World) (begun now : ℕ) → FewerTaken known most w v begun now → TakesFewer most w v
   takes_fewer most w v begun now t = (t.0, t.1, takes_just t.0 w v begun now t.2)
 
-  -- what it has taken
-  takes_turns : (most : ℕ) (w v : World) (begun now : ℕ) → TakesUpTo known most w v begun now → TakesTurns outside most w v
-  takes_turns most w v begun now up =
-      let t = up.2 in
-      let few : t.count + t.rests ≤ most = omega (arith, up.1, t.all_of_them) in
-      record { count = t.count; rests = t.rests; few = few; turns = turns_widened known outside wide t.count t.rests w v t.turns; batches = t.batches }
-
-  -- within the limit of nodes, where any turn was taken
-  pub takes_some : (most : ℕ) (w : World) (store : Store) (begun now : ℕ) → TakesUpTo known most w store.world.world begun now → FitsAfter limits w store
-      → SomeTurns outside most w store.world.world
-  takes_some most w store begun now up fits = (
-    takes_turns most w store.world.world begun now up,
-    ⊎_elim (λ still. inl still) (λ f. inr (subst (λ (l : Limits). length store.world.world.nodes ≤ l.max_nodes) usual f.0)) fits,
-  )
-
   -- how it ends
-  pub ends_so : (most : ℕ) (w v : World) (begun now : ℕ) (e : RunEnd) → EndsAs known most w v begun now e → EndsSo most w v e
+  ends_so : (most : ℕ) (w v : World) (begun now : ℕ) (e : RunEnd) → EndsAs known most w v begun now e → EndsSo most w v e
   ends_so most w v begun now AllEnded e = e
   ends_so most w v begun now Spent e = (e.0, e.1, takes_just most w v begun now e.2)
   ends_so most w v begun now Resting e = e
+
+  -- how it ends, or that it breaks off
+  pub ends_as_told : (most : ℕ) (w v : World) (begun now : ℕ) (result : Result RunEnd RunError) → Ends known most w v begun now result
+      → IfOk result (EndsSo most w v) × OnErr result (TakesFewer most w v)
+  ends_as_told most w v begun now (Ok end) e = (ends_so most w v begun now end e, tt)
+  ends_as_told most w v begun now (Err error) e = (tt, takes_fewer most w v begun now e)
 
   -- what it leaves
   pub some_turns : (most : ℕ) (w v : World) (journal : Journal) → TakesWithin known most w v journal → SomeTurns outside most w v

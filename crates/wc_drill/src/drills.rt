@@ -5,10 +5,11 @@ ghost use Rattle.wc_world.specs.World.{World as AWorld, empty};
 ghost use Rattle.wc_disk.specs.Images.{LeavesOnly};
 ghost use Rattle.wc_store.specs.Held.{IsHeld, nothing};
 ghost use Rattle.wc_journal.specs.declared.journal.Journal.{Journal as AJournal};
-ghost use Rattle.wc_store.specs.Stores.{LeadsTo, StandsFor};
+ghost use Rattle.wc_store.specs.Stepped.{LeavesWorlds, Stepped, of_world};
+ghost use Rattle.wc_store.specs.Stores.{StandsFor};
 ghost use Rattle.wc_store.specs.declared.place.Place.TheVariants.{One};
-ghost use Rattle.wc_runner.specs.Leaves.{LeavesWorlds, SomeTurns};
-ghost use Rattle.wc_runner.specs.Refusals.{Counts as CountsRun, RefusesRun, is_live_after};
+ghost use Rattle.wc_runner.specs.Leaves.{SomeTurns};
+ghost use Rattle.wc_runner.specs.Refusals.{RefusesRun, is_live_after};
 ghost use Rattle.wc_drill.specs.Library.{library};
 ghost use Rattle.wc_drill.specs.Squares.{square_rows};
 ghost use Rattle.wc_drill.specs.Drilled.{Drills, HasDrilled, outside, turns_of};
@@ -67,18 +68,10 @@ fn run_all<D: Disk>(
     requires table { table ≡ square_rows 100 }
     requires live { store.old.live ≡ true }
     requires stands { IsTrue (D.tells one.old) → IsTrue (D.tells two.old) → StandsFor D.Disk store.old one.old two.old }
-    ensures takes { SomeTurns outside (turns_of count) store.old.world.world store.new.world.world }
+    ensures stepped { Stepped D.Disk (of_world (SomeTurns outside (turns_of count) store.old.world.world)) (is_live_after result) store.old one.old two.old store.new one.new two.new }
     ensures ends { IfOk result (EndsSo (turns_of count) store.old.world.world store.new.world.world) }
     ensures early { OnErr result (TakesFewer (turns_of count) store.old.world.world store.new.world.world) }
-    ensures live { store.new.live ≡ is_live_after result }
     ensures refused { IfErr result (RefusesRun outside store.new) }
-    ensures still { store.new.live ≡ true → IsTrue (D.tells one.old) → IsTrue (D.tells two.old) → StandsFor D.Disk store.new one.new two.new }
-    ensures images { LeadsTo store.old store.new }
-    ensures place { (store.new.place ≡ store.old.place) × (store.new.journal.generation ≡ store.old.journal.generation) × (store.new.journal.version ≡ store.old.journal.version) }
-    ensures any_moment { IsTrue (D.tells one.old) → IsTrue (D.tells two.old)
-        → LeavesWorlds D.Disk store.old.place (SomeTurns outside (turns_of count) store.old.world.world) one.old two.old one.new two.new }
-    ensures tells { (D.tells one.new ≡ D.tells one.old) × (D.tells two.new ≡ D.tells two.old) }
-    ensures cause { CountsRun result (D.faults one.old) (D.faults one.new) (D.faults two.old) (D.faults two.new) (D.failed one.new) (D.failed two.new) }
 {
     let mut transport = TableTransport::new(alloc, table, Failing::new(alloc), Busy::new(alloc));
     let mut pacer = MemoryPacer::new(0);

@@ -1,14 +1,11 @@
 //! Submissions of generated chains.
 
-ghost use Rattle.std.specs.Prelude.{◌≡◌, ◌≤◌, ℕ, true, IsTrue, IfOk, IfErr, OnOk, OnErr};
+ghost use Rattle.std.specs.Prelude.{◌≡◌, true, IsTrue, IfOk, IfErr, OnOk, OnErr};
 ghost use Rattle.wc_state.specs.Ranges.{AreLimits};
-ghost use Rattle.wc_world.specs.Accepted.{IsAccepted};
-ghost use Rattle.wc_world.specs.Applied.{applied};
-ghost use Rattle.wc_store.specs.Held.{is_plain};
-ghost use Rattle.wc_store.specs.Stores.{CommitLeaves, LeadsTo, StandsFor};
-ghost use Rattle.wc_runner.specs.Leaves.{LeavesWorlds};
-ghost use Rattle.wc_runner.specs.Refusals.{Counts, IsUnchanged, RefusesStored, is_live_after};
-ghost use Rattle.wc_runner.specs.Turns.{IsOfCommit, IsRoomOrMemory, of_store, of_turn};
+ghost use Rattle.wc_store.specs.Stepped.{IsAsBefore, Stepped, of_world};
+ghost use Rattle.wc_store.specs.Stores.{StandsFor};
+ghost use Rattle.wc_runner.specs.Refusals.{is_live_after};
+ghost use Rattle.wc_runner.specs.Turns.{IsRoomOrMemory, of_turn};
 ghost use Rattle.wc_drill.specs.Library.{library};
 ghost use Rattle.wc_drill.specs.Drilled.{IsSubmitted, Submitted, usual_limits};
 ghost use Rattle.wc_drill.specs.Refusals.{RefusesChains};
@@ -18,9 +15,9 @@ use crate::{chain_inputs, chain_name, next_numbers};
 use std::alloc::Global;
 use wc_disk::Disk;
 use wc_machine::TurnError;
-use wc_runner::{RunError, submit_changes};
+use wc_runner::{RunError, commit_changes, submit_changes};
 use wc_state::Limits;
-use wc_store::{Store, StoreError};
+use wc_store::Store;
 use wc_syntax::Checked;
 use wc_value::{Generator, Words};
 use wc_world::{Changes, World};
@@ -45,19 +42,6 @@ fn of_turn(error: TurnError) -> RunError
     match error {
         TurnError::Full(what, count, limit) => RunError::Full(what, count, limit),
         TurnError::OutOfMemory => RunError::OutOfMemory,
-        _ => unreachable!(),
-    }
-}
-
-/// What is told of a commit's refusal. A store that is there is neither damaged nor made again.
-fn of_store(error: StoreError) -> RunError
-    requires { IsOfCommit error }
-    ensures { result ≡ of_store error }
-{
-    match error {
-        StoreError::DiskFault => RunError::DiskFault,
-        StoreError::Full(what, count, limit) => RunError::Full(what, count, limit),
-        StoreError::OutOfMemory => RunError::OutOfMemory,
         _ => unreachable!(),
     }
 }
@@ -92,40 +76,6 @@ fn chain_changes(
     }
 }
 
-/// Commits the changes of a submission.
-fn committed<D: Disk>(
-    alloc: Global,
-    store: &mut Store,
-    one: &mut D,
-    two: &mut D,
-    changes: Changes,
-) -> Result<(), RunError>
-    requires live { store.old.live ≡ true }
-    requires stands { IsTrue (D.tells one.old) → IsTrue (D.tells two.old) → StandsFor D.Disk store.old one.old two.old }
-    requires accepted { IsAccepted store.old.world.world changes }
-    requires plain { is_plain changes ≡ true }
-    ensures world { OnOk result (store.new.world.world ≡ applied store.old.world.world changes) }
-    ensures same { OnErr result (store.new.world.world ≡ store.old.world.world) }
-    ensures kept { OnErr result (store.new.journal.end ≡ store.old.journal.end) }
-    ensures live { store.new.live ≡ is_live_after result }
-    ensures refused { IfErr result (RefusesStored store.old.journal usual_limits store.old.world.world changes) }
-    ensures untouched_one { IsUnchanged result one.old one.new }
-    ensures untouched_two { IsUnchanged result two.old two.new }
-    ensures still { store.new.live ≡ true → IsTrue (D.tells one.old) → IsTrue (D.tells two.old) → StandsFor D.Disk store.new one.new two.new }
-    ensures images { LeadsTo store.old store.new }
-    ensures place { (store.new.place ≡ store.old.place) × (store.new.journal.generation ≡ store.old.journal.generation) × (store.new.journal.version ≡ store.old.journal.version) }
-    ensures any_moment { IsTrue (D.tells one.old) → IsTrue (D.tells two.old)
-        → CommitLeaves D.Disk store.old usual_limits changes one.old two.old one.new two.new }
-    ensures tells { (D.tells one.new ≡ D.tells one.old) × (D.tells two.new ≡ D.tells two.old) }
-    ensures cause { Counts result (D.faults one.old) (D.faults one.new) (D.faults two.old) (D.faults two.new) (D.failed one.new) (D.failed two.new) }
-{
-    let limits = usual_limits();
-    match store.commit(alloc, one, two, changes, &limits) {
-        Ok(()) => Ok(()),
-        Err(error) => Err(of_store(error)),
-    }
-}
-
 /// Submits a chain with these numbers, as one batch.
 fn submit_chain<D: Disk>(
     alloc: Global,
@@ -139,24 +89,17 @@ fn submit_chain<D: Disk>(
     requires live { store.old.live ≡ true }
     requires stands { IsTrue (D.tells one.old) → IsTrue (D.tells two.old) → StandsFor D.Disk store.old one.old two.old }
     requires library { chains.now ≡ library }
-    ensures ok { OnOk result (IsSubmitted first second store.old.world.world store.new.world.world) }
-    ensures same { OnErr result (store.new.world.world ≡ store.old.world.world) }
-    ensures kept { OnErr result (store.new.journal.end ≡ store.old.journal.end) }
-    ensures live { store.new.live ≡ is_live_after result }
-    ensures refused { IfErr result (RefusesChain first second store.old.journal store.old.world.world) }
-    ensures untouched_one { IsUnchanged result one.old one.new }
-    ensures untouched_two { IsUnchanged result two.old two.new }
-    ensures still { store.new.live ≡ true → IsTrue (D.tells one.old) → IsTrue (D.tells two.old) → StandsFor D.Disk store.new one.new two.new }
-    ensures images { LeadsTo store.old store.new }
-    ensures place { (store.new.place ≡ store.old.place) × (store.new.journal.generation ≡ store.old.journal.generation) × (store.new.journal.version ≡ store.old.journal.version) }
     // At each moment the disks hold the world before or the one after.
-    ensures any_moment { IsTrue (D.tells one.old) → IsTrue (D.tells two.old)
-        → LeavesWorlds D.Disk store.old.place (IsOrSubmitted first second store.old.world.world) one.old two.old one.new two.new }
-    ensures tells { (D.tells one.new ≡ D.tells one.old) × (D.tells two.new ≡ D.tells two.old) }
-    ensures cause { Counts result (D.faults one.old) (D.faults one.new) (D.faults two.old) (D.faults two.new) (D.failed one.new) (D.failed two.new) }
+    ensures stepped { Stepped D.Disk (of_world (IsOrSubmitted first second store.old.world.world)) (is_live_after result) store.old one.old two.old store.new one.new two.new }
+    ensures ok { OnOk result (IsSubmitted first second store.old.world.world store.new.world.world) }
+    ensures same { OnErr result (IsAsBefore store.old store.new.world.world store.new.journal) }
+    ensures refused { IfErr result (RefusesChain first second store.old.journal store.old.world.world) }
 {
     match chain_changes(alloc, store.world(), chains, first, second) {
-        Ok(changes) => committed(alloc, store, one, two, changes),
+        Ok(changes) => {
+            let limits = usual_limits();
+            commit_changes(alloc, store, one, two, &limits, changes)
+        }
         Err(error) => Err(error),
     }
 }
@@ -174,18 +117,10 @@ pub(crate) fn submit_chains<D: Disk>(
     requires live { store.old.live ≡ true }
     requires stands { IsTrue (D.tells one.old) → IsTrue (D.tells two.old) → StandsFor D.Disk store.old one.old two.old }
     requires library { chains.now ≡ library }
-    ensures all { OnOk result (Submitted seed count store.old.world.world store.new.world.world) }
-    ensures some { SubmittedSome seed count store.old.world.world store.new.world.world }
-    ensures live { store.new.live ≡ is_live_after result }
-    ensures refused { IfErr result (RefusesChains seed count store.old.world.world store.new) }
-    ensures still { store.new.live ≡ true → IsTrue (D.tells one.old) → IsTrue (D.tells two.old) → StandsFor D.Disk store.new one.new two.new }
-    ensures images { LeadsTo store.old store.new }
-    ensures place { (store.new.place ≡ store.old.place) × (store.new.journal.generation ≡ store.old.journal.generation) × (store.new.journal.version ≡ store.old.journal.version) }
     // At each moment the disks hold what the first submissions make.
-    ensures any_moment { IsTrue (D.tells one.old) → IsTrue (D.tells two.old)
-        → LeavesWorlds D.Disk store.old.place (SubmittedSome seed count store.old.world.world) one.old two.old one.new two.new }
-    ensures tells { (D.tells one.new ≡ D.tells one.old) × (D.tells two.new ≡ D.tells two.old) }
-    ensures cause { Counts result (D.faults one.old) (D.faults one.new) (D.faults two.old) (D.faults two.new) (D.failed one.new) (D.failed two.new) }
+    ensures stepped { Stepped D.Disk (of_world (SubmittedSome seed count store.old.world.world)) (is_live_after result) store.old one.old two.old store.new one.new two.new }
+    ensures all { OnOk result (Submitted seed count store.old.world.world store.new.world.world) }
+    ensures refused { IfErr result (RefusesChains seed count store.old.world.world store.new) }
 {
     let mut draws = Generator::new(seed);
     let mut submitted: u32 = 0;

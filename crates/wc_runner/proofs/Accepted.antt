@@ -1,5 +1,5 @@
 -- What the turn of a ready process makes, and how it is refused.
-use Rattle.std.proofs.Common.{◌≡◌, ◌⊎◌, inl, inr, ℕ, ◌+◌, true, false, List, [], ◌∷◌, Result, Ok, Err, refl, sym, ◌∙◌}
+use Rattle.std.proofs.Common.{◌≡◌, ◌⊎◌, inl, inr, ℕ, ◌+◌, true, false, List, [], ◌∷◌, Result, Ok, Err, refl, sym, ap, subst, ◌∙◌}
 use Rattle.std.specs.Prelude.{All, IfErr, OnErr, OnOk}
 use Rattle.std.proofs.lemmas.List.Elements.{All-head, All-tail}
 use Rattle.wc_journal.specs.declared.journal.Journal.{Journal}
@@ -18,16 +18,17 @@ use Rattle.wc_core.specs.Ready.{is_ready_at}
 use Rattle.wc_core.specs.Refusals.{RefusesTurn}
 use Rattle.wc_store.specs.Held.{is_plain}
 use Rattle.wc_store.specs.Refusals.{RefusesCommit}
-use Rattle.wc_store.specs.Stores.{IsLonger}
+use Rattle.wc_store.specs.Refusals as store
+use Rattle.wc_store.specs.Stepped.{IsCommitted}
+use Rattle.wc_store.specs.declared.store.Store.{Store}
 use Rattle.wc_store.specs.declared.error.StoreError.{StoreError}
 use Rattle.wc_store.specs.declared.error.StoreError.TheVariants as store_error
 use Rattle.wc_runner.specs.declared.error.RunError.{RunError}
 use Rattle.wc_runner.specs.declared.error.RunError.TheVariants.{DiskFault, Full, OutOfMemory}
 use Rattle.wc_runner.specs.Leaves.{IsTurnWithin}
 use Rattle.wc_runner.specs.Outside.{Answers, Outside}
-use Rattle.wc_runner.specs.Refusals.{Counts, IsUnchanged, RefusesItsCommit, RefusesPrepared, RefusesStep, RefusesStored, is_live_after}
-use Rattle.wc_runner.specs.Trips.{TurnOf}
-use Rattle.wc_runner.specs.Turns.{IsOfCommit, IsPrepared, IsReady, IsRoomOrMemory, RefusesChanges, of_turn}
+use Rattle.wc_runner.specs.Refusals.{IsUnchanged, RefusesItsCommit, RefusesPrepared, RefusesStep, RefusesStored, is_live_after}
+use Rattle.wc_runner.specs.Turns.{IsOfCommit, IsPrepared, IsReady, IsRoomOrMemory, RefusesChanges, of_store, of_turn}
 use Rattle.wc_runner.proofs.ManyTurns.{one_batch}
 
 -- changes of which none is a Count or a Kept may be committed
@@ -62,15 +63,18 @@ prepares_none o w pid now a said answered (Full what count limit) h =
 prepares_none o w pid now a said answered OutOfMemory h = tt
 
 module _ (o : Outside) (pid : ℕ) (w : World) (cs : List Change) (p : IsPrepared o pid w cs) where
-  pub turn_made : TurnOf o pid w (applied w cs)
-  turn_made = record { changes = cs; turn = p.turn; accepted = p.accepted; after = refl }
-
   pub turn_counted : (applied w cs).batches ≡ w.batches + 1
   turn_counted = one_batch o pid w cs p.turn
 
-  -- the turn, by one batch and within the limits
-  pub turn_within : (journal next : Journal) → IsLonger o.limits journal cs next → IsTurnWithin o pid w (applied w cs) next
-  turn_within journal next longer = record { turn = turn_made; fits = (p.room.0, longer.fits); batch = turn_counted }
+  -- the turn that is committed, by one batch and within the limits
+  pub turn_committed : (store : Store) → store.world.world ≡ w → (v : World) (journal : Journal) → IsCommitted o.limits cs store v journal → IsTurnWithin o pid w v journal
+  turn_committed store same v journal c =
+      let is : v ≡ applied w cs = c.world ∙ ap (λ (x : World). applied x cs) same in
+      record {
+        turn = record { changes = cs; turn = p.turn; accepted = p.accepted; after = is };
+        fits = (c.nodes, c.longer.fits);
+        batch = ap (λ (x : World). x.batches) is ∙ turn_counted;
+      }
 
   its_commit : (journal : Journal) (e : StoreError) → RefusesCommit journal o.limits w cs e → RefusesItsCommit o journal w pid e
   its_commit journal e h = record { changes = cs; turn = p.turn; accepted = p.accepted; room = p.room; refused = h }
@@ -91,12 +95,6 @@ pub still_live : (o : Outside) (w : World) (pid : ℕ) (e : RunError) → Refuse
 still_live o w pid DiskFault h = absurd h
 still_live o w pid (Full what count limit) h = refl
 still_live o w pid OutOfMemory h = refl
-
-pub counts_none : (o : Outside) (w : World) (pid : ℕ) (e : RunError) (one two : ℕ) (failed_one failed_two : Type 0) → RefusesPrepared o pid w e
-    → Counts {T = Unit {0}} (Err e) one one two two failed_one failed_two
-counts_none o w pid DiskFault one two failed_one failed_two h = absurd h
-counts_none o w pid (Full what count limit) one two failed_one failed_two h = (refl, refl)
-counts_none o w pid OutOfMemory one two failed_one failed_two h = (refl, refl)
 
 pub unchanged : {S : Type 0} (e : RunError) (s : S) → IsUnchanged {T = Unit {0}} (Err e) s s
 unchanged DiskFault s = tt
@@ -151,3 +149,26 @@ refused_commit journal limits w cs (store_error.Damaged disk at found) refused =
 refused_commit journal limits w cs (store_error.Full what count limit) refused = tt
 refused_commit journal limits w cs store_error.AlreadyThere refused = refused
 refused_commit journal limits w cs store_error.OutOfMemory refused = tt
+
+-- ---- what a run tells of a commit's refusal
+
+-- the store is live alike
+pub live_as : (e : StoreError) → IsOfCommit e → store.is_live_after {T = Unit {0}} (Err e) true ≡ is_live_after {T = Unit {0}} (Err (of_store e))
+live_as store_error.DiskFault is = refl
+live_as (store_error.Damaged disk at found) is = absurd is
+live_as (store_error.Full what count limit) is = refl
+live_as store_error.AlreadyThere is = absurd is
+live_as store_error.OutOfMemory is = refl
+
+-- and its disks are as they were alike
+unchanged_of : {S : Type 0} (e : StoreError) → IsOfCommit e → (old new : S) → store.IsUnchanged {T = Unit {0}} (Err e) old new
+    → IsUnchanged {T = Unit {0}} (Err (of_store e)) old new
+unchanged_of store_error.DiskFault is old new h = tt
+unchanged_of (store_error.Damaged disk at found) is old new h = absurd is
+unchanged_of (store_error.Full what count limit) is old new h = h
+unchanged_of store_error.AlreadyThere is old new h = absurd is
+unchanged_of store_error.OutOfMemory is old new h = h
+
+pub unchanged_as : {S : Type 0} (e : StoreError) → IsOfCommit e → (told : RunError) → told ≡ of_store e → (old new : S) → store.IsUnchanged {T = Unit {0}} (Err e) old new
+    → IsUnchanged {T = Unit {0}} (Err told) old new
+unchanged_as e is told same old new h = subst (λ (x : RunError). IsUnchanged {T = Unit {0}} (Err x) old new) (sym same) (unchanged_of e is old new h)

@@ -9,10 +9,12 @@ pub mod Marked
 pub mod Taken
 mod Needed
 mod Accepted
-pub mod Leaving
+pub mod Led
 pub mod Placed
 pub mod Codes
-mod UnderWay
+mod Known
 mod Trailed
 mod TrailLaws
+mod Gone
 mod OnTrail
+mod Ran

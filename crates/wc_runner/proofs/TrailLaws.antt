@@ -16,7 +16,7 @@ use Rattle.wc_runner.specs.Trips.{RestsAt, none, one_more, one_rest}
 use Rattle.wc_runner.specs.declared.error.RunError.{RunError}
 use Rattle.wc_runner.proofs.Sets.{gives_turn}
 use Rattle.wc_runner.proofs.Taken.{asked_none, asked_on, rises_by_more, rises_by_none, what_it_needs}
-use Rattle.wc_runner.proofs.UnderWay.{later_calls, later_moments, of_turn}
+use Rattle.wc_runner.proofs.Known.{later_calls, later_moments, of_turn}
 use Rattle.wc_runner.proofs.Widened.{Widens, turn_of_widened, turns_widened}
 
 -- a count that rose by one more, and by as many as those in all

@@ -6,6 +6,7 @@ pub mod Trips
 pub mod Laws
 pub mod Refusals
 pub mod Leaves
+pub mod Orders
 pub mod Turns
 pub mod Asked
 pub mod Runs

@@ -1,5 +1,5 @@
 -- What a run has done, and how it ends.
-use Rattle.std.specs.Prelude.{◌≡◌, ◌⊎◌, ◌<◌, ◌≤◌, ◌+◌, ◌^◌, ℕ, true, false, length}
+use Rattle.std.specs.Prelude.{◌≡◌, ◌⊎◌, ◌<◌, ◌≤◌, ◌+◌, ◌^◌, ℕ, true, false, length, Result, Ok, Err}
 use Rattle.wc_journal.specs.declared.journal.Journal.{Journal}
 use Rattle.wc_state.specs.declared.record.Limits.{Limits}
 use Rattle.wc_world.specs.World.{World}
@@ -8,6 +8,7 @@ use Rattle.wc_store.specs.declared.store.Store.{Store}
 use Rattle.wc_core.specs.Standing.{is_any_live, is_resting}
 use Rattle.wc_runner.specs.Outside.{Outside}
 use Rattle.wc_runner.specs.Trips.{Turns}
+use Rattle.wc_runner.specs.declared.error.RunError.{RunError}
 use Rattle.wc_runner.specs.declared.runs.RunEnd.{RunEnd}
 use Rattle.wc_runner.specs.declared.runs.RunEnd.TheVariants.{AllEnded, Spent, Resting}
 
@@ -46,6 +47,11 @@ abbrev pub EndsAs : Outside → (most : ℕ) → World → World → (begun now 
 EndsAs o most w v begun now AllEnded = is_any_live v ≡ false
 EndsAs o most w v begun now Spent = (is_any_live v ≡ true) × (is_resting v ≡ false) × TakesAll o most w v begun now
 EndsAs o most w v begun now Resting = (is_any_live v ≡ true) × (is_resting v ≡ true)
+
+-- a run that came to an end ended so, and one that broke off had taken fewer
+abbrev pub Ends : Outside → (most : ℕ) → World → World → (begun now : ℕ) → Result RunEnd RunError → Type 0
+Ends o most w v begun now (Ok end) = EndsAs o most w v begun now end
+Ends o most w v begun now (Err e) = TakesFewer o most w v begun now
 
 -- the world is within the limit of nodes, and its journal within that of bytes
 abbrev pub FitsIn : Limits → World → Journal → Type 0

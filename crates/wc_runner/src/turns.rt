@@ -1,21 +1,19 @@
 //! One turn on a store.
 
-ghost use Rattle.std.specs.Prelude.{◌≡◌, ◌≤◌, ◌+◌, ℕ, true, length, IsTrue, IfOk, IfErr, OnOk, OnErr};
+ghost use Rattle.std.specs.Prelude.{◌≡◌, true, IsTrue, IfOk, IfErr, OnOk, OnErr};
 ghost use Rattle.wc_state.specs.Ranges.{AreLimits};
 ghost use Rattle.wc_state.specs.declared.record.Limits.{Limits as AnyLimits};
 ghost use Rattle.wc_core.specs.Ready.{is_ready_at};
 ghost use Rattle.wc_core.specs.Asks.{FitsAt};
-ghost use Rattle.wc_store.specs.Refusals.{byte_limit};
 ghost use Rattle.wc_store.specs.Held.{is_plain};
-ghost use Rattle.wc_store.specs.Stores.{CommitLeaves, LeadsTo, StandsFor};
+ghost use Rattle.wc_store.specs.Stepped.{IsAsBefore, IsCommitted, IsOrCommitted, LeavesHeld, Stepped, of_world};
+ghost use Rattle.wc_store.specs.Stores.{StandsFor};
 ghost use Rattle.wc_world.specs.Accepted.{IsAccepted};
-ghost use Rattle.wc_world.specs.Applied.{applied};
 ghost use Rattle.wc_runner.specs.Asked.{AreOfProcesses, AsksOnce, IsAsked, WhatItNeeds};
-ghost use Rattle.wc_runner.specs.Leaves.{IsOrTurnOf, LeavesHeld, LeavesWorlds};
+ghost use Rattle.wc_runner.specs.Leaves.{IsOrTurnOf, IsTurnWithin};
 ghost use Rattle.wc_runner.specs.declared.error.RunError.TheVariants.{OutOfMemory};
 ghost use Rattle.wc_runner.specs.Outside.{Answers, in_turn};
-ghost use Rattle.wc_runner.specs.Refusals.{Counts, IsUnchanged, RefusesPrepared, RefusesStep, RefusesStored, is_live_after};
-ghost use Rattle.wc_runner.specs.Trips.{TurnOf};
+ghost use Rattle.wc_runner.specs.Refusals.{IsUnchanged, RefusesPrepared, RefusesStep, RefusesStored, is_live_after};
 ghost use Rattle.wc_runner.specs.Turns.{IsOfCommit, IsPrepared, IsReady, IsRoomOrMemory, RefusesChanges, of_store, of_turn};
 
 use crate::error::RunError;
@@ -126,8 +124,8 @@ fn prepared<T: Transport>(
     }
 }
 
-/// Commits the changes of a turn.
-fn committed<D: Disk>(
+/// Commits changes to a store that is there: those of a turn, or of another event.
+pub fn commit_changes<D: Disk>(
     alloc: Global,
     store: &mut Store,
     one: &mut D,
@@ -140,22 +138,11 @@ fn committed<D: Disk>(
     requires accepted { IsAccepted store.old.world.world changes }
     requires plain { is_plain changes ≡ true }
     requires limits { AreLimits limits.now }
-    ensures fits { OnOk result ((length store.new.world.world.nodes ≤ limits.now.max_nodes)
-        × (store.new.journal.end + 1 ≤ byte_limit store.new.journal.version limits.now.max_bytes)) }
-    ensures kept { OnErr result (store.new.journal.end ≡ store.old.journal.end) }
-    ensures world { OnOk result (store.new.world.world ≡ applied store.old.world.world changes) }
-    ensures same { OnErr result (store.new.world.world ≡ store.old.world.world) }
-    ensures live { store.new.live ≡ is_live_after result }
+    ensures stepped { Stepped D.Disk (IsOrCommitted limits.now changes store.old) (is_live_after result) store.old one.old two.old store.new one.new two.new }
+    ensures done { OnOk result (IsCommitted limits.now changes store.old store.new.world.world store.new.journal) }
+    ensures same { OnErr result (IsAsBefore store.old store.new.world.world store.new.journal) }
     ensures refused { IfErr result (RefusesStored store.old.journal limits.now store.old.world.world changes) }
-    ensures untouched_one { IsUnchanged result one.old one.new }
-    ensures untouched_two { IsUnchanged result two.old two.new }
-    ensures still { store.new.live ≡ true → IsTrue (D.tells one.old) → IsTrue (D.tells two.old) → StandsFor D.Disk store.new one.new two.new }
-    ensures images { LeadsTo store.old store.new }
-    ensures place { (store.new.place ≡ store.old.place) × (store.new.journal.generation ≡ store.old.journal.generation) × (store.new.journal.version ≡ store.old.journal.version) }
-    ensures any_moment { IsTrue (D.tells one.old) → IsTrue (D.tells two.old)
-        → CommitLeaves D.Disk store.old limits.now changes one.old two.old one.new two.new }
-    ensures tells { (D.tells one.new ≡ D.tells one.old) × (D.tells two.new ≡ D.tells two.old) }
-    ensures cause { Counts result (D.faults one.old) (D.faults one.new) (D.faults two.old) (D.faults two.new) (D.failed one.new) (D.failed two.new) }
+    ensures untouched { IsUnchanged result one.old one.new × IsUnchanged result two.old two.new }
 {
     match store.commit(alloc, one, two, changes, limits) {
         Ok(()) => Ok(()),
@@ -178,33 +165,22 @@ pub fn turn_one<D: Disk, T: Transport>(
     requires stands { IsTrue (D.tells one.old) → IsTrue (D.tells two.old) → StandsFor D.Disk store.old one.old two.old }
     requires limits { AreLimits limits.now }
     requires ready { is_ready_at store.old.world.world pid now ≡ true }
-    ensures fits { OnOk result ((length store.new.world.world.nodes ≤ limits.now.max_nodes)
-        × (store.new.journal.end + 1 ≤ byte_limit store.new.journal.version limits.now.max_bytes)) }
-    ensures kept { OnErr result (store.new.journal.end ≡ store.old.journal.end) }
-    ensures ok { OnOk result (TurnOf (in_turn T.Transport limits.now now transport.old transport.new) pid store.old.world.world store.new.world.world) }
-    ensures batches { OnOk result (store.new.world.world.batches ≡ store.old.world.world.batches + 1) }
-    ensures same { OnErr result (store.new.world.world ≡ store.old.world.world) }
-    ensures live { store.new.live ≡ is_live_after result }
-    ensures refused { IfErr result (RefusesStep (in_turn T.Transport limits.now now transport.old transport.new) store.old.journal store.old.world.world pid) }
-    ensures untouched_one { IsUnchanged result one.old one.new }
-    ensures untouched_two { IsUnchanged result two.old two.new }
-    ensures still { store.new.live ≡ true → IsTrue (D.tells one.old) → IsTrue (D.tells two.old) → StandsFor D.Disk store.new one.new two.new }
-    ensures images { LeadsTo store.old store.new }
-    ensures place { (store.new.place ≡ store.old.place) × (store.new.journal.generation ≡ store.old.journal.generation) × (store.new.journal.version ≡ store.old.journal.version) }
     // At each moment the disks hold the world before or the one after, each by its journal.
-    ensures any_moment { IsTrue (D.tells one.old) → IsTrue (D.tells two.old)
-        → LeavesHeld D.Disk store.old.place (IsOrTurnOf (in_turn T.Transport limits.now now transport.old transport.new) pid store.old.world.world store.old.journal) one.old two.old one.new two.new }
+    ensures stepped { Stepped D.Disk (IsOrTurnOf (in_turn T.Transport limits.now now transport.old transport.new) pid store.old.world.world store.old.journal)
+        (is_live_after result) store.old one.old two.old store.new one.new two.new }
+    ensures ok { OnOk result (IsTurnWithin (in_turn T.Transport limits.now now transport.old transport.new) pid store.old.world.world store.new.world.world store.new.journal) }
+    ensures same { OnErr result (IsAsBefore store.old store.new.world.world store.new.journal) }
+    ensures refused { IfErr result (RefusesStep (in_turn T.Transport limits.now now transport.old transport.new) store.old.journal store.old.world.world pid) }
+    ensures untouched { IsUnchanged result one.old one.new × IsUnchanged result two.old two.new }
     // At each moment they hold each process whose directory is placed in the end, where they did so in the beginning.
     ensures directories { AreOfProcesses (T.placed transport.old) store.old.world.world → IsTrue (D.tells one.old) → IsTrue (D.tells two.old)
-        → LeavesWorlds D.Disk store.old.place (AreOfProcesses (T.placed transport.new)) one.old two.old one.new two.new }
+        → LeavesHeld D.Disk store.old.place (of_world (AreOfProcesses (T.placed transport.new))) one.old two.old one.new two.new }
     ensures processes { AreOfProcesses (T.placed transport.old) store.old.world.world → AreOfProcesses (T.placed transport.new) store.new.world.world }
     ensures asks { WhatItNeeds store.old.world.world pid (AsksOnce result T.asked transport.old transport.new) }
     ensures stays { WhatItNeeds store.old.world.world pid (λ n. IsAsked T.Transport pid n transport.old transport.new) }
-    ensures tells { (D.tells one.new ≡ D.tells one.old) × (D.tells two.new ≡ D.tells two.old) }
-    ensures cause { Counts result (D.faults one.old) (D.faults one.new) (D.faults two.old) (D.faults two.new) (D.failed one.new) (D.failed two.new) }
 {
     match prepared(alloc, store.world(), transport, limits, pid, now) {
-        Ok(changes) => committed(alloc, store, one, two, limits, changes),
+        Ok(changes) => commit_changes(alloc, store, one, two, limits, changes),
         Err(error) => Err(error),
     }
 }

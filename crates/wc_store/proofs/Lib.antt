@@ -16,6 +16,7 @@ mod Placed
 mod Committed
 mod Imaged
 pub mod Led
+pub mod Stepping
 pub mod Parts
 mod Reached
 mod Deciding

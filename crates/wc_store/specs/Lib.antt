@@ -5,6 +5,7 @@ pub mod Refusals
 pub mod Sights
 pub mod Held
 pub mod Stores
+pub mod Stepped
 pub mod Laws
 pub mod Played
 pub mod Opened

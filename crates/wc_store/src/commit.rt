@@ -1,17 +1,16 @@
 //! Changes that are stored, and a world that is packed.
-ghost use Rattle.std.specs.Prelude.{◌≡◌, ◌≤◌, ◌+◌, [], ◌∷◌, true, length, max, Err, IsTrue, IfOk, IfErr, OnOk, OnErr};
+ghost use Rattle.std.specs.Prelude.{◌≡◌, ◌+◌, [], ◌∷◌, true, length, max, Err, IsTrue, IfOk, IfErr, OnOk, OnErr};
 ghost use Rattle.wc_journal.specs.Reading.{holds, journal_of};
 ghost use Rattle.wc_journal.specs.Journals.{StaysWithin};
 ghost use Rattle.wc_record.specs.Spelled.{spelled};
-ghost use Rattle.wc_world.specs.Applied.{applied};
 ghost use Rattle.wc_world.specs.Accepted.{IsAccepted};
 ghost use Rattle.wc_world.specs.Snapshot.{snapshot};
-ghost use Rattle.wc_store.specs.Places.{its, number_of, opposite};
+ghost use Rattle.wc_store.specs.Places.{its};
 ghost use Rattle.wc_store.specs.Held.{is_plain};
-ghost use Rattle.wc_store.specs.Prepared.{HasGeneration};
-ghost use Rattle.wc_store.specs.Stores.{StandsFor, LeadsTo, CommitLeaves, PackLeaves, PacksTo, packed_image, other};
+ghost use Rattle.wc_store.specs.Stepped.{Called, IsAsBefore, IsCommitted, IsOrCommitted, IsPacked, Stepped};
+ghost use Rattle.wc_store.specs.Stores.{StandsFor, PackLeaves, packed_image, other};
 ghost use Rattle.wc_state.specs.Ranges.{AreLimits};
-ghost use Rattle.wc_store.specs.Refusals.{Counts, RefusesCommit, RefusesPack, IsUnchanged, is_live_after, byte_limit, committed_bytes};
+ghost use Rattle.wc_store.specs.Refusals.{RefusesCommit, RefusesPack, IsUnchanged, is_live_after, committed_bytes};
 
 use crate::batches::{byte_limit, prepare, snapshot_batch};
 use crate::error::StoreError;
@@ -44,28 +43,16 @@ impl Store {
         requires accepted { IsAccepted self.old.world.world changes }
         requires plain { is_plain changes ≡ true }
         requires limits { AreLimits limits.now }
-        ensures ok { OnOk result (IsTrue (D.tells one.old) → IsTrue (D.tells two.old) → StandsFor D.Disk self.new one.new two.new) }
-        ensures world { OnOk result (self.new.world.world ≡ applied self.old.world.world changes) }
-        ensures unapplied { OnErr result (self.new.world.world ≡ self.old.world.world) }
-        ensures live { self.new.live ≡ is_live_after result true }
+        // At each moment, and then, the disks hold the world before or the one after the changes, each by its journal.
+        ensures stepped { Stepped D.Disk (IsOrCommitted limits.now changes self.old) (is_live_after result true) self.old one.old two.old self.new one.new two.new }
+        ensures done { OnOk result (IsCommitted limits.now changes self.old self.new.world.world self.new.journal) }
+        ensures same { OnErr result (IsAsBefore self.old self.new.world.world self.new.journal) }
         ensures refused { IfErr result (RefusesCommit self.old.journal limits.now self.old.world.world changes) }
-        ensures fits { OnOk result ((length (applied self.old.world.world changes).nodes ≤ limits.now.max_nodes)
-            × (committed_bytes self.old.journal changes ≤ byte_limit self.old.journal.version limits.now.max_bytes)) }
-        ensures longer { OnOk result (self.new.journal.end + 1 ≡ committed_bytes self.old.journal changes) }
-        ensures kept { OnErr result (self.new.journal.end ≡ self.old.journal.end) }
-        ensures untouched_one { IsUnchanged result one.old one.new }
-        ensures untouched_two { IsUnchanged result two.old two.new }
-        ensures still { self.new.live ≡ true → IsTrue (D.tells one.old) → IsTrue (D.tells two.old) → StandsFor D.Disk self.new one.new two.new }
-        ensures images { LeadsTo self.old self.new }
-        ensures place { (self.new.place ≡ self.old.place) × (self.new.journal.generation ≡ self.old.journal.generation) × (self.new.journal.version ≡ self.old.journal.version) }
-        ensures any_moment { IsTrue (D.tells one.old) → IsTrue (D.tells two.old)
-            → CommitLeaves D.Disk self.old limits.now changes one.old two.old one.new two.new }
+        ensures untouched { IsUnchanged result one.old one.new × IsUnchanged result two.old two.new }
         // The store's file gets no longer than the batch makes its journal, and stays as long as it was where that is more.
         ensures no_longer { IsTrue (D.tells one.old) → IsTrue (D.tells two.old) → StaysWithin D.Disk
             (max (length (D.seen (its self.old.place one.old two.old))) (committed_bytes self.old.journal changes))
             (its self.old.place one.old two.old) (its self.old.place one.new two.new) }
-        ensures tells { (D.tells one.new ≡ D.tells one.old) × (D.tells two.new ≡ D.tells two.old) }
-        ensures cause { Counts result (D.faults one.old) (D.faults one.new) (D.faults two.old) (D.faults two.new) (D.failed one.new) (D.failed two.new) }
     {
         let batch = prepare(alloc, &mut self.world, &self.journal, &changes, limits)?;
         let version = self.journal.version();
@@ -92,27 +79,18 @@ impl Store {
     ) -> Result<u64, StoreError>
         requires live { self.old.live ≡ true }
         requires stands { IsTrue (D.tells one.old) → IsTrue (D.tells two.old) → StandsFor D.Disk self.old one.old two.old }
-        ensures generation { IfOk result (λ g. (g ≡ self.old.journal.generation + 1) × (self.new.journal.generation ≡ g)) }
+        ensures call { Called D.Disk (is_live_after result true) one.old two.old self.new one.new two.new }
+        ensures packed { IfOk result (IsPacked self.old self.new) }
         ensures world { self.new.world.world ≡ self.old.world.world }
-        ensures place { OnOk result (self.new.place ≡ opposite self.old.place) }
-        ensures images { OnOk result (PacksTo self.old self.new) }
         ensures written { OnOk result (IsTrue (D.tells one.old) → IsTrue (D.tells two.old)
-            → journal_of (D.seen (other self.old.place one.new two.new))
-            ≡ holds 2 (self.old.journal.generation + 1) ((26, spelled (snapshot self.old.world.world)) ∷ [])) }
-        ensures image { OnOk result (IsTrue (D.tells one.old) → IsTrue (D.tells two.old)
-            → D.seen (other self.old.place one.new two.new) ≡ packed_image (self.old.journal.generation + 1) self.old.world.world) }
-        ensures live { self.new.live ≡ is_live_after result true }
+            → (journal_of (D.seen (other self.old.place one.new two.new))
+            ≡ holds 2 (self.old.journal.generation + 1) ((26, spelled (snapshot self.old.world.world)) ∷ []))
+            × (D.seen (other self.old.place one.new two.new) ≡ packed_image (self.old.journal.generation + 1) self.old.world.world)) }
         ensures refused { IfErr result (RefusesPack self.old.journal.generation self.old.world.world) }
-        ensures fits { OnOk result (HasGeneration self.old.journal.generation self.old.world.world) }
-        ensures version { OnOk result (self.new.journal.version ≡ 2) }
         ensures kept { OnErr result ((self.new.place ≡ self.old.place) × (self.new.journal ≡ self.old.journal)) }
-        ensures untouched_one { IsUnchanged result one.old one.new }
-        ensures untouched_two { IsUnchanged result two.old two.new }
-        ensures still { self.new.live ≡ true → IsTrue (D.tells one.old) → IsTrue (D.tells two.old) → StandsFor D.Disk self.new one.new two.new }
-        ensures any_moment { IsTrue (D.tells one.old) → IsTrue (D.tells two.old)
+        ensures untouched { IsUnchanged result one.old one.new × IsUnchanged result two.old two.new }
+        ensures moments { IsTrue (D.tells one.old) → IsTrue (D.tells two.old)
             → PackLeaves D.Disk self.old.place self.old.world.world one.old two.old one.new two.new }
-        ensures tells { (D.tells one.new ≡ D.tells one.old) × (D.tells two.new ≡ D.tells two.old) }
-        ensures cause { Counts result (D.faults one.old) (D.faults one.new) (D.faults two.old) (D.faults two.new) (D.failed one.new) (D.failed two.new) }
     {
         let generation = self.journal.generation();
         let batch = snapshot_batch(alloc, &self.world, generation)?;

@@ -1,8 +1,8 @@
-use Rattle.std.proofs.Common.{◌≡◌, ◌≤◌, inl, inr, length, IsTrue, refl, ap, subst, ◌∙◌}
+use Rattle.std.proofs.Common.{◌≡◌, inl, inr, IsTrue, refl, sym, ap, subst, ◌∙◌}
 use Rattle.wc_state.specs.declared.record.Limits.{Limits}
 use Rattle.wc_world.specs.World.{World}
-use Rattle.wc_world.specs.Applied.{applied}
-use Rattle.wc_store.specs.Refusals.{byte_limit, committed_bytes, RefusesCommit}
+use Rattle.wc_store.specs.Refusals.{RefusesCommit}
+use Rattle.wc_store.specs.Stepped.{IsCommitted}
 use Rattle.wc_act.specs.declared.events.Entry.TheVariants as entry
 use Rattle.wc_plan.specs.declared.reply.Reply.{Reply}
 use Rattle.wc_act.specs.Entries.{IsEntryOf}
@@ -13,6 +13,7 @@ use Rattle.wc_act.specs.Rows.{event_row}
 use Rattle.wc_act.specs.Undone.{IsBeforeStoring}
 use Rattle.wc_act.proofs.Entries.{has_entered, made_by, refused_durable, refused_entry, stays_alone}
 use Rattle.wc_act.proofs.Leaving.{standing, committed}
+use Rattle.wc_act.proofs.Told.{counts_refused}
 use Rattle.wc_act.proofs.Visiting.{AreOfStores, AreStill, are_of_stores, are_still, visit_as}
 use Rattle.wc_act.proofs.Unwriting.{refused_untouched}
 use Rattle.wc_act.proofs.events.event_reply.Goals as goal
@@ -54,12 +55,13 @@ returns-in-Ok-clause-does g c =
     let cs = c.in-Commits.changes in
     let w : c.world.result.now.world ≡ s.world.world = λ i. (c.world.ensures i).world in
     let e = subst (λ (v : World). IsEntryOf a v (entry.Commits cs c.in-Commits.line)) w (subst (IsEntryOf a c.world.result.now.world) c.in-Commits.is c.in_ok-reply.ensures) in
+    let step = c.in-Ok.ensures.stepped in
     visit_as (visit g.D.Disk c.args.one.now c.args.two.now c.commit.new.one c.commit.new.two) (AreOfStores s c.commit.new.self) (DoneOn (event_row a) s.world.world c.print.result)
-    (has_entered a s c.commit.new.self cs c.print.result e.0 c.in-Ok.ensures.world
-    (subst (λ (l : Limits). (length (applied s.world.world cs).nodes ≤ l.max_nodes) × (committed_bytes s.journal cs ≤ byte_limit s.journal.version l.max_bytes)) c.limits_of-limits.ensures.value
-    c.in-Ok.ensures.fits) c.in-Ok.ensures.longer c.commit.ensures.place (c.print.ensures ∙ ap prints e.1))
-    (are_of_stores g.D.Disk c.args.one.now c.args.two.now c.commit.new.one c.commit.new.two s c.commit.new.self c.requires.stands c.requires.images (c.commit.ensures.still c.in-Ok.ensures.live)
-    c.commit.ensures.images (λ told told_too. (c.commit.ensures.any_moment told told_too).untouched))
+    (has_entered a s c.commit.new.self cs c.print.result e.0
+    (subst (λ (l : Limits). IsCommitted l cs s c.commit.new.self.world.world c.commit.new.self.journal) c.limits_of-limits.ensures.value c.in-Ok.ensures.done) step.place
+    (c.print.ensures ∙ ap prints e.1))
+    (are_of_stores g.D.Disk c.args.one.now c.args.two.now c.commit.new.one c.commit.new.two s c.commit.new.self c.requires.stands c.requires.images (step.call.stands refl)
+    step.images (λ told told_too. (step.moments told told_too).untouched))
 
 pub returns-in-Ok-clause-kept : goal.returns-in-Ok-clause-kept
 returns-in-Ok-clause-kept g c =
@@ -70,7 +72,7 @@ returns-in-Ok-clause-kept g c =
     let w : c.world.result.now.world ≡ s.world.world = λ i. (c.world.ensures i).world in
     let e = subst (λ (v : World). IsEntryOf a v (entry.Commits cs c.in-Commits.line)) w (subst (IsEntryOf a c.world.result.now.world) c.in-Commits.is c.in_ok-reply.ensures) in
     committed g.D.Disk g.met.D.Disk.only_now c.worlds_are_kept.ensures.reached c.worlds_are_kept.ensures.same s c.args.one.now c.args.two.now (c.requires.stands told told_too)
-    (MayHappen a) c.limits_of-limits.result cs c.commit.new.one c.commit.new.two (λ images. inl refl) (λ images. inr (made_by a s.world.world cs e.0)) e.0.keeps (c.commit.ensures.any_moment told told_too)
+    (MayHappen a) c.limits_of-limits.result cs c.commit.new.one c.commit.new.two (λ images. inl refl) (λ images. inr (made_by a s.world.world cs e.0)) e.0.keeps (c.commit.ensures.stepped.moments told told_too)
 
 pub returns-in-Ok-clause-untouched : goal.returns-in-Ok-clause-untouched
 returns-in-Ok-clause-untouched g c = λ ends. absurd (subst (λ (r : Reply). IsBeforeStoring r.status) c.print.ensures ends)
@@ -86,7 +88,7 @@ returns-in-Err-clause-does g c =
     let e = subst (λ (v : World). IsEntryOf a v (entry.Commits cs c.in-Commits.line)) w (subst (IsEntryOf a c.world.result.now.world) c.in-Commits.is c.in_ok-reply.ensures) in
     refused_entry g.D.Disk a s cs c.in-Err.error c.args.one.now c.args.two.now c.commit.new.one c.commit.new.two c.refused.result c.requires.stands c.requires.images e.0
     (subst (λ (l : Limits). RefusesCommit s.journal l s.world.world cs c.in-Err.error) c.limits_of-limits.ensures.value c.in-Err.ensures.refused)
-    c.in-Err.ensures.untouched_one c.in-Err.ensures.untouched_two c.refused.ensures.reply
+    c.in-Err.ensures.untouched.0 c.in-Err.ensures.untouched.1 c.refused.ensures.reply
 
 pub returns-in-Err-clause-kept : goal.returns-in-Err-clause-kept
 returns-in-Err-clause-kept g c =
@@ -97,14 +99,36 @@ returns-in-Err-clause-kept g c =
     let w : c.world.result.now.world ≡ s.world.world = λ i. (c.world.ensures i).world in
     let e = subst (λ (v : World). IsEntryOf a v (entry.Commits cs c.in-Commits.line)) w (subst (IsEntryOf a c.world.result.now.world) c.in-Commits.is c.in_ok-reply.ensures) in
     committed g.D.Disk g.met.D.Disk.only_now c.worlds_are_kept.ensures.reached c.worlds_are_kept.ensures.same s c.args.one.now c.args.two.now (c.requires.stands told told_too)
-    (MayHappen a) c.limits_of-limits.result cs c.commit.new.one c.commit.new.two (λ images. inl refl) (λ images. inr (made_by a s.world.world cs e.0)) e.0.keeps (c.commit.ensures.any_moment told told_too)
+    (MayHappen a) c.limits_of-limits.result cs c.commit.new.one c.commit.new.two (λ images. inl refl) (λ images. inr (made_by a s.world.world cs e.0)) e.0.keeps (c.commit.ensures.stepped.moments told told_too)
 
 pub returns-in-Err-clause-durable : goal.returns-in-Err-clause-durable
 returns-in-Err-clause-durable g c =
+    let call = c.in-Err.ensures.stepped.call in
     refused_durable g.D.Disk (Unit {0}) c.in-Err.error c.commit.new.self (IsTrue (g.D.Disk.tells c.args.one.now)) (IsTrue (g.D.Disk.tells c.args.two.now)) c.commit.new.one c.commit.new.two
-    c.refused.result c.refused.ensures.reply c.in-Err.ensures.live c.commit.ensures.still
+    c.refused.result c.refused.ensures.reply call.live (λ live. call.stands (sym call.live ∙ live))
 
 pub returns-in-Err-clause-untouched : goal.returns-in-Err-clause-untouched
 returns-in-Err-clause-untouched g c =
-    refused_untouched g.D.Disk (Unit {0}) IsBeforeStoring (λ never. never) c.in-Err.error c.args.one.now c.args.two.now c.commit.new.one c.commit.new.two c.in-Err.ensures.untouched_one
-    c.in-Err.ensures.untouched_two c.refused.result c.refused.ensures.fault
+    refused_untouched g.D.Disk (Unit {0}) IsBeforeStoring (λ never. never) c.in-Err.error c.args.one.now c.args.two.now c.commit.new.one c.commit.new.two c.in-Err.ensures.untouched.0
+    c.in-Err.ensures.untouched.1 c.refused.result c.refused.ensures.fault
+
+-- ---- what is kept of the disks, and counted
+
+pub returns-in-Ok-clause-durable : goal.returns-in-Ok-clause-durable
+returns-in-Ok-clause-durable g c = λ told told_too.
+    let s = c.in-Ok.ensures.stepped.call.stands refl told told_too in
+    record { durable_one = s.durable_one; durable_two = s.durable_two }
+
+pub returns-in-Ok-clause-tells : goal.returns-in-Ok-clause-tells
+returns-in-Ok-clause-tells g c = (c.in-Ok.ensures.stepped.call.tells_one, c.in-Ok.ensures.stepped.call.tells_two)
+
+pub returns-in-Ok-clause-cause : goal.returns-in-Ok-clause-cause
+returns-in-Ok-clause-cause g c = c.in-Ok.ensures.stepped.call.counts
+
+pub returns-in-Err-clause-tells : goal.returns-in-Err-clause-tells
+returns-in-Err-clause-tells g c = (c.in-Err.ensures.stepped.call.tells_one, c.in-Err.ensures.stepped.call.tells_two)
+
+pub returns-in-Err-clause-cause : goal.returns-in-Err-clause-cause
+returns-in-Err-clause-cause g c =
+    counts_refused (g.D.Disk.faults c.args.one.now) (g.D.Disk.faults c.commit.new.one) (g.D.Disk.faults c.args.two.now) (g.D.Disk.faults c.commit.new.two)
+    (g.D.Disk.failed c.commit.new.one) (g.D.Disk.failed c.commit.new.two) (Unit {0}) c.in-Err.error c.refused.result c.refused.ensures.cause c.in-Err.ensures.stepped.call.counts

@@ -1,82 +1,58 @@
-use Rattle.std.proofs.Common.{inl, inr, refl, sym, subst, ◌∙◌}
+use Rattle.std.proofs.Common.{inl, inr, Bool, refl, sym, subst, ⊎_elim}
+use Rattle.wc_state.specs.declared.record.Limits.{Limits}
 use Rattle.wc_world.specs.Room.{Holding}
-use Rattle.wc_store.proofs.Led.{leads_same}
-use Rattle.wc_runner.specs.Leaves.{of_world}
-use Rattle.wc_runner.specs.Refusals.{RefusesStored}
-use Rattle.wc_runner.proofs.Leaving.{commit_leaves, stands_leaves}
-use Rattle.wc_drill.specs.Drilled.{IsSubmitted, usual_limits}
+use Rattle.wc_store.specs.Stepped.{IsCommitted, IsOrCommitted, Stepped, of_world}
+use Rattle.wc_store.proofs.Stepping.{not_stepped, weaker_step}
+use Rattle.wc_runner.specs.Refusals.{RefusesStored, is_live_after}
+use Rattle.wc_drill.specs.Drilled.{IsSubmitted}
 use Rattle.wc_drill.specs.Submissions.{IsCrowded, IsOrSubmitted, IsStorable, RefusesChain}
-use Rattle.wc_drill.proofs.Chains.{chain_refused, crowd_counts, crowd_live, crowd_refused, submitted}
-use Rattle.wc_drill.proofs.Results.{if_err, on_ok, unchanged}
+use Rattle.wc_drill.proofs.Chains.{chain_refused, crowd_live, crowd_refused, submitted}
+use Rattle.wc_drill.proofs.Results.{if_err, on_ok}
 use Rattle.wc_drill.proofs.submissions.submit_chain.Goals as goal
 
-pub returns-in-Ok-clause-same : goal.returns-in-Ok-clause-same
-returns-in-Ok-clause-same g c =
-    c.committed.ensures.same
-
-pub returns-in-Ok-clause-kept : goal.returns-in-Ok-clause-kept
-returns-in-Ok-clause-kept g c =
-    c.committed.ensures.kept
-
-pub returns-in-Ok-clause-live : goal.returns-in-Ok-clause-live
-returns-in-Ok-clause-live g c =
-    c.committed.ensures.live
-
-pub returns-in-Ok-clause-untouched_one : goal.returns-in-Ok-clause-untouched_one
-returns-in-Ok-clause-untouched_one g c =
-    c.committed.ensures.untouched_one
-
-pub returns-in-Ok-clause-untouched_two : goal.returns-in-Ok-clause-untouched_two
-returns-in-Ok-clause-untouched_two g c =
-    c.committed.ensures.untouched_two
-
-pub returns-in-Ok-clause-still : goal.returns-in-Ok-clause-still
-returns-in-Ok-clause-still g c =
-    c.committed.ensures.still
-
-pub returns-in-Ok-clause-images : goal.returns-in-Ok-clause-images
-returns-in-Ok-clause-images g c =
-    c.committed.ensures.images
-
-pub returns-in-Ok-clause-place : goal.returns-in-Ok-clause-place
-returns-in-Ok-clause-place g c =
-    c.committed.ensures.place
-
-pub returns-in-Ok-clause-tells : goal.returns-in-Ok-clause-tells
-returns-in-Ok-clause-tells g c =
-    c.committed.ensures.tells
-
-pub returns-in-Ok-clause-cause : goal.returns-in-Ok-clause-cause
-returns-in-Ok-clause-cause g c =
-    c.committed.ensures.cause
+pub returns-in-Ok-clause-stepped : goal.returns-in-Ok-clause-stepped
+returns-in-Ok-clause-stepped g c =
+    let s = c.args.store.now in
+    let w = s.world.world in
+    let p : IsStorable c.args.first c.args.second w c.in-Ok.changes = subst (λ (h : Holding). IsStorable c.args.first c.args.second h.world c.in-Ok.changes) c.world.ensures c.in-Ok.ensures.ok in
+    let limits = c.usual_limits-limits.result in
+    weaker_step g.D.Disk (IsOrCommitted limits c.in-Ok.changes s) (of_world (IsOrSubmitted c.args.first c.args.second w)) (is_live_after c.commit_changes.result) s c.commit_changes.new.store
+    c.args.one.now c.args.two.now c.commit_changes.new.one c.commit_changes.new.two
+    (λ v journal h. ⊎_elim (λ same. inl same.0)
+    (λ (is : IsCommitted limits c.in-Ok.changes s v journal). inr (subst (IsSubmitted c.args.first c.args.second w) (sym is.world) (submitted c.args.first c.args.second w c.in-Ok.changes p))) h.holds)
+    c.commit_changes.ensures.stepped
 
 pub returns-in-Ok-clause-ok : goal.returns-in-Ok-clause-ok
 returns-in-Ok-clause-ok g c =
     let s = c.args.store.now in
     let w = s.world.world in
     let p : IsStorable c.args.first c.args.second w c.in-Ok.changes = subst (λ (h : Holding). IsStorable c.args.first c.args.second h.world c.in-Ok.changes) c.world.ensures c.in-Ok.ensures.ok in
-    on_ok c.committed.result _ (IsSubmitted c.args.first c.args.second w c.committed.new.store.world.world) (λ e. subst (IsSubmitted c.args.first c.args.second w) (sym e) (submitted c.args.first c.args.second w c.in-Ok.changes p)) c.committed.ensures.world
+    on_ok c.commit_changes.result _ (IsSubmitted c.args.first c.args.second w c.commit_changes.new.store.world.world)
+    (λ is. subst (IsSubmitted c.args.first c.args.second w) (sym is.world) (submitted c.args.first c.args.second w c.in-Ok.changes p)) c.commit_changes.ensures.done
+
+pub returns-in-Ok-clause-same : goal.returns-in-Ok-clause-same
+returns-in-Ok-clause-same g c = c.commit_changes.ensures.same
 
 pub returns-in-Ok-clause-refused : goal.returns-in-Ok-clause-refused
 returns-in-Ok-clause-refused g c =
     let s = c.args.store.now in
     let w = s.world.world in
     let p : IsStorable c.args.first c.args.second w c.in-Ok.changes = subst (λ (h : Holding). IsStorable c.args.first c.args.second h.world c.in-Ok.changes) c.world.ensures c.in-Ok.ensures.ok in
-    if_err c.committed.result (RefusesStored s.journal usual_limits w c.in-Ok.changes) (RefusesChain c.args.first c.args.second s.journal w) (λ e refused. chain_refused c.args.first c.args.second w c.in-Ok.changes s.journal e p refused) c.committed.ensures.refused
+    if_err c.commit_changes.result (RefusesStored s.journal c.usual_limits-limits.result w c.in-Ok.changes) (RefusesChain c.args.first c.args.second s.journal w)
+    (λ e refused. chain_refused c.args.first c.args.second w c.in-Ok.changes s.journal e p
+    (subst (λ (l : Limits). RefusesStored s.journal l w c.in-Ok.changes e) c.usual_limits-limits.ensures.value refused)) c.commit_changes.ensures.refused
 
-pub returns-in-Ok-clause-any_moment : goal.returns-in-Ok-clause-any_moment
-returns-in-Ok-clause-any_moment g c =
-    let s = c.args.store.now in
-    let w = s.world.world in
-    let p : IsStorable c.args.first c.args.second w c.in-Ok.changes = subst (λ (h : Holding). IsStorable c.args.first c.args.second h.world c.in-Ok.changes) c.world.ensures c.in-Ok.ensures.ok in
-    λ told told_too. commit_leaves g.D.Disk s usual_limits c.in-Ok.changes (of_world (IsOrSubmitted c.args.first c.args.second w)) c.args.one.now c.args.two.now c.committed.new.one c.committed.new.two (inl refl) (λ next longer. inr (submitted c.args.first c.args.second w c.in-Ok.changes p)) (c.committed.ensures.any_moment told told_too)
-
-pub returns-in-Err-clause-live : goal.returns-in-Err-clause-live
-returns-in-Err-clause-live g c =
+pub returns-in-Err-clause-stepped : goal.returns-in-Err-clause-stepped
+returns-in-Err-clause-stepped g c =
     let s = c.args.store.now in
     let w = s.world.world in
     let refused : IsCrowded c.args.first c.args.second w c.in-Err.error = subst (λ (h : Holding). IsCrowded c.args.first c.args.second h.world c.in-Err.error) c.world.ensures c.in-Err.ensures.refused in
-    c.requires.live ∙ sym (crowd_live c.args.first c.args.second w c.in-Err.error refused)
+    subst (λ (b : Bool). Stepped g.D.Disk (of_world (IsOrSubmitted c.args.first c.args.second w)) b s c.args.one.now c.args.two.now s c.args.one.now c.args.two.now)
+    (sym (crowd_live c.args.first c.args.second w c.in-Err.error refused))
+    (not_stepped g.D.Disk (of_world (IsOrSubmitted c.args.first c.args.second w)) s c.args.one.now c.args.two.now g.met.D.Disk.only_now c.requires.live c.requires.stands (inl refl))
+
+pub returns-in-Err-clause-same : goal.returns-in-Err-clause-same
+returns-in-Err-clause-same g c = (refl, refl)
 
 pub returns-in-Err-clause-refused : goal.returns-in-Err-clause-refused
 returns-in-Err-clause-refused g c =
@@ -84,31 +60,3 @@ returns-in-Err-clause-refused g c =
     let w = s.world.world in
     let refused : IsCrowded c.args.first c.args.second w c.in-Err.error = subst (λ (h : Holding). IsCrowded c.args.first c.args.second h.world c.in-Err.error) c.world.ensures c.in-Err.ensures.refused in
     crowd_refused c.args.first c.args.second w s.journal c.in-Err.error refused
-
-pub returns-in-Err-clause-untouched_one : goal.returns-in-Err-clause-untouched_one
-returns-in-Err-clause-untouched_one g c =
-    unchanged c.in-Err.error c.args.one.now
-
-pub returns-in-Err-clause-untouched_two : goal.returns-in-Err-clause-untouched_two
-returns-in-Err-clause-untouched_two g c =
-    unchanged c.in-Err.error c.args.two.now
-
-pub returns-in-Err-clause-still : goal.returns-in-Err-clause-still
-returns-in-Err-clause-still g c =
-    λ live. c.requires.stands
-
-pub returns-in-Err-clause-images : goal.returns-in-Err-clause-images
-returns-in-Err-clause-images g c =
-    leads_same c.args.store.now
-
-pub returns-in-Err-clause-any_moment : goal.returns-in-Err-clause-any_moment
-returns-in-Err-clause-any_moment g c =
-    let s = c.args.store.now in
-    λ told told_too. stands_leaves g.D.Disk s (of_world (IsOrSubmitted c.args.first c.args.second s.world.world)) c.args.one.now c.args.two.now g.met.D.Disk.only_now (c.requires.stands told told_too) (inl refl)
-
-pub returns-in-Err-clause-cause : goal.returns-in-Err-clause-cause
-returns-in-Err-clause-cause g c =
-    let s = c.args.store.now in
-    let w = s.world.world in
-    let refused : IsCrowded c.args.first c.args.second w c.in-Err.error = subst (λ (h : Holding). IsCrowded c.args.first c.args.second h.world c.in-Err.error) c.world.ensures c.in-Err.ensures.refused in
-    crowd_counts c.args.first c.args.second w c.in-Err.error (g.D.Disk.faults c.args.one.now) (g.D.Disk.faults c.args.two.now) (g.D.Disk.failed c.args.one.now) (g.D.Disk.failed c.args.two.now) refused

@@ -1,9 +1,10 @@
 -- Rows of a table, by their requests.
-use Rattle.std.proofs.Common.{◌≡◌, ℕ, ◌+◌, ◌<◌, Bool, true, false, List, [], ◌∷◌, Some, length, drop, get_or, refl, sym, ap, subst, ◌∙◌}
+use Rattle.std.proofs.Common.{◌≡◌, ℕ, zero, suc, ◌<◌, Bool, true, false, List, [], ◌∷◌, Some, None, length, get_or, refl, sym, ap, subst, ◌∙◌, arith}
+use Rattle.std.specs.List.{Contains}
 use Rattle.std.specs.Prelude.{if◌then◌else◌, ◌&&◌}
 use Rattle.std.specs.Str.{bytes_eq}
-use Rattle.std.proofs.lemmas.List.{at_drop_more}
 use Rattle.std.proofs.lemmas.Slice.Eq.{bytes_eq-Decides}
+use Rattle.wc_value.specs.Requests.{IsDistinct, requests}
 use Rattle.wc_value.specs.declared.process.JobResult.{JobResult}
 use Rattle.wc_value.specs.declared.process.Request.{Request}
 use Rattle.wc_semantics.specs.Tables.{texts_eq, files_eq, request_eq, row_of}
@@ -73,14 +74,32 @@ row_miss q r rs h = by_test (request_eq r.0 q) refl
     by_test true e = absurd (h (request_same r.0 q e))
     by_test false e = refl
 
--- ---- at a place of a table
+-- ---- a row of a table
 
-module _ (q : Request) (rows : List (Request × JobResult)) (i : ℕ) (r d : Request × JobResult) (h : i < length rows) (e : r ≡ get_or rows i d) where
-  at_place : row_of q (drop i rows) ≡ row_of q (r ∷ drop (i + 1) rows)
-  at_place = at_drop_more (row_of q) rows i d h ∙ ap (λ (x : Request × JobResult). row_of q (x ∷ drop (i + 1) rows)) (sym e)
+request_at : (rows : List (Request × JobResult)) (k : ℕ) (row : Request × JobResult) (q : Request) → k < length rows → get_or rows k row ≡ row → get_or (requests rows) k q ≡ row.0
+request_at [] k row q lt e = absurd (omega arith)
+request_at (r ∷ rs) zero row q lt e = ap (λ (x : Request × JobResult). x.0) e
+request_at (r ∷ rs) (suc k) row q lt e = request_at rs k row q (omega arith) e
 
-  pub row_found : r.0 ≡ q → row_of q (drop i rows) ≡ Some r.1
-  row_found p = at_place ∙ row_hit q r (drop (i + 1) rows) p
+length_requests : (rows : List (Request × JobResult)) → length (requests rows) ≡ length rows
+length_requests [] = refl
+length_requests (r ∷ rs) = ap suc (length_requests rs)
 
-  pub row_passed : (r.0 ≡ q → ⊥) → row_of q (drop (i + 1) rows) ≡ row_of q (drop i rows)
-  row_passed p = sym (at_place ∙ row_miss q r (drop (i + 1) rows) p)
+-- where no request stands twice, the row that has it is the first
+row_at_place : (q : Request) (x : JobResult) (rows : List (Request × JobResult)) (k : ℕ) → IsDistinct (requests rows) → k < length rows → get_or rows k (q, x) ≡ (q, x) → row_of q rows ≡ Some x
+row_at_place q x [] k h lt e = absurd (omega arith)
+row_at_place q x (r ∷ rs) zero h lt e = row_hit q r rs (ap (λ (y : Request × JobResult). y.0) e) ∙ ap (λ (y : Request × JobResult). Some y.1) e
+row_at_place q x (r ∷ rs) (suc k) h lt e =
+    let within : k < length rs = omega arith in
+    let n = length_requests rs in
+    let there : get_or (requests rs) k q ≡ q = request_at rs k (q, x) q within e in
+    row_miss q r rs (λ same. h zero (suc k) q (omega arith) (omega arith) (same ∙ sym there))
+    ∙ row_at_place q x rs k (λ i j d less low. h (suc i) (suc j) d (omega arith) (omega arith)) within e
+
+pub row_is : (q : Request) (x : JobResult) (rows : List (Request × JobResult)) → IsDistinct (requests rows) → Contains rows (q, x) → row_of q rows ≡ Some x
+row_is q x rows h c = row_at_place q x rows c.0 h c.1 c.2
+
+-- and where it stands in none, there is no row
+pub no_row : (q : Request) (rows : List (Request × JobResult)) → (Contains (requests rows) q → ⊥) → row_of q rows ≡ None
+no_row q [] h = refl
+no_row q (r ∷ rs) h = row_miss q r rs (λ same. h (0, omega arith, same)) ∙ no_row q rs (λ c. let lt = c.1 in h (suc c.0, omega arith, c.2))

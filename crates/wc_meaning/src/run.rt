@@ -24,20 +24,17 @@ use wc_syntax::{
     Arms, Block, Chain, Definition, Expr, Function, Instr, Job, Library, Number, Stmts,
     find_definition,
 };
-use wc_value::{
-    Duplicate, Fields, JobResult, ProcessState, Reason, Request, Table, Text, same_request,
-};
+use wc_value::{Duplicate, Fields, JobResult, ProcessState, Reason, Request, Table, Text};
 
-/// The result of the first row with this request.
-fn find_result<'a>(table: &'a Table, request: &Request) -> Option<&'a JobResult>
-    ensures { option_copied result ≡ row_of request.now table.now }
+/// The result of the row with this request. It looks at few rows, however many there are.
+fn find_result<'a>(
+    alloc: Global,
+    table: &'a Table,
+    request: &Request,
+) -> Result<Option<&'a JobResult>, AllocError>
+    ensures { IfOk result (λ found. option_copied found ≡ row_of request.now table.now) }
 {
-    for (asked, found) in table.rows().as_slice() {
-        if same_request(asked, request) {
-            return Some(found);
-        }
-    }
-    None
+    table.find_spelled(alloc, request)
 }
 
 /// The status of a `return`.
@@ -412,7 +409,7 @@ fn mean_job(
         Outcome::Gives(request) => request,
         Outcome::Faults(reason) => return mean_unasked(alloc, name, reason, fuel),
     };
-    match find_result(table, &request) {
+    match find_result(alloc, table, &request)? {
         None => Ok(Answer::Without(request)),
         Some(result) => {
             let parsed = parse_result(alloc, job, inputs, result)?;

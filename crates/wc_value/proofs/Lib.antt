@@ -4,6 +4,7 @@ pub mod Spelled
 pub mod Puts
 pub mod Depths
 pub mod Lengths
+pub mod Named
 pub mod Told
 pub mod Searches
 pub mod Trees

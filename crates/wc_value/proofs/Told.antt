@@ -1,29 +1,20 @@
 -- Rows whose requests have told their canonical bytes.
-use Rattle.std.proofs.Common.{◌≡◌, ◌⊎◌, inl, inr, ⊎_elim, ℕ, zero, suc, ◌+◌, ◌<◌, ◌≤◌, List, [], ◌∷◌, Bool, true, false, not, cond, Vec, length, take, get_or, refl, sym, ap, subst, ◌∙◌, arith}
+use Rattle.std.proofs.Common.{◌≡◌, ◌⊎◌, inl, inr, ⊎_elim, ℕ, zero, suc, ◌+◌, ◌<◌, ◌≤◌, List, [], ◌∷◌, Bool, true, false, Option, Some, None, is_some, slice_get, if◌then◌else◌, length, take, get_or, refl, sym, ap, subst, ◌∙◌, arith}
 use Rattle.std.proofs.lemmas.Bool.{cases_eq, cases_lt}
 use Rattle.std.proofs.lemmas.List.{get_or-take}
-use Rattle.std.proofs.lemmas.Map.Text.{is_eq-slice_cmp}
 use Rattle.std.proofs.lemmas.Slice.Eq.{bytes_eq-Decides}
-use Rattle.std.specs.declared.alloc.Global.{Global}
-use Rattle.std.specs.declared.cmp.Ordering.{Ordering}
-use Rattle.std.specs.Ordering.{nat_cmp, is_eq}
-use Rattle.std.specs.Cmp.Lexicographic.{slice_cmp}
-use Rattle.std.specs.BTreeMap.{is_at}
-use Rattle.std.specs.BTreeSet.{BTreeSet, contains, Updates}
-use Rattle.std.specs.List.{Contains, list_any}
-use Rattle.wc_value.specs.Requests.{requests, dictionary_of}
+use Rattle.std.specs.BTreeMap.{BTreeMap, insert_entry}
+use Rattle.std.specs.List.{Contains}
+use Rattle.std.specs.Str.{bytes_eq}
+use Rattle.wc_value.specs.Indexes.{IsIndex, IsTold, place_at}
+use Rattle.wc_value.specs.Requests.{IsDistinct, RepeatsFirst, requests, dictionary_of}
 use Rattle.wc_value.specs.Spells.{Spells}
 use Rattle.wc_value.specs.declared.process.Request.{Request}
 use Rattle.wc_value.specs.declared.process.JobResult.{JobResult}
 use Rattle.wc_value.proofs.Keys.{contains_key, lacks_key}
+use Rattle.wc_value.proofs.Named.{Got, Key, got, order}
 use Rattle.wc_value.proofs.Respelled.{spells_is}
 use Rattle.wc_value.proofs.Variants.{same_requests}
-
--- the canonical bytes are those of one of the first n requests
-pub record IsTold (rows : List (Request × JobResult)) (n : ℕ) (bytes : List ℕ) : Type 0 where
-  pub place : ℕ
-  pub before : place < n
-  pub spells : (d : Request × JobResult) → Spells (dictionary_of (get_or rows place d).0) bytes
 
 pub none_told : (rows : List (Request × JobResult)) (bytes : List ℕ) → IsTold rows 0 bytes → ⊥
 none_told rows bytes t = let h = t.before in omega arith
@@ -78,24 +69,13 @@ told_here rows n d bytes l s = record {
   spells = λ f. subst (λ (r : Request × JobResult). Spells (dictionary_of r.0) bytes) (same_row rows n d f l) s;
 }
 
--- ---- a set of told bytes
-abbrev pub order : Vec ℕ Global → Vec ℕ Global → Ordering
-order x y = slice_cmp nat_cmp x.items y.items
+-- ---- places by told bytes
 
--- the set has the canonical bytes of the first n requests, and no others
-abbrev pub Tells : BTreeSet (Vec ℕ Global) → List (Request × JobResult) → ℕ → Type 0
-Tells set rows n = (key : Vec ℕ Global) → (contains order set key ≡ true → IsTold rows n key.items) × (IsTold rows n key.items → contains order set key ≡ true)
-
-pub tells_none : (set : BTreeSet (Vec ℕ Global)) (rows : List (Request × JobResult)) → set.keys ≡ [] → Tells set rows 0
-tells_none set rows e = λ key.
-    let none : contains order set key ≡ false = ap (λ (ks : List (Vec ℕ Global)). list_any (is_at (order key)) ks) e in
-    ((λ h. absurd (cc)), (λ t. absurd (none_told rows key.items t)))
-
-same_bytes : (x y : List ℕ) → is_eq (slice_cmp nat_cmp x y) ≡ true → x ≡ y
-same_bytes x y h = (bytes_eq-Decides x y).0 (sym (is_eq-slice_cmp x y) ∙ h)
-
-bytes_tie : (x y : List ℕ) → x ≡ y → is_eq (slice_cmp nat_cmp x y) ≡ true
-bytes_tie x y h = is_eq-slice_cmp x y ∙ (bytes_eq-Decides x y).1 h
+pub index_none : (rows : List (Request × JobResult)) (places : BTreeMap Key ℕ) → places.entries ≡ [] → IsIndex rows 0 places
+index_none rows places e = record {
+  told = λ bytes i found. let none : place_at bytes places ≡ None = ap (Got bytes) e in absurd (cc (none, found));
+  every = λ bytes t none. none_told rows bytes t;
+}
 
 one_row_more : (rows : List (Request × JobResult)) (n : ℕ) (d : Request × JobResult) (bytes : List ℕ)
     → IsTold rows (n + 1) bytes → IsTold rows n bytes ⊎ Spells (dictionary_of (get_or rows n d).0) bytes
@@ -108,35 +88,86 @@ one_row_more rows n d bytes t =
     earlier : (t.place ≡ n → ⊥) → t.place < n
     earlier ne = ⊎_elim (λ (h : t.place < n). h) (λ (h : n ≤ t.place). let b = t.before in absurd (ne (omega arith))) (cases_lt t.place n)
 
--- the next request's bytes, put into the set
-pub tells_more : (set more : BTreeSet (Vec ℕ Global)) (rows : List (Request × JobResult)) (n : ℕ) (row d : Request × JobResult) (key : Vec ℕ Global) → n < length rows
-    → row ≡ get_or rows n d → Spells (dictionary_of row.0) key.items → Updates order set more key true → Tells set rows n → Tells more rows (n + 1)
-tells_more set more rows n row d key l is s u tells = λ q. (to q (is_at (order key) q) refl, from q (is_at (order key) q) refl)
+-- the place of the next row, put into the map
+pub index_more : (places more : BTreeMap Key ℕ) (rows : List (Request × JobResult)) (n : ℕ) (row d : Request × JobResult) (key : Key) → n < length rows
+    → row ≡ get_or rows n d → Spells (dictionary_of row.0) key.items → more.entries ≡ insert_entry order places.entries key n → IsIndex rows n places → IsIndex rows (n + 1) more
+unfolding told_more told_here
+index_more places more rows n row d key l is s entries index = record {
+  told = λ bytes i found. told bytes i (bytes_eq key.items bytes) refl (sym (now bytes) ∙ found);
+  every = λ bytes t none. every bytes (bytes_eq key.items bytes) refl (one_row_more rows n d bytes t) (sym (now bytes) ∙ none);
+}
   where
     here : Spells (dictionary_of (get_or rows n d).0) key.items
     here = subst (λ (r : Request × JobResult). Spells (dictionary_of r.0) key.items) is s
 
-    now : (q : Vec ℕ Global) (b : Bool) → is_at (order key) q ≡ b → contains order more q ≡ cond b true (contains order set q)
-    now q b p = u.0 q ∙ ap (λ (c : Bool). cond c true (contains order set q)) p
+    now : (bytes : List ℕ) → place_at bytes more ≡ (if bytes_eq key.items bytes then Some n else place_at bytes places)
+    now bytes = ap (Got bytes) entries ∙ got bytes key n places.entries
 
-    to : (q : Vec ℕ Global) (b : Bool) → is_at (order key) q ≡ b → contains order more q ≡ true → IsTold rows (n + 1) q.items
-    to q true p h = told_here rows n d q.items l (subst (λ (b : List ℕ). Spells (dictionary_of (get_or rows n d).0) b) (same_bytes key.items q.items p) here)
-    to q false p h = told_more rows n q.items ((tells q).0 (sym (now q false p) ∙ h))
+    told : (bytes : List ℕ) (i : ℕ) (b : Bool) → bytes_eq key.items bytes ≡ b → (if b then Some n else place_at bytes places) ≡ Some i → (t : IsTold rows (n + 1) bytes) × (t.place ≡ i)
+    told bytes i true same found =
+        let e : n ≡ i = cc in
+        (told_here rows n d bytes l (subst (Spells (dictionary_of (get_or rows n d).0)) ((bytes_eq-Decides key.items bytes).0 same) here), e)
+    told bytes i false other found = let t = index.told bytes i found in (told_more rows n bytes t.0, t.1)
 
-    from : (q : Vec ℕ Global) (b : Bool) → is_at (order key) q ≡ b → IsTold rows (n + 1) q.items → contains order more q ≡ true
-    from q true p t = now q true p
-    from q false p t =
-        ⊎_elim
-        (λ (old : IsTold rows n q.items). now q false p ∙ (tells q).1 old)
-        (λ (new : Spells (dictionary_of (get_or rows n d).0) q.items).
-        let tie : is_eq (order key q) ≡ true = bytes_tie key.items q.items (spells_is _ _ here ∙ sym (spells_is _ _ new)) in
-        absurd (cc))
-        (one_row_more rows n d q.items t)
+    every : (bytes : List ℕ) (b : Bool) → bytes_eq key.items bytes ≡ b → IsTold rows n bytes ⊎ Spells (dictionary_of (get_or rows n d).0) bytes
+        → (if b then Some n else place_at bytes places) ≡ None → ⊥
+    every bytes true same t none = absurd (cc)
+    every bytes false other (inl old) none = index.every bytes old none
+    every bytes false other (inr new) none =
+        let same : bytes_eq key.items bytes ≡ true = (bytes_eq-Decides key.items bytes).1 (spells_is _ _ here ∙ sym (spells_is _ _ new)) in
+        absurd (cc (same, other))
+
+-- the place that is kept for a request's bytes is that of its row
+pub told_row : (rows : List (Request × JobResult)) (places : BTreeMap Key ℕ) (q : Request) (bytes : List ℕ) (i : ℕ) (row d : Request × JobResult) → Spells (dictionary_of q) bytes
+    → IsIndex rows (length rows) places → place_at bytes places ≡ Some i → row ≡ get_or rows i d → Contains rows (q, row.1)
+told_row rows places q bytes i row d s index found is =
+    let t = index.told bytes i found in
+    let lt = t.0.before in
+    let at : get_or rows t.0.place d ≡ row = ap (λ (k : ℕ). get_or rows k d) t.1 ∙ sym is in
+    let asked : row.0 ≡ q = same_requests row.0 q bytes (subst (λ (r : Request × JobResult). Spells (dictionary_of r.0) bytes) at (t.0.spells d)) s in
+    (t.0.place, lt, same_row rows t.0.place (q, row.1) d lt ∙ at ∙ (λ j. (asked j, row.1)))
+
+pub place_within : (rows : List (Request × JobResult)) (places : BTreeMap Key ℕ) (bytes : List ℕ) (i : ℕ) → IsIndex rows (length rows) places → place_at bytes places ≡ Some i → i < length rows
+place_within rows places bytes i index found = let t = index.told bytes i found in let lt = t.0.before in let e = t.1 in omega arith
+
+-- where no place is kept for a request's bytes, no row has it
+pub told_none : (rows : List (Request × JobResult)) (places : BTreeMap Key ℕ) (q : Request) (bytes : List ℕ) → Spells (dictionary_of q) bytes
+    → IsIndex rows (length rows) places → place_at bytes places ≡ None → Contains (requests rows) q → ⊥
+told_none rows places q bytes s index none =
+    lacks_key rows q (λ k d h e.
+    index.every bytes (record {
+      place = k;
+      before = h;
+      spells = λ f. subst (λ (r : Request). Spells (dictionary_of r) bytes) (sym e ∙ ap (λ (r : Request × JobResult). r.0) (same_row rows k d f h)) s;
+    }) none)
 
 -- ---- what an insertion answers
-pub was_there : (added had : Bool) → added ≡ not had → added ≡ false → had ≡ true
-was_there added true e h = refl
-was_there added false e h = absurd (cc)
 
-pub was_not_there : (added had : Bool) → added ≡ not had → added ≡ true → had ≡ true → ⊥
-was_not_there added had e h there = let g : added ≡ false = e ∙ ap not there in absurd (cc)
+pub is_none : {A : Type 0} (o : Option A) → is_some o ≡ false → o ≡ None
+is_none None h = refl
+is_none (Some x) h = absurd (cc)
+
+pub some_is : {A : Type 0} (o : Option A) → is_some o ≡ true → (x : A) × (o ≡ Some x)
+some_is None h = absurd (cc)
+some_is (Some x) h = (x, refl)
+
+-- ---- no request stands twice
+
+at_place : (rows : List (Request × JobResult)) (i : ℕ) (row : Request × JobResult) (d : Request) → slice_get rows i ≡ Some row → (i < length (requests rows)) × (get_or (requests rows) i d ≡ row.0)
+at_place [] i row d h = absurd (cc)
+at_place (r ∷ rows) zero row d h = let same : r ≡ row = cc in (omega arith, ap (λ (x : Request × JobResult). x.0) same)
+at_place (r ∷ rows) (suc i) row d h = let rest = at_place rows i row d h in let below = rest.0 in (omega arith, rest.1)
+
+in_take : (rows : List (Request × JobResult)) (i k : ℕ) (d : Request) → k < length (requests (take i rows)) → (k < i) × (get_or (requests (take i rows)) k d ≡ get_or (requests rows) k d)
+in_take rows zero k d h = absurd (omega arith)
+in_take [] (suc i) k d h = absurd (omega arith)
+in_take (r ∷ rows) (suc i) zero d h = (omega arith, refl)
+in_take (r ∷ rows) (suc i) (suc k) d h = let rest = in_take rows i k d (omega arith) in let below = rest.0 in (omega arith, rest.1)
+
+-- rows whose requests differ are a table
+pub no_repeat : (rows : List (Request × JobResult)) (i : ℕ) → RepeatsFirst rows i → IsDistinct (requests rows) → ⊥
+no_repeat rows i r distinct =
+    let q : Request = r.row.0 in
+    let here = at_place rows i r.row q r.at in
+    let earlier = in_take rows i r.earlier.0 q r.earlier.1 in
+    distinct r.earlier.0 i q earlier.0 here.0 (sym earlier.1 ∙ r.earlier.2 ∙ sym here.1)

@@ -8,3 +8,4 @@ pub mod Requests
 pub mod Refusals
 pub mod Reading
 pub mod Draws
+pub mod Indexes

@@ -1,6 +1,5 @@
 mod Cycles
 mod Leaping
-mod Named
 mod Noting
 mod Given
 mod Lasts

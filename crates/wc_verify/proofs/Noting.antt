@@ -10,7 +10,7 @@ use Rattle.wc_verify.specs.declared.firsts.First.{First}
 use Rattle.wc_verify.specs.declared.firsts.Firsts.{Firsts}
 use Rattle.wc_verify.specs.Faults.{IsNotAfter}
 use Rattle.wc_verify.specs.Firsts.{Noted, Stands, AreBelow, Ascend, IsPair, IsPairOrNone, Settles, IsLeastPair, AreFirsts, FitsFirst, first_among, first_named, lesser}
-use Rattle.wc_verify.proofs.Named.{Key, Got, got, order}
+use Rattle.wc_value.proofs.Named.{Key, Got, got, order}
 
 -- ---- what stands in a list
 

@@ -1,6 +1,6 @@
 use Rattle.std.proofs.Common.{subst}
 use Rattle.wc_value.specs.Refusals.{IsRefused}
-use Rattle.wc_json.proofs.Asked.{no_repeat}
+use Rattle.wc_value.proofs.Told.{no_repeat}
 use Rattle.wc_json.proofs.table.table_from_json.Goals as goal
 
 pub unreachable-requires : goal.unreachable-requires

@@ -1,10 +1,10 @@
 use Rattle.std.proofs.Common.{take}
+use Rattle.wc_value.specs.Indexes.{IsIndex}
 use Rattle.wc_value.specs.Requests.{IsDistinct, requests}
-use Rattle.wc_value.proofs.Told.{Tells}
-use Rattle.wc_value.proofs.table.Table.new.Given as goal
+use Rattle.wc_value.proofs.table.places_of.Given as goal
 
 abbrev pub invariant-loop-at : goal.invariant-loop-at
 invariant-loop-at l = record {
   distinct : IsDistinct (requests (take l.at l.items));
-  tells : Tells l.earlier l.items l.at;
+  index : IsIndex l.items l.at l.places;
 }

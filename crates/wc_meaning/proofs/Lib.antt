@@ -2,7 +2,7 @@ pub mod Least
 pub mod Bare
 pub mod Turns
 pub mod Around
-pub mod Rows
+pub mod Order
 pub mod Requests
 pub mod Alone
 pub mod Steps

@@ -20,7 +20,7 @@ right false b h = absurd (cc)
 both : (a b : Bool) → a ≡ true → b ≡ true → a && b ≡ true
 both a b p q = ap (λ c. c && b) p ∙ q
 
-texts_same : (ts us : List (List ℕ)) → texts_eq ts us ≡ true → ts ≡ us
+pub texts_same : (ts us : List (List ℕ)) → texts_eq ts us ≡ true → ts ≡ us
 texts_same [] [] h = refl
 texts_same [] (u ∷ us) h = absurd (cc)
 texts_same (t ∷ ts) [] h = absurd (cc)

@@ -2,3 +2,4 @@ pub mod Inputs
 pub mod Replies
 pub mod Settings
 pub mod Ran
+pub mod Paths

@@ -10,7 +10,7 @@ ghost use Rattle.wc_semantics.specs.Requests.{request};
 ghost use Rattle.wc_semantics.specs.Outcomes.{calculated, excepted, parsed};
 ghost use Rattle.wc_meaning.specs.Settings.{around_in};
 
-use crate::kills::{find_kill, kills_below};
+use crate::kills::{KillsBelow, sort_kills};
 use crate::statements::{Setting, run_statements};
 use crate::trees::{asked_itself, finish, killed_first, leaf};
 use std::alloc::{AllocError, Global};
@@ -305,13 +305,12 @@ fn call(
     if setting.levels == 0 {
         return Ok(Answer::Astray);
     }
-    let kills = kills_below(alloc, setting.kills, label)?;
-    mean(
+    mean_below(
         alloc,
         setting.library,
         setting.levels - 1,
         setting.table,
-        &kills,
+        &setting.kills.below(label),
         fuel,
         &planned.callee,
         &planned.inputs,
@@ -419,21 +418,21 @@ fn mean_job(
     }
 }
 
-/// The meaning of a definition, where at most `levels` calls stand in one another below it.
+/// The meaning of a definition under kills in order, where at most `levels` calls stand in one another below it.
 #[cycle(run)]
-pub fn mean(
+fn mean_below(
     alloc: Global,
     library: &Library,
     levels: u32,
     table: &Table,
-    kills: &Kills,
+    kills: &KillsBelow<'_>,
     fuel: u64,
     name: &Text,
     inputs: &Fields,
 ) -> Result<Answer, AllocError>
     ensures { IfOk result (λ a. a ≡ meaning levels library.now (plain table.now) (kills_of kills.now) fuel name.now inputs.now) }
 {
-    let stop = find_kill(kills);
+    let stop = kills.own();
     if let Some(0) = stop {
         return Ok(Answer::Gave(killed_first(alloc, name)?, fuel));
     }
@@ -459,4 +458,22 @@ pub fn mean(
             Some(_) => Ok(Answer::Astray),
         },
     }
+}
+
+/// The meaning of a definition, where at most `levels` calls stand in one another below it.
+pub fn mean(
+    alloc: Global,
+    library: &Library,
+    levels: u32,
+    table: &Table,
+    kills: &Kills,
+    fuel: u64,
+    name: &Text,
+    inputs: &Fields,
+) -> Result<Answer, AllocError>
+    ensures { IfOk result (λ a. a ≡ meaning levels library.now (plain table.now) (kills_of kills.now) fuel name.now inputs.now) }
+{
+    let rows = sort_kills(kills)?;
+    let kills = KillsBelow::of(rows.as_slice());
+    mean_below(alloc, library, levels, table, &kills, fuel, name, inputs)
 }

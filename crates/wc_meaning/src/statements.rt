@@ -6,9 +6,10 @@ ghost use Rattle.wc_semantics.specs.Statements.{names_data, output, argument, ar
 ghost use Rattle.wc_semantics.specs.Rules.{kind_of_port};
 
 use crate::inputs::are_good;
+use crate::kills::KillsBelow;
 use std::alloc::{AllocError, Global};
 use wc_expression::{Outcome, eval, eval_form};
-use wc_semantics::{Kills, Plan, Planned, Stepped, exit_status, fits, set_key, takes};
+use wc_semantics::{Plan, Planned, Stepped, exit_status, fits, set_key, takes};
 use wc_state::{Env, Item};
 use wc_syntax::{
     CallArgs, CallStmt, ChildPart, Expr, Form, Library, Name, PortList, Stmt, Stmts,
@@ -24,7 +25,7 @@ pub struct Setting<'a> {
     /// The results of jobs.
     pub table: &'a Table,
     /// The kills below it.
-    pub kills: &'a Kills,
+    pub kills: &'a KillsBelow<'a>,
     /// How many calls may stand in one another below it.
     pub levels: u32,
     /// Its output ports.

@@ -25,19 +25,19 @@ pub call-returns : goal.call-returns
 call-returns t c =
     let s = c.args.setting.now in
     let p = c.args.planned.now in
-    made c.mean.result _ _ c.mean.ensures
-    (ap (λ (ks : List _). meaning (s.levels - 1) s.library.now (plain s.table.now) (kills_of ks) c.args.fuel p.callee p.inputs) c.in_ok-kills.ensures
+    made c.mean_below.result _ _ c.mean_below.ensures
+    (ap (λ (ks : List _). meaning (s.levels - 1) s.library.now (plain s.table.now) (kills_of ks) c.args.fuel p.callee p.inputs) c.below.ensures
     ∙ sym (called s c.args.label.now c.args.fuel p.callee p.inputs (omega arith)))
 
-pub mean-returns-in-Some-eq0 : goal.mean-returns-in-Some-eq0
-mean-returns-in-Some-eq0 t c =
+pub mean_below-returns-in-Some-eq0 : goal.mean_below-returns-in-Some-eq0
+mean_below-returns-in-Some-eq0 t c =
     let a = c.args in
-    let h : c.find_kill-stop.result ≡ Some 0 = cc in
+    let h : c.own-stop.result ≡ Some 0 = cc in
     ap (λ (r : Replayed). Gave r a.fuel) c.in_ok-killed_first.ensures
-    ∙ means_killed a.levels a.library.now a.table.now a.kills.now a.fuel a.name.now a.inputs.now c.find_kill-stop.result c.find_kill-stop.ensures h
+    ∙ means_killed a.levels a.library.now a.table.now a.kills.now a.fuel a.name.now a.inputs.now c.own-stop.result c.own-stop.ensures h
 
-pub mean-mean_chain-requires : goal.mean-mean_chain-requires
-mean-mean_chain-requires t c =
+pub mean_below-mean_chain-requires : goal.mean_below-mean_chain-requires
+mean_below-mean_chain-requires t c =
     let a = c.args in
     let chain = c.in-Some-Chain.chain in
     let p : definition_named a.name.now a.library.now ≡ Some (definition.Chain chain) = sym c.in-Some-Chain.ensures ∙ ap Some c.in-Some-Chain.field-0-is in
@@ -45,19 +45,19 @@ mean-mean_chain-requires t c =
     = outline_falls a.levels (size-Block chain.outline) (widest a.library.now) (outline_within a.name.now a.library.now chain p) in
     (omega (arith, fall, c.decreases), tt)
 
-pub mean-returns-in-None-stop : goal.mean-returns-in-None-stop
-mean-returns-in-None-stop t c =
+pub mean_below-returns-in-None-stop : goal.mean_below-returns-in-None-stop
+mean_below-returns-in-None-stop t c =
     let a = c.args in
     made c.mean_function.result _ _ c.mean_function.ensures
     (means_function a.levels a.library.now a.table.now a.kills.now a.fuel a.name.now a.inputs.now c.in-Some-Function.function
-    (sym c.in-None-stop.is ∙ c.find_kill-stop.ensures) (sym (ap Some c.in-Some-Function.field-0-is) ∙ c.in-Some-Function.ensures))
+    (sym c.in-None-stop.is ∙ c.own-stop.ensures) (sym (ap Some c.in-Some-Function.field-0-is) ∙ c.in-Some-Function.ensures))
 
-pub mean-returns-in-None-stop-2 : goal.mean-returns-in-None-stop-2
-mean-returns-in-None-stop-2 t c =
+pub mean_below-returns-in-None-stop-2 : goal.mean_below-returns-in-None-stop-2
+mean_below-returns-in-None-stop-2 t c =
     let a = c.args in
     made c.mean_job.result _ _ c.mean_job.ensures
     (means_job a.levels a.library.now a.table.now a.kills.now a.fuel a.name.now a.inputs.now c.in-Some-Job.job
-    (sym c.in-None-stop-2.is ∙ c.find_kill-stop.ensures) (sym (ap Some c.in-Some-Job.field-0-is) ∙ c.in-Some-Job.ensures))
+    (sym c.in-None-stop-2.is ∙ c.own-stop.ensures) (sym (ap Some c.in-Some-Job.field-0-is) ∙ c.in-Some-Job.ensures))
 
 pub run_loop-returns-in-Ends : goal.run_loop-returns-in-Ends
 run_loop-returns-in-Ends t c =

@@ -9,8 +9,8 @@ use Rattle.wc_semantics.specs.Run.{run_block, exec, all, choose, arm_act, turns,
 use Rattle.wc_meaning.specs.Settings.{around_in, widest, option_size}
 use Rattle.wc_meaning.proofs.run.+run.Given as goal
 
-abbrev pub decreases-mean : goal.decreases-mean
-decreases-mean l = (l.levels + 1) * widest l.library.now
+abbrev pub decreases-mean_below : goal.decreases-mean_below
+decreases-mean_below l = (l.levels + 1) * widest l.library.now
 
 abbrev pub decreases-mean_chain : goal.decreases-mean_chain
 decreases-mean_chain l = l.setting.now.levels * widest l.setting.now.library.now + (2 * size-Block l.outline.now + 6)

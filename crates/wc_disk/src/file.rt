@@ -22,6 +22,8 @@ pub struct FileDisk<R: Drop> {
     path: Text,
     file: Option<File>,
     looked: bool,
+    // A length that the file is known to have: nothing else cuts it while it is locked.
+    known: u64,
     faults: u64,
     failed: bool,
 }
@@ -37,6 +39,7 @@ impl<R: Files<File = File> + Drop> FileDisk<R> {
             path,
             file: None,
             looked: false,
+            known: 0,
             faults: 0,
             failed: false,
         }
@@ -193,11 +196,17 @@ fn read_at(file: &Option<File>, at: u64, into: &mut [u8]) -> io::Result<()> {
     }
 }
 
-fn write_inside(file: &File, at: u64, bytes: &[u8]) -> io::Result<()> {
-    if at > file.metadata()?.len() {
+/// Writes where the file is known to reach. The system is asked for its length only where that isn't known.
+fn write_inside(file: &File, known: &mut u64, at: u64, bytes: &[u8]) -> io::Result<()> {
+    if at > *known {
+        *known = file.metadata()?.len();
+    }
+    if at > *known {
         return Err(out_of_bounds());
     }
-    file.write_all_at(bytes, at)
+    file.write_all_at(bytes, at)?;
+    *known = (*known).max(at.saturating_add(bytes.len() as u64));
+    Ok(())
 }
 
 fn cut_to(file: &Option<File>, len: u64) -> io::Result<()> {
@@ -269,7 +278,7 @@ impl<R: Files<File = File> + Drop> Disk for FileDisk<R> {
         match &self.file {
             None => Ok(()),
             Some(file) => count_fault(
-                write_inside(file, at, bytes),
+                write_inside(file, &mut self.known, at, bytes),
                 &mut self.faults,
                 &mut self.failed,
             ),
@@ -279,6 +288,7 @@ impl<R: Files<File = File> + Drop> Disk for FileDisk<R> {
     fn cut(&mut self, len: u64) -> Result<(), Failed> {
         let outcome = open_once(&self.rt, &self.path, &mut self.looked, &mut self.file);
         count_fault(outcome, &mut self.faults, &mut self.failed)?;
+        self.known = self.known.min(len);
         count_fault(cut_to(&self.file, len), &mut self.faults, &mut self.failed)
     }
 

@@ -22,7 +22,7 @@ use crate::rules::{bad_exits, bad_outputs, over_counts, over_definitions};
 use crate::scopes::unknown_names;
 use std::alloc::{AllocError, Global};
 use std::rc::Rc;
-use wc_syntax::{Checked, Definition, Library, Printed};
+use wc_syntax::{Checked, Definition, Printed};
 
 /// Finds what stands twice among the ports, statuses and files of a definition.
 #[tactic(auto, using(crate::proofs::Leasts::least_joined))]
@@ -112,24 +112,24 @@ fn find_all<'a>(
 }
 
 /// The first place at which a library breaks a rule of checked libraries, if there is one.
-pub fn first_finding(alloc: Global, library: &Library) -> Result<Option<CheckError>, AllocError>
+pub fn first_finding(alloc: Global, library: &Printed) -> Result<Option<CheckError>, AllocError>
     ensures { IfOk result (λ found. IsFirstFinding library.now found) }
 {
     let mut best = Best::none();
-    find_all(alloc, &mut best, library.as_slice())?;
+    find_all(alloc, &mut best, library.library().as_slice())?;
     best.refusal(alloc)
 }
 
 /// A library that is known to be checked, put where its clones share it.
-pub fn share(alloc: Global, library: Library) -> Result<Checked, AllocError>
+pub fn share(alloc: Global, library: Printed) -> Result<Checked, AllocError>
     requires { IsChecked library }
     ensures { IfOk result (λ checked. checked ≡ bare_library library) }
 {
-    Ok(Checked::of(Rc::new(alloc, Printed::of(alloc, library)?)?))
+    Ok(Checked::of(Rc::new(alloc, library)?))
 }
 
 /// Takes a library, as `parse` gives it, that meets the rules of checked libraries.
-pub fn check(alloc: Global, library: Library) -> Result<Checked, CheckError>
+pub fn check(alloc: Global, library: Printed) -> Result<Checked, CheckError>
     requires { IsWritable library }
     ensures value { IfOk result (λ checked. checked ≡ bare_library library) }
     ensures ok { IfOk result (λ checked. KeepsRules library) }

@@ -10,7 +10,7 @@ ghost use Rattle.wc_drill.specs.GeneratedRefusals.{IsParseMemory, IsCheckMemory}
 use std::alloc::{AllocError, Global};
 use wc_check::{CheckError, check};
 use wc_parser::{ParseError, parse};
-use wc_syntax::{Checked, Library};
+use wc_syntax::{Checked, Printed};
 use wc_value::Text;
 
 /// The printed text of the library.
@@ -67,7 +67,7 @@ fn check_memory(error: CheckError) -> AllocError
 }
 
 /// The library, with the offsets of its printed text.
-fn parsed_library(alloc: Global) -> Result<Library, AllocError>
+fn parsed_library(alloc: Global) -> Result<Printed, AllocError>
     ensures value { IfOk result (λ l. bare_library l ≡ library) }
     ensures writable { IfOk result IsWritable }
 {

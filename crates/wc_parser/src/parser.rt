@@ -9,7 +9,7 @@ use crate::error::ParseError;
 use std::alloc::Global;
 use wc_lexer::{LexError, Spot, TokenList, tokens};
 use wc_reader::{ReadError, read, too_deep};
-use wc_syntax::{Library, print};
+use wc_syntax::{Library, Printed};
 use wc_value::Text;
 
 /// The most bytes of a file, and of a printed text.
@@ -39,20 +39,23 @@ fn parse_tokens(alloc: Global, tokens: &[Spot]) -> Result<Library, ParseError>
     }
 }
 
-/// Refuses a library whose printed text is too long.
-fn limited(alloc: Global, library: Library) -> Result<Library, ParseError>
+/// Prints a library, and refuses one whose printed text is too long.
+fn limited(alloc: Global, library: Library) -> Result<Printed, ParseError>
     ensures { Limited library result }
 {
-    let Ok(text) = print(alloc, &library) else {
+    let Ok(printed) = Printed::of(alloc, library) else {
+        return Err(ParseError::OutOfMemory);
+    };
+    let Ok(text) = printed.text(alloc) else {
         return Err(ParseError::OutOfMemory);
     };
     if text.bytes().len() > MOST_BYTES {
         return Err(ParseError::TooLong);
     }
-    Ok(library)
+    Ok(printed)
 }
 
-fn parse_limited(alloc: Global, tokens: &[Spot]) -> Result<Library, ParseError>
+fn parse_limited(alloc: Global, tokens: &[Spot]) -> Result<Printed, ParseError>
     ensures { LimitedTold tokens.now result }
 {
     match parse_tokens(alloc, tokens) {
@@ -61,7 +64,7 @@ fn parse_limited(alloc: Global, tokens: &[Spot]) -> Result<Library, ParseError>
     }
 }
 
-fn parse_text(alloc: Global, text: &Text) -> Result<Library, ParseError>
+fn parse_text(alloc: Global, text: &Text) -> Result<Printed, ParseError>
     requires { length text.now ≤ 1048576 }
     ensures { TextTold text.now result }
 {
@@ -71,9 +74,9 @@ fn parse_text(alloc: Global, text: &Text) -> Result<Library, ParseError>
     }
 }
 
-/// The library of a workflow file. Refusals come in this order: too long, no tokens, too deep, unexpected, end, and
+/// The library of a workflow file, with its printed text. Refusals come in this order: too long, no tokens, too deep, unexpected, end, and
 /// too long again where the library's printed text has more bytes than a file may have.
-pub fn parse(alloc: Global, text: &Text) -> Result<Library, ParseError>
+pub fn parse(alloc: Global, text: &Text) -> Result<Printed, ParseError>
     // What is answered holds.
     ensures says { TextTold text.now result }
     // What is answered can be printed and read back.

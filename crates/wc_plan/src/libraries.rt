@@ -13,7 +13,7 @@ use std::alloc::{AllocError, Global};
 use wc_check::{first_finding, rules_are_kept_where_nothing_is_found, share};
 use wc_io::Shelf;
 use wc_parser::{ParseError, parse};
-use wc_syntax::{Checked, Library};
+use wc_syntax::{Checked, Printed};
 use wc_value::{Bytes, Duplicate, Text};
 
 /// What a file is read as.
@@ -26,7 +26,7 @@ pub enum Read {
 }
 
 /// What a library is read as.
-fn read_library(alloc: Global, library: Library) -> Result<Read, AllocError>
+fn read_library(alloc: Global, library: Printed) -> Result<Read, AllocError>
     requires { IsWritable library }
     ensures { IfOk result (λ r. ReadsLibrary library r) }
 {

@@ -127,7 +127,7 @@ fn put_made(alloc: Global, shown: &mut Shown, library: &[Definition], inputs: &F
 /// Puts what a file makes of inputs.
 fn put_outcome(alloc: Global, shown: &mut Shown, file: &Text, inputs: &Fields) {
     match library_of(alloc, file) {
-        Ok(library) => put_made(alloc, shown, library.as_slice(), inputs),
+        Ok(library) => put_made(alloc, shown, library.library().as_slice(), inputs),
         Err(error) => shown.put_item(&error),
     }
 }

@@ -4,8 +4,8 @@ use crate::shown::Shown;
 use std::alloc::Global;
 use wc_parser::{ParseError, parse};
 use wc_syntax::{
-    CallStmt, ChildPart, Definition, Exit, ExitCode, Expr, Form, Head, Instr, Job, Library, Name,
-    Port, Rule, Step, Stmt, print,
+    CallStmt, ChildPart, Definition, Exit, ExitCode, Expr, Form, Head, Instr, Job, Name, Port,
+    Printed, Rule, Step, Stmt,
 };
 use wc_value::Text;
 
@@ -191,7 +191,7 @@ fn put_definition(shown: &mut Shown, definition: &Definition) {
 }
 
 /// The library of a file, or why it has none. The clauses of `parse` stay behind this call.
-pub fn library_of(alloc: Global, file: &Text) -> Result<Library, ParseError> {
+pub fn library_of(alloc: Global, file: &Text) -> Result<Printed, ParseError> {
     parse(alloc, file)
 }
 
@@ -205,7 +205,7 @@ fn put_definitions(shown: &mut Shown, definitions: &[Definition]) {
 /// Puts the offsets of a file's library, or why it has none.
 pub fn put_offsets(alloc: Global, shown: &mut Shown, file: &Text) {
     match library_of(alloc, file) {
-        Ok(library) => put_definitions(shown, library.as_slice()),
+        Ok(library) => put_definitions(shown, library.library().as_slice()),
         Err(error) => shown.put_item(&error),
     }
 }
@@ -213,7 +213,7 @@ pub fn put_offsets(alloc: Global, shown: &mut Shown, file: &Text) {
 /// The printed text of a file's library.
 fn printed(alloc: Global, file: &Text) -> Option<Text> {
     match library_of(alloc, file) {
-        Ok(library) => print(alloc, &library).ok(),
+        Ok(library) => library.text(alloc).ok(),
         Err(_) => None,
     }
 }

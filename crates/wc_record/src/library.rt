@@ -18,7 +18,7 @@ use std::collections::BTreeMap;
 use std::marker::Model;
 use wc_check::{CheckError, check};
 use wc_parser::{ParseError, parse};
-use wc_syntax::{Checked, Library, print};
+use wc_syntax::{Checked, Printed};
 use wc_value::{Text, Words, same_text};
 
 /// Whether memory ran out in checking.
@@ -36,12 +36,12 @@ fn is_unparsed(error: &ParseError) -> bool
 }
 
 /// A library that was parsed, where it meets the rules and prints as the text that it was parsed from.
-fn checked_of(alloc: Global, text: &Text, library: Library) -> Result<Option<Checked>, AllocError>
+fn checked_of(alloc: Global, text: &Text, library: Printed) -> Result<Option<Checked>, AllocError>
     requires says { TextSays text.now (Ok library) }
     requires writable { IsWritable library }
     ensures { IfOk result (λ found. Prints text.now found) }
 {
-    let printed = print(alloc, &library)?;
+    let printed = library.text(alloc)?;
     if !same_text(&printed, text) {
         return Ok(None);
     }

@@ -15,7 +15,7 @@ use crate::put::{put_bool, put_count, put_i64, put_part, put_text, put_u32, put_
 use std::alloc::{AllocError, Global};
 use wc_graph::{Link, LinkType};
 use wc_state::{Part, ProcessKind};
-use wc_syntax::{Checked, offsets_are_not_printed, print};
+use wc_syntax::Checked;
 use wc_value::{Bytes, ProcessState, Reason, Text, Value, Words, put_value};
 use wc_world::{Change, Changes, Kept, NewProcess, SetProcess};
 
@@ -234,8 +234,9 @@ fn put_printed(alloc: Global, out: &mut Bytes, library: &Checked) -> Result<(), 
     ensures fits { OnOk result (IsText (printed library.now)) }
     ensures checked { (l : List Definition) × IsChecked l × (bare_library l ≡ library.now) }
 {
-    offsets_are_not_printed();
-    let printed = print(alloc, library.library())?;
+    // A library that is kept is a checked one.
+    let _checked = library.library();
+    let printed = library.text(alloc)?;
     put_text(out, &printed)
 }
 

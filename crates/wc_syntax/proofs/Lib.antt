@@ -1,4 +1,5 @@
 pub mod Bared
 pub mod Escapes
+pub mod Joined
 pub mod ListTexts
 pub mod Named

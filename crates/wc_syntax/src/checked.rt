@@ -1,11 +1,11 @@
-//! Checked libraries, with the printed texts of their definitions.
+//! Libraries with the printed texts of their definitions, and those of them that are checked.
 
 ghost use Rattle.std.specs.Prelude.{◌≡◌, map, IfOk};
 ghost use Rattle.std.specs.Option.{option_copied, option_map};
 ghost use Rattle.wc_syntax.specs.Bare.{bare_library};
 ghost use Rattle.wc_syntax.specs.Checked.{IsChecked};
 ghost use Rattle.wc_syntax.specs.Findings.{definition_named};
-ghost use Rattle.wc_syntax.specs.Printing.{printed_definition};
+ghost use Rattle.wc_syntax.specs.Printing.{printed, printed_definition};
 
 use crate::definition::{Definition, Library};
 use crate::lookup::head;
@@ -15,7 +15,7 @@ use std::marker::Model;
 use std::rc::Rc;
 use wc_lexer::{Text, Words};
 
-/// A checked library with the printed text of each of its definitions. Contracts see it as the library, with its offsets.
+/// A library with the printed text of each of its definitions, which is made once. Contracts see it as the library, with its offsets.
 #[derive(Drop)]
 pub struct Printed {
     library: Library,
@@ -25,7 +25,6 @@ pub struct Printed {
 impl Model for Printed {
     ghost use Rattle.std.specs.Prelude.{◌≡◌, List, map};
     ghost use Rattle.wc_syntax.specs.declared.definition.Definition.{Definition};
-    ghost use Rattle.wc_syntax.specs.Checked.{IsChecked};
     ghost use Rattle.wc_syntax.specs.Printing.{printed_definition};
 
     ghost Value = { List Definition };
@@ -37,7 +36,7 @@ impl Model for Printed {
 
     ghost view = { λ p. p.library };
 
-    ghost invariant = { λ p. IsChecked p.library × (p.texts ≡ map printed_definition p.library) };
+    ghost invariant = { λ p. p.texts ≡ map printed_definition p.library };
 }
 
 /// The printed text of each definition.
@@ -66,9 +65,8 @@ fn text_named<'a>(library: &[Definition], texts: &'a Words, name: &Text) -> Opti
 }
 
 impl Printed {
-    /// A library that is known to be checked. Its definitions are printed.
+    /// A library whose definitions are printed, each once.
     pub fn of(alloc: Global, library: Library) -> Result<Printed, AllocError>
-        requires { IsChecked library }
         ensures { IfOk result (λ printed. printed ≡ library) }
     {
         let texts = texts_of(alloc, &library)?;
@@ -76,11 +74,22 @@ impl Printed {
     }
 
     /// The library, with its offsets.
-    fn library(&self) -> &Library
-        ensures same { result.now ≡ self.now }
-        ensures checked { IsChecked self.now }
+    pub fn library(&self) -> &Library
+        ensures { result.now ≡ self.now }
     {
         &self.library
+    }
+
+    /// The printed text of the library. It reads back as the same library but for offsets, and comments aren't kept. The texts of the
+    /// definitions stand one behind the other, and nothing is printed anew.
+    pub fn text(&self, alloc: Global) -> Result<Text, AllocError>
+        ensures { IfOk result (λ text. text ≡ printed self.now) }
+    {
+        let mut out = String::new(alloc);
+        for text in self.texts.as_slice() {
+            out.push_str(text.as_str())?;
+        }
+        Text::of_string(out)
     }
 
     /// The printed text of the definition with this name, if there is one.
@@ -102,6 +111,7 @@ impl Model for Checked {
     ghost use Rattle.std.specs.Prelude.{List};
     ghost use Rattle.wc_syntax.specs.declared.definition.Definition.{Definition};
     ghost use Rattle.wc_syntax.specs.Bare.{bare_library};
+    ghost use Rattle.wc_syntax.specs.Checked.{IsChecked};
 
     ghost Value = { List Definition };
 
@@ -111,11 +121,14 @@ impl Model for Checked {
     ghost coded = { coded_list row.the_row.coded };
 
     ghost view = { λ c. bare_library c.printed.value };
+
+    ghost invariant = { λ c. IsChecked c.printed.value };
 }
 
 impl Checked {
     /// A library that is known to be checked, whose definitions are printed. It takes no memory.
     pub fn of(printed: Rc<Printed>) -> Checked
+        requires { IsChecked printed.value }
         ensures { result ≡ bare_library printed.value }
     {
         Checked { printed }
@@ -127,6 +140,14 @@ impl Checked {
         ensures checked { IsChecked result.now }
     {
         self.printed.library()
+    }
+
+    /// The printed text of the library, in which offsets play no part. Nothing is printed anew.
+    #[tactic(auto, using(crate::proofs::Bared::printed_bare))]
+    pub fn text(&self, alloc: Global) -> Result<Text, AllocError>
+        ensures { IfOk result (λ text. text ≡ printed self.now) }
+    {
+        self.printed.text(alloc)
     }
 
     /// The printed text of the definition with this name, if there is one. It takes no memory.

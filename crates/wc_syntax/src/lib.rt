@@ -24,4 +24,4 @@ pub use lookup::{find_definition, head, is_among};
 pub use outline::{
     Arm, Arms, Block, CallArg, CallArgs, CallStmt, Instr, Instrs, Step, Stmt, Stmts,
 };
-pub use printing::{offsets_are_not_printed, print, print_definition};
+pub use printing::{offsets_are_not_printed, print_definition};

@@ -2,28 +2,17 @@
 
 ghost use Rattle.wc_syntax.specs.Laws.{OffsetsArentPrinted};
 ghost use Rattle.std.specs.Prelude.{◌≡◌, ◌++◌, OnOk, IfOk, string_bytes, codes};
-ghost use Rattle.wc_syntax.specs.Printing.{printed, printed_definition};
+ghost use Rattle.wc_syntax.specs.Printing.{printed_definition};
 
 mod definitions;
 mod expressions;
 mod lines;
 mod outlines;
 
-use crate::definition::{Definition, Library};
+use crate::definition::Definition;
 use definitions::put_definition;
 use std::alloc::{AllocError, Global};
 use wc_lexer::Text;
-
-/// The printed text of a library. It reads back as the same library but for offsets, and comments aren't kept.
-pub fn print(alloc: Global, library: &Library) -> Result<Text, AllocError>
-    ensures { IfOk result (λ text. text ≡ printed library.now) }
-{
-    let mut out = String::new(alloc);
-    for definition in library.as_slice() {
-        put_definition(alloc, &mut out, definition)?;
-    }
-    Text::of_string(out)
-}
 
 /// The printed text of one definition, as it stands in that of its library.
 pub fn print_definition(alloc: Global, definition: &Definition) -> Result<Text, AllocError>

@@ -5,4 +5,4 @@ use Rattle.wc_check.proofs.Refused.{if_said}
 use Rattle.wc_check.proofs.checking.first_finding.Goals as goal
 
 pub returns : goal.returns
-returns c = if_said c.args.library.now c.find_all.new.best c.refusal.result (c.in_ok-find_all.ensures ∙ (λ i. least_after (c.none-best.ensures i) (findings (c.as_slice.ensures i)))) c.refusal.ensures
+returns c = if_said c.args.library.now c.find_all.new.best c.refusal.result (c.in_ok-find_all.ensures ∙ (λ i. least_after (c.none-best.ensures i) (findings ((c.as_slice.ensures ∙ c.library.ensures) i)))) c.refusal.ensures

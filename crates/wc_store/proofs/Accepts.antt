@@ -24,11 +24,11 @@ use Rattle.wc_world.specs.Records.{has_ended, definition_in, has_called, process
 use Rattle.wc_world.specs.Accepted.{Setting, setting, Fits, Apply, IsAccepted}
 use Rattle.wc_record.specs.Written.{IsShallow, IsReadablePart, IsReadableChange, AreReadable, FailsFit, IsWritable, AreWritable}
 
-and_first : (b c : Bool) → (b && c) ≡ true → b ≡ true
+pub and_first : (b c : Bool) → (b && c) ≡ true → b ≡ true
 and_first true c both = refl
 and_first false c both = both
 
-and_second : (b c : Bool) → (b && c) ≡ true → c ≡ true
+pub and_second : (b c : Bool) → (b && c) ≡ true → c ≡ true
 and_second true c both = both
 and_second false c both = absurd (cc)
 

@@ -23,3 +23,4 @@ mod Deciding
 mod Links
 mod Changes
 mod Holding
+mod Suiting

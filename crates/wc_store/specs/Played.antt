@@ -1,5 +1,5 @@
 -- What a payload and what batches are played as.
-use Rattle.std.specs.Prelude.{◌≡◌, ℕ, ◌+◌, ◌-◌, ◌^◌, ◌<◌, min, Bool, true, List, All, length, Ok, Err}
+use Rattle.std.specs.Prelude.{◌≡◌, ℕ, ◌+◌, ◌-◌, ◌^◌, ◌<◌, min, Bool, true, false, List, All, length, Ok, Err, Option, Some, None, slice_get}
 use Rattle.wc_journal.specs.Reading.{Placed}
 use Rattle.wc_record.specs.declared.error.RecordError.{RecordError}
 use Rattle.wc_record.specs.Reading.{whole}
@@ -7,6 +7,7 @@ use Rattle.wc_world.specs.World.{World, empty}
 use Rattle.wc_world.specs.Applied.{applied}
 use Rattle.wc_world.specs.Accepted.{IsAccepted, IsRefused}
 use Rattle.wc_world.specs.declared.change.Change.{Change}
+use Rattle.wc_world.specs.declared.change.Change.TheVariants as change
 use Rattle.wc_world.specs.declared.error.WorldError.{WorldError}
 use Rattle.wc_store.specs.declared.error.StoreError.{StoreError}
 use Rattle.wc_store.specs.declared.error.StoreError.TheVariants as store
@@ -15,7 +16,7 @@ use Rattle.wc_store.specs.declared.replay.Unplayed.TheVariants as unplayed
 use Rattle.wc_store.specs.declared.replay.Stop.{Stop}
 use Rattle.wc_store.specs.declared.replay.Stop.TheVariants as stop
 use Rattle.wc_store.specs.Choices.{found_at}
-use Rattle.wc_store.specs.Held.{a_world, damage, place_of, suits, IsUnfit, Plays}
+use Rattle.wc_store.specs.Held.{a_world, damage, place_of, is_plain, suits, IsUnfit, Plays}
 
 -- ---- one payload
 
@@ -25,11 +26,30 @@ RefusesReading payload (unplayed.Unread at) = (e : RecordError) × whole payload
 RefusesReading payload unplayed.Unfit = ⊥
 RefusesReading payload unplayed.OutOfMemory = Unit {0}
 
--- the world doesn't accept the changes
-abbrev pub RefusesChanges : World → List Change → Unplayed → Type 0
-RefusesChanges w cs (unplayed.Unread at) = ⊥
-RefusesChanges w cs unplayed.Unfit = (e : WorldError) × IsRefused w cs e
-RefusesChanges w cs unplayed.OutOfMemory = Unit {0}
+abbrev pub is_count : Option Change → Bool
+is_count None = false
+is_count (Some (change.Library l names)) = false
+is_count (Some (change.Data v)) = false
+is_count (Some (change.Process n)) = false
+is_count (Some (change.Link l)) = false
+is_count (Some (change.Set s)) = false
+is_count (Some (change.Count n)) = true
+is_count (Some (change.Kept k)) = false
+
+-- the last change is a Count
+abbrev pub has_last_count : List Change → Bool
+has_last_count cs = is_count (slice_get cs (length cs - 1))
+
+-- the changes suit the batch's place, if a world accepts them
+abbrev pub may_suit : Bool → List Change → Bool
+may_suit true cs = has_last_count cs
+may_suit false cs = is_plain cs
+
+-- the changes don't suit the batch's place, or the world doesn't accept them
+abbrev pub RefusesChanges : Bool → World → List Change → Unplayed → Type 0
+RefusesChanges snapshot w cs (unplayed.Unread at) = ⊥
+RefusesChanges snapshot w cs unplayed.Unfit = IsUnfit snapshot w cs
+RefusesChanges snapshot w cs unplayed.OutOfMemory = Unit {0}
 
 -- the payload isn't read, or its changes don't fit
 abbrev pub RefusesPayload : Bool → List ℕ → World → Unplayed → Type 0

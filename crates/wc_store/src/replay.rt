@@ -1,17 +1,17 @@
 //! The world that the batches of a journal make.
-ghost use Rattle.std.specs.Prelude.{◌≡◌, IfOk, IfErr, OnOk};
+ghost use Rattle.std.specs.Prelude.{◌≡◌, true, false, IfOk, IfErr, OnOk};
 ghost use Rattle.wc_journal.specs.Reading.{is_snapshot_place};
 ghost use Rattle.wc_record.specs.Reading.{whole};
 ghost use Rattle.wc_world.specs.Applied.{applied};
 ghost use Rattle.wc_world.specs.Accepted.{IsAccepted};
 ghost use Rattle.wc_store.specs.Held.{is_plain, suits};
-ghost use Rattle.wc_store.specs.Played.{RefusesReading, RefusesChanges, RefusesPayload, IsPlayed, stop_of, Makes, RefusesBatches, RefusesPlaying};
+ghost use Rattle.wc_store.specs.Played.{has_last_count, may_suit, RefusesReading, RefusesChanges, RefusesPayload, IsPlayed, stop_of, Makes, RefusesBatches, RefusesPlaying};
 
 use crate::error::StoreError;
 use std::alloc::{AllocError, Global};
 use wc_journal::Batches;
 use wc_record::{RecordError, SharedLibraries, read_changes};
-use wc_world::{Change, Changes, Played, World, WorldError, is_in_order};
+use wc_world::{Change, Changes, Played, World, WorldError};
 
 /// Why a payload isn't played.
 enum Unplayed {
@@ -43,12 +43,25 @@ fn is_plain(changes: &[Change]) -> bool
     true
 }
 
-/// Whether changes may be a snapshot, or another batch.
-fn suits(snapshot: bool, changes: &[Change]) -> bool
-    ensures { result ≡ suits snapshot changes.now }
+/// Whether the last change is a count.
+fn has_last_count(changes: &[Change]) -> bool
+    ensures { result ≡ has_last_count changes.now }
+{
+    match changes.last() {
+        Some(Change::Count(_)) => true,
+        _ => false,
+    }
+}
+
+/// Whether changes may be a snapshot, or another batch, if a world accepts them: it takes a count only at the end of a snapshot, whose
+/// order it looks at. So that is looked at once.
+#[tactic(auto, using(crate::proofs::Suiting::unsuited))]
+fn may_suit(snapshot: bool, changes: &[Change]) -> bool
+    ensures value { result ≡ may_suit snapshot changes.now }
+    ensures unsuited { result ≡ false → suits snapshot changes.now ≡ false }
 {
     if snapshot {
-        is_in_order(changes)
+        has_last_count(changes)
     } else {
         is_plain(changes)
     }
@@ -78,11 +91,14 @@ fn changes_of(
     }
 }
 
-/// What changes make of what was played, where it accepts them.
-fn take(alloc: Global, played: Played, changes: Changes) -> Result<Played, Unplayed>
+/// What changes make of what was played, where it accepts them. Those that may suit suit then.
+#[tactic(auto, using(crate::proofs::Suiting::suited, crate::proofs::Suiting::unfit))]
+fn take(alloc: Global, played: Played, snapshot: bool, changes: Changes) -> Result<Played, Unplayed>
+    requires { may_suit snapshot changes ≡ true }
+    ensures suit { OnOk result (suits snapshot changes ≡ true) }
     ensures accepted { OnOk result (IsAccepted played changes) }
     ensures after { IfOk result (λ after. after ≡ applied played changes) }
-    ensures refused { IfErr result (RefusesChanges played changes) }
+    ensures refused { IfErr result (RefusesChanges snapshot played changes) }
 {
     match Played::play(alloc, played, changes) {
         Ok(after) => Ok(after),
@@ -103,10 +119,10 @@ fn play_one(
     ensures refused { IfErr result (RefusesPayload snapshot payload.now played) }
 {
     let changes = changes_of(alloc, payload, read)?;
-    if !suits(snapshot, changes.as_slice()) {
+    if !may_suit(snapshot, changes.as_slice()) {
         return Err(Unplayed::Unfit);
     }
-    take(alloc, played, changes)
+    take(alloc, played, snapshot, changes)
 }
 
 /// Whether the batch of this number is a snapshot.

@@ -2,3 +2,4 @@ pub mod Shown
 pub mod Kept
 pub mod Few
 pub mod Turned
+pub mod ReadItems

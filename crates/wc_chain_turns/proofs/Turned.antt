@@ -5,10 +5,12 @@ use Rattle.std.proofs.lemmas.Bool.{and_parts, eqb-true}
 use Rattle.wc_value.specs.declared.process.ProcessState.{ProcessState}
 use Rattle.wc_value.specs.declared.process.ProcessState.TheVariants as state
 use Rattle.wc_syntax.specs.Findings.{definition_named}
+use Rattle.wc_syntax.specs.Mentions.{Mention}
 use Rattle.wc_syntax.specs.declared.definition.Chain.{Chain}
 use Rattle.wc_syntax.specs.declared.definition.Definition.{Definition}
 use Rattle.wc_syntax.specs.declared.definition.Definition.TheVariants as definition
 use Rattle.wc_state.specs.Checkpoint.{first}
+use Rattle.wc_state.specs.Context.{Pairs}
 use Rattle.wc_state.specs.declared.environment.Env.{Env}
 use Rattle.wc_state.specs.declared.record.Checkpoint.{Checkpoint}
 use Rattle.wc_state.specs.declared.record.Part.{Part}
@@ -19,10 +21,11 @@ use Rattle.wc_state.specs.declared.record.ProcessRecord.{ProcessRecord}
 use Rattle.wc_world.specs.Consistent.{Stands}
 use Rattle.wc_world.specs.Fits.{is_of_kind, part_fits, calls_from, counted_calls, has_output}
 use Rattle.wc_world.specs.Records.{has_ended, library_at}
-use Rattle.wc_world.specs.Trees.{environment_at}
+use Rattle.wc_world.specs.Trees.{environment_at, context_of, inputs_of, items_of}
 use Rattle.wc_world.specs.World.{World, Known}
 use Rattle.wc_world.specs.declared.change.Change.{Change}
 use Rattle.wc_world.proofs.FoundRecords.{found_holds}
+use Rattle.wc_world.proofs.RecordedEnvironments.{no_context}
 use Rattle.wc_world.specs.Applied.{applied}
 use Rattle.wc_machine.specs.declared.answer.TaskAnswer.TheVariants as answer
 use Rattle.wc_machine.specs.Advancing as machine
@@ -32,7 +35,10 @@ use Rattle.wc_machine.specs.Recorded.{its_definition}
 use Rattle.wc_machine.specs.Tasks.{saturated}
 use Rattle.wc_machine.specs.Turning.{TurnGives, StandsAt, advances, binds}
 use Rattle.wc_changes.specs.Advanced.{Advanced}
+use Rattle.wc_changes.specs.Agreement.{Agree}
+use Rattle.wc_changes.specs.Environments.{environment_in}
 use Rattle.wc_changes.specs.Places.{chain_of}
+use Rattle.wc_changes.specs.Reads.{next_mentions, IsRead}
 use Rattle.wc_changes.specs.Shown.{shown}
 use Rattle.wc_machine.specs.Refusals.{FullOf, HasRoom, NoneHolds}
 use Rattle.wc_machine.specs.declared.error.TurnError.{TurnError}
@@ -46,6 +52,7 @@ use Rattle.wc_chain_turns.specs.Turned.{Gives, HasChain, HasCheckpoint}
 use Rattle.wc_chain_turns.proofs.Shown.{comes_shown}
 use Rattle.wc_chain_turns.proofs.Kept.{KeepsCount, advance_keeps}
 use Rattle.wc_chain_turns.proofs.Few.{few_calls}
+use Rattle.wc_chain_turns.proofs.ReadItems.{Items, kept, items_kept, found_kept, agree_on}
 
 -- ---- libraries
 
@@ -96,6 +103,29 @@ waiting_begun part.Fresh h = absurd (cc)
 waiting_begun (part.Chain c) h = (c, refl)
 waiting_begun (part.Job j) h = absurd (cc)
 waiting_begun part.Over h = absurd (cc)
+
+-- a chain has the context of its checkpoint
+context_at : (s : ProcessState) (p : Part) (c : Checkpoint) → StandsAt s p c → c.ctx ≡ context_of p
+context_at state.Created part.Fresh c h = ap (λ (x : Checkpoint). x.ctx) h
+context_at state.Created (part.Chain d) c h = absurd h
+context_at state.Created (part.Job j) c h = absurd h
+context_at state.Created part.Over c h = absurd h
+context_at state.Running part.Fresh c h = absurd h
+context_at state.Running (part.Chain d) c h = ap (λ (x : Checkpoint). x.ctx) h
+context_at state.Running (part.Job j) c h = absurd h
+context_at state.Running part.Over c h = absurd h
+context_at state.Waiting p c h = absurd h
+context_at (state.Finished n) p c h = absurd h
+context_at (state.Excepted e) p c h = absurd h
+context_at state.Killed p c h = absurd h
+
+-- what isn't missing is there
+abbrev pub IsThere : Option Items → Type 0
+IsThere o = (items : Items) × (o ≡ Some items)
+
+is_there : (o : Option Items) → (None ≡ o → ⊥) → IsThere o
+is_there None h = absurd (h refl)
+is_there (Some items) h = (items, refl)
 
 -- a chain has as many calls as its checkpoint counts
 counted_at : (s : ProcessState) (p : Part) (c : Checkpoint) → StandsAt s p c → counted_calls p ≡ c.calls
@@ -191,6 +221,49 @@ module _ (w : World) (r : ProcessRecord) (h : HasChain w r) where
 
     pub may_advance : IsSome (chain_of (definition_named r.definition l.0))
     may_advance = subst (λ (o : Option Chain). IsSome o) (sym chain_there) refl
+
+    -- the environment of the chain, and what is read of it
+    module _ (c : Checkpoint) (at : StandsAt r.state r.part c) where
+      pub its_items : IsThere (items_of w (context_of r.part))
+      its_items = is_there (items_of w (context_of r.part)) (no_context w r.node r h.consistent (sym h.found))
+
+      abbrev with_items : Items → Env
+      with_items items = record { inputs = inputs_of w r.node; ctx = items }
+
+      abbrev pub its_environment : Env
+      its_environment = with_items its_items.0
+
+      pub environment_there : environment_at w r.node ≡ Some its_environment
+      environment_there =
+          ap (option_and_then (λ (p : ProcessRecord). option_map with_items (items_of w (context_of p.part)))) h.found
+          ∙ ap (option_map with_items) its_items.1
+
+      module _ (read : Pairs) (x : IsRead l.0 r.definition c read) where
+        abbrev named_keys : List Mention
+        named_keys = next_mentions x.chain c
+
+        items_read : items_of w read ≡ Some (kept named_keys its_items.0)
+        items_read = ap (items_of w) x.is ∙ items_kept named_keys w c.ctx its_items.0 (ap (items_of w) (context_at r.state r.part c at) ∙ its_items.1)
+
+        read_there : environment_in w r.node read ≡ Some (with_items (kept named_keys its_items.0))
+        read_there = ap (option_map with_items) items_read
+
+        pub may_read : IsSome (environment_in w r.node read)
+        may_read = subst (λ (o : Option Env). IsSome o) (sym read_there) refl
+
+        -- an advance in the environment of what is read is one in the chain's whole environment
+        pub advance_read : (env : Env) → environment_in w r.node read ≡ Some env → (a : Advanced)
+            → option_map (λ k. shown (advance l.0 k r.depth env c)) (chain_of (definition_named r.definition l.0)) ≡ Some a
+            → option_map (λ k. shown (advance l.0 k r.depth its_environment c)) (chain_of (definition_named r.definition l.0)) ≡ Some a
+        advance_read env is a exact =
+            let both : Some (with_items (kept named_keys its_items.0)) ≡ Some env = sym read_there ∙ is in
+            let same : with_items (kept named_keys its_items.0) ≡ env = cc in
+            let agree : Agree env its_environment named_keys
+            = subst (λ (e : Env). Agree e its_environment named_keys) same
+            (agree_on (with_items (kept named_keys its_items.0)) its_environment refl named_keys (λ key p. found_kept named_keys key p its_items.0)) in
+            ap (option_map (λ k. shown (advance l.0 k r.depth its_environment c))) x.named
+            ∙ ap (λ y. Some (shown y)) (sym (x.enough r.depth env its_environment agree))
+            ∙ sym (ap (option_map (λ k. shown (advance l.0 k r.depth env c))) x.named) ∙ exact
 
     module _ (c : Checkpoint) (at : StandsAt r.state r.part c) (env : Env) (a : Advanced)
         (exact : option_map (λ k. shown (advance l.0 k r.depth env c)) (chain_of (definition_named r.definition l.0)) ≡ Some a) where

@@ -1,22 +1,20 @@
 //! What the advance of a work chain is evaluated in.
 
 ghost use Rattle.std.specs.Prelude.{◌≡◌, Some, IfOk, IsSome};
-ghost use Rattle.wc_world.specs.Records.{find_record};
-ghost use Rattle.wc_world.specs.Trees.{environment_at};
+ghost use Rattle.wc_changes.specs.Environments.{environment_in};
 
 use std::alloc::{AllocError, Global};
-use wc_changes::env_of;
-use wc_state::Env;
-use wc_world::{World, WorldError};
+use wc_changes::env_in;
+use wc_state::{Context, Env};
+use wc_world::World;
 
-/// The environment of a process that is there.
-pub fn environment(alloc: Global, world: &World, pid: u32) -> Result<Env, AllocError>
-    requires { IsSome (find_record pid world.now.world.records) }
-    ensures { IfOk result (λ env. environment_at world.now.world pid ≡ Some env) }
+/// The inputs of a process with a context, where each process that the context names is there.
+pub fn environment(alloc: Global, world: &World, pid: u32, ctx: &Context) -> Result<Env, AllocError>
+    requires { IsSome (environment_in world.now.world pid ctx.now) }
+    ensures { IfOk result (λ env. environment_in world.now.world pid ctx.now ≡ Some env) }
 {
-    match env_of(alloc, world, pid) {
-        Ok(env) => Ok(env),
-        Err(WorldError::OutOfMemory) => Err(AllocError),
-        Err(_) => unreachable!(),
+    match env_in(alloc, world, pid, ctx)? {
+        Some(env) => Ok(env),
+        None => unreachable!(),
     }
 }

@@ -15,7 +15,9 @@ ghost use Rattle.wc_chain_turns.specs.Turned.{Gives, HasChain, HasCheckpoint, Is
 use crate::binding::bound_fuel;
 use crate::environment::environment;
 use std::alloc::Global;
-use wc_changes::{advance, bind, caller_of, come_to, going, known_at, one_list_of_changes};
+use wc_changes::{
+    advance, bind, caller_of, come_to, context_read, going, known_at, one_list_of_changes,
+};
 use wc_machine::TurnError;
 use wc_state::{Checkpoint, Limits, Part, ProcessRecord};
 use wc_value::{Duplicate, ProcessState};
@@ -50,7 +52,8 @@ fn advance_from(
     let Some(known) = known_at(world, process.library) else {
         unreachable!()
     };
-    let env = environment(alloc, world, process.node)?;
+    let read = context_read(alloc, &known.0, &process.definition, &checkpoint)?;
+    let env = environment(alloc, world, process.node, &read)?;
     let advanced = advance(
         alloc,
         &known.0,

@@ -14,5 +14,5 @@ mod setting;
 pub use children::caller_of;
 pub use coming::{come_to, going};
 pub use known::known_at;
-pub use wc_outline::{advance, bind, one_list_of_changes};
-pub use wc_trees::env_of;
+pub use wc_outline::{advance, bind, context_read, one_list_of_changes};
+pub use wc_trees::env_in;

@@ -208,6 +208,9 @@ advance_named name ds k depth env c h =
     (named_bare name ds ∙ ap (option_map bare_definition) (chain_named (definition_named name ds) k h))
     ∙ ap (λ x. Some (shown x)) (advance_bare ds k depth env c)
 
+pub chain_bare : (name : List ℕ) (ds : List Definition) (k : Chain) → chain_of (definition_named name ds) ≡ Some k → chain_of (definition_named name (bare_library ds)) ≡ Some (bare_chain k)
+chain_bare name ds k h = ap chain_of (named_bare name ds ∙ ap (option_map bare_definition) (chain_named (definition_named name ds) k h))
+
 is_some_bare : (o : Option Definition) → is_some (chain_of (option_map bare_definition o)) ≡ is_some (chain_of o)
 is_some_bare None = refl
 is_some_bare (Some (definition.Function f)) = refl

@@ -11,3 +11,7 @@ pub mod Numbers
 pub mod Joined
 pub mod BareBlocks
 pub mod Bare
+pub mod Mentions
+pub mod Agreement
+pub mod Advances
+pub mod Entries

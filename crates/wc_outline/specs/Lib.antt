@@ -5,3 +5,6 @@ pub mod Statements
 pub mod Places
 pub mod Onward
 pub mod Binding
+pub mod Keys
+pub mod Agreement
+pub mod Reads

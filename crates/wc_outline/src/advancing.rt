@@ -23,7 +23,7 @@ use wc_syntax::{Chain, Checked, Definition, Library, find_definition};
 use wc_value::{List, ProcessState, Text};
 
 /// The work chain that a definition is.
-fn the_chain<'a>(definition: Option<&'a Definition>) -> &'a Chain
+pub(crate) fn the_chain<'a>(definition: Option<&'a Definition>) -> &'a Chain
     requires { IsSome (chain_of (option_copied definition)) }
     ensures { chain_of (option_copied definition.entry) ≡ Some result.now }
 {

@@ -1,2 +1,3 @@
 pub use Rattle.wc_world.specs.Trees
 pub mod TreeLaws
+pub mod Environments

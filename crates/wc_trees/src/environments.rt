@@ -3,6 +3,7 @@
 ghost use Rattle.std.specs.Prelude.{◌≡◌, ◌↔◌, ◌⊎◌, IfOk, IfErr, IsErrOf};
 ghost use Rattle.wc_world.specs.Records.{find_record};
 ghost use Rattle.wc_world.specs.Trees.{child_at, children_at, item_of, items_of, context_of, environment_at};
+ghost use Rattle.wc_trees.specs.Environments.{environment_in};
 
 use crate::outputs::{inputs_of, outputs_of};
 use std::alloc::{AllocError, Global};
@@ -71,6 +72,23 @@ fn context_of(alloc: Global, world: &World, part: &Part) -> Result<Option<Items>
     match part {
         Part::Chain(checkpoint) => items_of(alloc, world, &checkpoint.ctx),
         Part::Fresh | Part::Job(_) | Part::Over => Ok(Some(Items::new(alloc))),
+    }
+}
+
+/// The inputs of a process by label, with a context in which each process has the state and the outputs that it has, if each of them
+/// is there.
+pub fn env_in(
+    alloc: Global,
+    world: &World,
+    pid: u32,
+    ctx: &Context,
+) -> Result<Option<Env>, AllocError>
+    ensures { IfOk result (λ env. env ≡ environment_in world.now.world pid ctx.now) }
+{
+    let inputs = inputs_of(alloc, world.graph(), pid)?;
+    match items_of(alloc, world, ctx)? {
+        Some(ctx) => Ok(Some(Env { inputs, ctx })),
+        None => Ok(None),
     }
 }
 

@@ -8,7 +8,7 @@ mod outputs;
 mod recorded;
 mod trees;
 
-pub use environments::env_of;
+pub use environments::{env_in, env_of};
 pub use laws::{inputs_are_linked, outputs_are_linked, recorded_trees_unfold};
 pub use linked::places_from;
 pub use recorded::{definition_of, recorded_inputs, text_of};

@@ -110,7 +110,7 @@ module _ {D : Type 0} (g : disk.Ghosts D) (law : HeldIsReached) (told : Option (
     (old new : Option (List ℕ)) (r : Reply) (tells : IsTrue (g.tells one)) (tells_too : IsTrue (g.tells two)) (needs : NeedDisks told words) (ok : r.status ≡ status.Ok)
     (writes : Writes r.text old new) (durable : AreDurable g one_new two_new) where
   of_plan : (p : Plan) → Plans told (command_of words) p → OwedPlan (visit g one two one_new two_new) p r → Stands g told words one_new two_new old new
-  of_plan (plan.Told t) plans owed =
+  of_plan (plan.Reply t) plans owed =
       absurd (needs t plans (subst (λ (x : Reply). IsDoneOrFull x.status) owed.0 (subst IsDoneOrFull (sym ok) tt)))
   of_plan (plan.On d) plans owed =
       let done = of_told (visit g one two one_new two_new) (Done (row d) r) owed tells tells_too in

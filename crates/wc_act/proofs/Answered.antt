@@ -53,7 +53,7 @@ plan_no_fault result e fails =
 
 -- ---- a reply is told
 
-pub told_no_fault : (told : Option (List ℕ → Option (List ℕ))) (words : List (List ℕ)) (r : Reply) → Plans told (command_of words) (plan.Told r) → r.status ≡ status.DiskFault → ⊥
+pub told_no_fault : (told : Option (List ℕ → Option (List ℕ))) (words : List (List ℕ)) (r : Reply) → Plans told (command_of words) (plan.Reply r) → r.status ≡ status.DiskFault → ⊥
 told_no_fault told words r plans is = subst IsDoneOrRefused is (told_replied told (command_of words) r plans)
 
 -- ---- a deed is planned

@@ -14,9 +14,9 @@ use Rattle.wc_world.specs.Consistent.{IsConsistent}
 use Rattle.wc_world.specs.Records.{find_record, library_at, kind_of_definition}
 use Rattle.wc_world.proofs.ReachedWorlds.{reached_is_consistent}
 use Rattle.wc_world.proofs.SnapshotLists.{IsFree, find_here}
-use Rattle.wc_machine.specs.Calling.{caching_of, caching_in}
+use Rattle.wc_machine.specs.Calls.{caching_of, caching_in}
 use Rattle.wc_machine.specs.Recorded.{recorded_inputs}
-use Rattle.wc_machine.specs.Submitting.{Submits, submitted_number}
+use Rattle.wc_machine.specs.Submissions.{Submits, submitted_number}
 use Rattle.wc_machine.proofs.Frames.{records_below}
 use Rattle.wc_machine.proofs.Submitted.{at_length, new_nodes, new_record, submitted_world, submission_gives}
 use Rattle.wc_machine.proofs.SubmittedAccepted.{inputs_are}

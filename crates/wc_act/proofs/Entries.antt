@@ -20,7 +20,7 @@ use Rattle.wc_world.specs.Accepted.{IsAccepted, IsReached, then_changes}
 use Rattle.wc_world.specs.Applied.{applied}
 use Rattle.wc_machine.specs.Continues.{Continues}
 use Rattle.wc_machine.specs.Sound.{IsSound}
-use Rattle.wc_machine.specs.Submitting.{data_change, links_from, Submits, submitted_number}
+use Rattle.wc_machine.specs.Submissions.{data_change, links_from, Submits, submitted_number}
 use Rattle.wc_state.specs.Ranges.{AreLimits}
 use Rattle.wc_machine.specs.Refusals.{HasRoom}
 use Rattle.wc_machine.specs.declared.error.TurnError.{TurnError}

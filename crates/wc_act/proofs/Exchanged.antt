@@ -40,7 +40,7 @@ use Rattle.wc_act.proofs.Idle.{plan_idle}
 
 -- ---- how often the transport is asked
 
-no_deed : (d : Deed) (r : Reply) → plan.On d ≡ plan.Told r → ⊥
+no_deed : (d : Deed) (r : Reply) → plan.On d ≡ plan.Reply r → ⊥
 no_deed d r is = cc
 
 same_deed : (d e : Deed) → plan.On d ≡ plan.On e → d ≡ e

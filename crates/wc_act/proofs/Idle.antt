@@ -12,7 +12,7 @@ use Rattle.wc_plan.specs.Plans.{Plans, PlansSubmission, plan_of_prepared}
 use Rattle.wc_act.specs.Outside.{TakesNoTurns, IsIdle}
 
 abbrev pub IsIdlePlan : Plan → Type 0
-IsIdlePlan (plan.Told r) = Unit {0}
+IsIdlePlan (plan.Reply r) = Unit {0}
 IsIdlePlan (plan.On d) = IsIdle d
 
 idle_is : (p q : Plan) → p ≡ q → IsIdlePlan q → IsIdlePlan p

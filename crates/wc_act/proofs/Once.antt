@@ -35,7 +35,7 @@ row_once law (deed.Work w) c before after r s p q = one_on law (work_row w).does
 
 one_owed : HeldIsOne → (v : Visit) (p : Plan) (r s : Reply) → ((d : Deed) → p ≡ plan.On d → (row d).certain × IsTrue v.tells_one × IsTrue v.tells_two)
     → OwedPlan v p r → OwedPlan v p s → r ≡ s
-one_owed law v (plan.Told t) r s of p q = p.0 ∙ sym q.0
+one_owed law v (plan.Reply t) r s of p q = p.0 ∙ sym q.0
 one_owed law v (plan.On d) r s of p q =
     let c = of d refl in row_once law d c.0 v.before v.after r s (of_told v (Done (row d) r) p c.1 c.2) (of_told v (Done (row d) s) q c.1 c.2)
 

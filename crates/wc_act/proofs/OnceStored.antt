@@ -13,7 +13,7 @@ use Rattle.wc_world.specs.World.{World}
 use Rattle.wc_world.specs.Applied.{applied}
 use Rattle.wc_world.specs.declared.change.Change.{Change}
 use Rattle.wc_world.specs.Records.{find_record, has_ended}
-use Rattle.wc_machine.specs.Killing.{kill_changes}
+use Rattle.wc_machine.specs.Kills.{kill_changes}
 use Rattle.wc_machine.specs.Machine.{pause_changes, play_changes, submits}
 use Rattle.wc_machine.specs.Refusals.{AreTooMany, FullOfBatches, HasRoom, IsOneBatchTooMany}
 use Rattle.wc_machine.specs.declared.error.TurnError.TheVariants as turn_error

@@ -15,7 +15,7 @@ use Rattle.wc_act.specs.Statuses.{IsDoneOrFull}
 use Rattle.wc_act.proofs.Shaping.{row_replied}
 
 plan_replied : (told : Option (List ℕ → Option (List ℕ))) (command : Option Command) (v : Visit) (p : Plan) (r : Reply) → Plans told command p → OwedPlan v p r → IsReplied r.status
-plan_replied told command v (plan.Told t) r plans owed = subst (λ (x : Reply). IsReplied x.status) (sym owed.0) (is_replied t.status (told_replied told command t plans))
+plan_replied told command v (plan.Reply t) r plans owed = subst (λ (x : Reply). IsReplied x.status) (sym owed.0) (is_replied t.status (told_replied told command t plans))
 plan_replied told command v (plan.On d) r plans owed = row_replied d r owed.before owed.after owed.are
 
 -- a reply that is owed has a status of a reply

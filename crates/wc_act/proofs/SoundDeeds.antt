@@ -11,11 +11,11 @@ use Rattle.wc_world.specs.Records.{find_record, has_ended}
 use Rattle.wc_world.specs.Trees.{recorded_tree}
 use Rattle.wc_world.proofs.ReachedLists.{found_has}
 use Rattle.wc_world.proofs.ReachedWorlds.{reached_is_consistent}
-use Rattle.wc_machine.specs.Agreeing.{Agrees}
+use Rattle.wc_machine.specs.Agreement.{Agrees}
 use Rattle.wc_machine.specs.Continues.{Continues}
 use Rattle.wc_machine.specs.Machine.{after_changes}
 use Rattle.wc_machine.specs.Paths.{kills}
-use Rattle.wc_machine.specs.Resting.{GivesTree, meant}
+use Rattle.wc_machine.specs.Rest.{GivesTree, meant}
 use Rattle.wc_machine.specs.Sound.{IsSound, IsMeant}
 use Rattle.wc_soundness.specs.EventLaws.{EventsKeepSound}
 use Rattle.wc_runner.proofs.Happening.{after_some}

@@ -118,7 +118,7 @@ module _ (law : HeldIsOne) (before after : Images) (r : Reply) (sound : HoldsSou
 
 pub owed_tells : HeldIsOne → (told : Option (List ℕ → Option (List ℕ))) (command : Option Command) (v : Visit) (p : Plan) (r : Reply) → HoldsSound v.before.0 v.before.1
     → IsTrue v.tells_one → IsTrue v.tells_two → Plans told command p → OwedPlan v p r → TellsWhole r
-owed_tells law told command v (plan.Told t) r sound tells tells_too plans owed = subst TellsWhole (sym owed.0) (told_whole t.status (told_replied told command t plans))
+owed_tells law told command v (plan.Reply t) r sound tells tells_too plans owed = subst TellsWhole (sym owed.0) (told_whole t.status (told_replied told command t plans))
 owed_tells law told command v (plan.On d) r sound tells tells_too plans owed =
     let done = of_told v (Done (row d) r) owed tells tells_too in row_tells law v.before v.after r sound d done.0 done.1 done.2
 

@@ -23,5 +23,5 @@ pub record IsStorable (a : Asked) (w : World) (cs : List Change) : Type 0 where
 
 -- what is told where nothing is stored, or what is stored and the line that is written then
 abbrev pub IsEntryOf : Asked → World → Entry → Type 0
-IsEntryOf a w (entry.Told r) = TellsAlone a w r
+IsEntryOf a w (entry.Reply r) = TellsAlone a w r
 IsEntryOf a w (entry.Commits cs line) = IsStorable a w cs × (line ≡ line_of a w)

@@ -10,7 +10,7 @@ use Rattle.wc_world.specs.Accepted.{IsAccepted}
 use Rattle.wc_world.specs.Applied.{applied}
 use Rattle.wc_world.specs.Records.{find_record}
 use Rattle.wc_machine.specs.Machine.{Event, Leads, submit, pause, play, kill}
-use Rattle.wc_machine.specs.Submitting.{submitted_number}
+use Rattle.wc_machine.specs.Submissions.{submitted_number}
 use Rattle.wc_machine.specs.Refusals.{HasEndedAs, HasRoom, RefusesSubmission}
 use Rattle.wc_machine.specs.declared.error.TurnError.{TurnError}
 use Rattle.wc_machine.specs.declared.error.TurnError.TheVariants as turn_error

@@ -7,9 +7,9 @@ use Rattle.wc_semantics.specs.Tables.{Table}
 use Rattle.wc_world.specs.World.{World, empty}
 use Rattle.wc_world.specs.Accepted.{IsReached}
 use Rattle.wc_world.specs.Records.{find_record, has_ended}
-use Rattle.wc_machine.specs.Agreeing.{Agrees}
+use Rattle.wc_machine.specs.Agreement.{Agrees}
 use Rattle.wc_machine.specs.Paths.{kills}
-use Rattle.wc_machine.specs.Resting.{GivesTree, meant}
+use Rattle.wc_machine.specs.Rest.{GivesTree, meant}
 use Rattle.wc_machine.specs.Sound.{IsSound}
 use Rattle.wc_runner.specs.Laws.{StaysSound}
 use Rattle.wc_plan.specs.declared.deed.Deed.{Deed}

@@ -82,21 +82,21 @@ pub record HasOpened {D : Type 0} (g : disk.Ghosts D) (store : Store) (one two o
 
 -- What is told is told of images that hold no world, and a store stands for the disks, where they tell their bytes, and is one of some two images.
 abbrev pub Opens : {D : Type 0} → disk.Ghosts D → (one two one_new two_new : D) → Opened → Type 0
-Opens g one two one_new two_new (opened.Told r) = OfVisit (visit g one two one_new two_new) (λ before after. HasNoWorld before after r)
-Opens g one two one_new two_new (opened.Held store) =
+Opens g one two one_new two_new (opened.Reply r) = OfVisit (visit g one two one_new two_new) (λ before after. HasNoWorld before after r)
+Opens g one two one_new two_new (opened.Store store) =
     (IsTrue (g.tells one) → IsTrue (g.tells two) → HasOpened g store one two one_new two_new) × HasImages store
 
 -- a store that was opened is live
 abbrev pub IsHeldLive : Opened → Type 0
-IsHeldLive (opened.Told r) = Unit {0}
-IsHeldLive (opened.Held store) = store.live ≡ true
+IsHeldLive (opened.Reply r) = Unit {0}
+IsHeldLive (opened.Store store) = store.live ≡ true
 
 -- what is told is told with the status of a reply
 abbrev pub IsToldReplied : Opened → Type 0
-IsToldReplied (opened.Told r) = IsRefused r.status
-IsToldReplied (opened.Held store) = Unit {0}
+IsToldReplied (opened.Reply r) = IsRefused r.status
+IsToldReplied (opened.Store store) = Unit {0}
 
 -- what is told where no store was opened says neither that the work was done nor that the store is too full
 abbrev pub IsToldUndone : Opened → Type 0
-IsToldUndone (opened.Told r) = IsDoneOrFull r.status → ⊥
-IsToldUndone (opened.Held store) = Unit {0}
+IsToldUndone (opened.Reply r) = IsDoneOrFull r.status → ⊥
+IsToldUndone (opened.Store store) = Unit {0}

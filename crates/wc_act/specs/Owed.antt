@@ -52,7 +52,7 @@ OwedDeed v d reply = OfVisit v (Done (row d) reply)
 
 -- for a plan; where a reply is told, the disks read as before
 abbrev pub OwedPlan : Visit → Plan → Reply → Type 0
-OwedPlan v (plan.Told told) reply = (reply ≡ told) × (v.after ≡ v.before)
+OwedPlan v (plan.Reply told) reply = (reply ≡ told) × (v.after ≡ v.before)
 OwedPlan v (plan.On d) reply = OwedDeed v d reply
 
 -- the reply is the one owed for these words by a shelf that tells this, and by two disks
@@ -83,7 +83,7 @@ IsNoDeeds told words c = OfEach told words (λ k. (r : Reply) (before after : Im
 
 -- the words plan no reply by which something was done with no disk
 abbrev pub NeedDisks : Option (List ℕ → Option (List ℕ)) → List (List ℕ) → Type 0
-NeedDisks told words = (r : Reply) → Plans told (command_of words) (plan.Told r) → IsDoneOrFull r.status → ⊥
+NeedDisks told words = (r : Reply) → Plans told (command_of words) (plan.Reply r) → IsDoneOrFull r.status → ⊥
 
 -- nothing was written where a deed ends so
 abbrev pub LeaveUndone : Option (List ℕ → Option (List ℕ)) → List (List ℕ) → Status → Type 0

@@ -91,8 +91,8 @@ fn work_reply<D: Disk, T: Transport, P: Pacer>(
     ensures cause { CountsDisks result (D.faults one.old) (D.faults one.new) (D.faults two.old) (D.faults two.new) (D.failed one.new) (D.failed two.new) }
 {
     match open_store(alloc, one, two, takes_turns(&work))? {
-        Opened::Told(reply) => Ok(reply),
-        Opened::Held(mut store) => { worked(alloc, &mut store, work, one, two, transport, pacer) }
+        Opened::Reply(reply) => Ok(reply),
+        Opened::Store(mut store) => { worked(alloc, &mut store, work, one, two, transport, pacer) }
     }
 }
 

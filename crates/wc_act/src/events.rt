@@ -1,7 +1,7 @@
 //! Events that are asked for.
 
 ghost use Rattle.std.specs.Prelude.{◌≡◌, ◌≢◌, ◌≤◌, [], true, None, Some, IsSome, IsTrue, IfOk, IfErr, IfSome};
-ghost use Rattle.wc_machine.specs.Submitting.{submitted_number};
+ghost use Rattle.wc_machine.specs.Submissions.{submitted_number};
 ghost use Rattle.wc_state.specs.Ranges.{AreLimits};
 ghost use Rattle.wc_store.specs.Stores.{HasImages, StandsFor};
 ghost use Rattle.wc_act.specs.Counts.{CountsDisks};
@@ -34,7 +34,7 @@ use wc_world::{Changes, World};
 #[derive(Drop)]
 pub enum Entry {
     /// Nothing is stored, and this is told.
-    Told(Reply),
+    Reply(Reply),
     /// These changes are stored, and then this line is written.
     Commits(Changes, Text),
 }
@@ -225,9 +225,9 @@ fn entry_of(
     let line = line_of(alloc, world, &asked)?;
     let pid = process_of(&asked);
     match changes_of(alloc, world, limits, asked) {
-        Ok(changes) if changes.is_empty() => Ok(Entry::Told(print(there(line)))),
+        Ok(changes) if changes.is_empty() => Ok(Entry::Reply(print(there(line)))),
         Ok(changes) => Ok(Entry::Commits(changes, there(line))),
-        Err(error) => Ok(Entry::Told(refusal(alloc, pid, error)?)),
+        Err(error) => Ok(Entry::Reply(refusal(alloc, pid, error)?)),
     }
 }
 
@@ -253,7 +253,7 @@ pub(crate) fn event_reply<D: Disk>(
     worlds_are_kept();
     let limits = limits_of(&asked);
     match entry_of(alloc, store.world(), &limits, asked)? {
-        Entry::Told(reply) => Ok(reply),
+        Entry::Reply(reply) => Ok(reply),
         Entry::Commits(changes, line) => match store.commit(alloc, one, two, changes, &limits) {
             Ok(()) => Ok(print(line)),
             Err(error) => refused(alloc, error),

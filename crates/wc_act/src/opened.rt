@@ -21,9 +21,9 @@ use wc_store::{Store, StoreError};
 #[derive(Drop)]
 pub enum Opened {
     /// There is no world, which this tells.
-    Told(Reply),
+    Reply(Reply),
     /// The store.
-    Held(Store),
+    Store(Store),
 }
 
 /// The byte that was found, if it wasn't the end.
@@ -91,8 +91,8 @@ pub(crate) fn open_store<D: Disk>(
     ensures cause { CountsDisks result (D.faults one.old) (D.faults one.new) (D.faults two.old) (D.faults two.new) (D.failed one.new) (D.failed two.new) }
 {
     match Store::load(alloc, one, two, digests) {
-        Ok(Some(store)) => Ok(Opened::Held(store)),
-        Ok(None) => Ok(Opened::Told(refuse(alloc, Cause::NoStore)?)),
-        Err(error) => Ok(Opened::Told(refused(alloc, error)?)),
+        Ok(Some(store)) => Ok(Opened::Store(store)),
+        Ok(None) => Ok(Opened::Reply(refuse(alloc, Cause::NoStore)?)),
+        Err(error) => Ok(Opened::Reply(refused(alloc, error)?)),
     }
 }

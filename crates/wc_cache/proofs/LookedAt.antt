@@ -1,5 +1,5 @@
 -- The lowest source where each process is looked at.
-use Rattle.std.proofs.Common.{◌≡◌, ℕ, zero, suc, ◌+◌, ◌<◌, ◌≤◌, Option, Some, None, List, [], ◌∷◌, length, take, get_or, inl, inr, refl, sym, ap, subst, ◌∙◌, arith}
+use Rattle.std.proofs.Common.{◌≡◌, ℕ, zero, suc, ◌+◌, ◌<◌, ◌≤◌, Some, None, List, [], ◌∷◌, length, take, get_or, inl, inr, refl, sym, ap, subst, ◌∙◌, arith}
 use Rattle.std.specs.Prelude.{All, IsSome, ◌⊎◌}
 use Rattle.std.proofs.lemmas.List.{get_or_default, get_or-take, length-take, take_all}
 use Rattle.std.proofs.lemmas.List.Elements.{All-more}
@@ -11,7 +11,7 @@ use Rattle.wc_world.specs.Consistent.{IsConsistent}
 use Rattle.wc_world.specs.Records.{find_record}
 use Rattle.wc_world.proofs.Ascents.{reached_ascends}
 use Rattle.wc_world.proofs.ReachedLists.{unique}
-use Rattle.wc_cache.specs.Finding.{IsLowestWith, IsSourceWith}
+use Rattle.wc_cache.specs.Sources.{IsLowestWith, IsSourceWith}
 
 over : (low high : ℕ) (rs : List ProcessRecord) → Ascend low rs high → (k : ℕ) (d : ProcessRecord) → k < length rs → low < (get_or rs k d).node
 over low high [] h k d lt = absurd (omega (arith, lt))

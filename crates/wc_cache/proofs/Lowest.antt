@@ -12,7 +12,7 @@ use Rattle.sha2.specs.Sha256.{sha256}
 use Rattle.wc_value.specs.Spelling.{spelling}
 use Rattle.wc_value.proofs.Puts.{same_name}
 use Rattle.wc_syntax.specs.Printing.{printed_definition}
-use Rattle.wc_keys.specs.declared.marking.Sealed.{Sealed}
+use Rattle.wc_keys.specs.declared.entries.Sealed.{Sealed}
 use Rattle.wc_keys.specs.SealKeys.{key_value}
 use Rattle.wc_keys.specs.Order.{is_seal, is_in, has_digest, IsPartOf}
 use Rattle.wc_keys.proofs.Exact.{places_rise}
@@ -23,9 +23,9 @@ use Rattle.wc_world.specs.Consistent.{IsConsistent}
 use Rattle.wc_world.specs.Records.{find_record, is_calculation}
 use Rattle.wc_world.specs.Keys.{recorded_inputs, has_finished, is_finished_calculation, key_in, digest_in, digest_at}
 use Rattle.wc_world.proofs.ReachedLists.{unique}
-use Rattle.wc_machine.specs.Ending.{TakesSource}
+use Rattle.wc_machine.specs.Ends.{TakesSource}
 use Rattle.wc_machine.specs.Sources.{IsLowestSource, IsSourceFor}
-use Rattle.wc_cache.specs.Finding.{IsLowestWith, IsSourceWith}
+use Rattle.wc_cache.specs.Sources.{IsLowestWith, IsSourceWith}
 use Rattle.wc_cache.specs.Keys.{IsKeyOf}
 use Rattle.wc_cache.proofs.Parts.{key_over, same_key}
 

@@ -14,7 +14,7 @@ use Rattle.wc_world.specs.World.{World}
 use Rattle.wc_world.specs.Records.{is_calculation}
 use Rattle.wc_machine.specs.Recorded.{its_definition}
 use Rattle.wc_machine.specs.Sources.{IsValidSource, marks}
-use Rattle.wc_cache.specs.Finding.{is_unmarked, is_unmarked_by}
+use Rattle.wc_cache.specs.Sources.{is_unmarked, is_unmarked_by}
 
 -- ---- offsets play no part in what a definition marks
 

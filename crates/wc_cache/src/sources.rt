@@ -4,7 +4,7 @@ ghost use Rattle.std.specs.Prelude.{◌≡◌, ◌+◌, ◌↔◌, IsTrue};
 ghost use Rattle.std.specs.Option.{option_copied};
 ghost use Rattle.wc_machine.specs.Recorded.{its_definition};
 ghost use Rattle.wc_machine.specs.Sources.{IsValidSource, marks};
-ghost use Rattle.wc_cache.specs.Finding.{is_unmarked, is_unmarked_by};
+ghost use Rattle.wc_cache.specs.Sources.{is_unmarked, is_unmarked_by};
 
 use wc_fits::is_calculation;
 use wc_state::ProcessRecord;

@@ -6,7 +6,7 @@ use Rattle.wc_world.specs.declared.change.Change.{Change}
 use Rattle.wc_world.specs.World.{World}
 use Rattle.wc_world.specs.Applied.{applied}
 use Rattle.wc_world.specs.After.{nodes_in}
-use Rattle.wc_machine.specs.Ending.{creations, end_of}
+use Rattle.wc_machine.specs.Ends.{creations, end_of}
 use Rattle.wc_machine.proofs.Counted.{HasNoCount, nodes_more, one_batch}
 use Rattle.wc_calculation_turns.specs.declared.courses.Course.{Course}
 use Rattle.wc_calculation_turns.specs.declared.courses.Course.TheVariants as course

@@ -26,9 +26,9 @@ use Rattle.wc_world.proofs.FoundRecords.{found_holds}
 use Rattle.wc_world.proofs.SnapshotLists.{number_of_found}
 use Rattle.wc_cache.specs.CalculationLaws.{MayStart}
 use Rattle.wc_machine.specs.declared.answer.TaskAnswer.TheVariants.{Nothing}
-use Rattle.wc_machine.specs.Ending.{ends, TakesSource}
+use Rattle.wc_machine.specs.Ends.{ends, TakesSource}
 use Rattle.wc_machine.specs.Recorded.{its_definition, recorded_inputs, recorded_outputs}
-use Rattle.wc_machine.specs.Turning.{TurnGives, calculates, clones, begins, excepts}
+use Rattle.wc_machine.specs.Turns.{TurnGives, calculates, clones, begins, excepts}
 use Rattle.wc_calculation_turns.specs.declared.courses.Course.{Course}
 use Rattle.wc_calculation_turns.specs.declared.courses.Course.TheVariants as course
 use Rattle.wc_calculation_turns.specs.Courses.{begun, cloned, course_changes, own_end}

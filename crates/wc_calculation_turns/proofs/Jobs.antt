@@ -31,14 +31,14 @@ use Rattle.wc_world.specs.Fits.{is_of_kind, part_fits}
 use Rattle.wc_world.proofs.FoundRecords.{found_holds}
 use Rattle.wc_machine.specs.declared.answer.TaskAnswer.{TaskAnswer}
 use Rattle.wc_machine.specs.declared.answer.TaskAnswer.TheVariants as answer
-use Rattle.wc_machine.specs.Asking.{Need, fits, fits_task, need, need_at, with_request}
-use Rattle.wc_machine.specs.Ending.{ends}
+use Rattle.wc_machine.specs.Questions.{Need, fits, fits_task, need, need_at, with_request}
+use Rattle.wc_machine.specs.Ends.{ends}
 use Rattle.wc_machine.specs.Recorded.{its_definition, recorded_inputs, recorded_request, request_by}
-use Rattle.wc_machine.specs.Turning.{TurnGives, gives_up, moves, parses}
+use Rattle.wc_machine.specs.Turns.{TurnGives, gives_up, moves, parses}
 use Rattle.wc_calculation_turns.specs.Steps.{moved}
 use Rattle.wc_calculation_turns.specs.declared.courses.Course.{Course}
 use Rattle.wc_calculation_turns.specs.Courses.{HasMoved, LeadsOn, course_changes, own_end}
-use Rattle.wc_calculation_turns.specs.Waiting.{MayGoOn, task_of}
+use Rattle.wc_calculation_turns.specs.Waits.{MayGoOn, task_of}
 use Rattle.wc_calculation_turns.proofs.Ready.{quiet}
 
 -- ---- jobs that wait

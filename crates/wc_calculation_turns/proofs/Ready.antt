@@ -18,10 +18,10 @@ use Rattle.wc_world.proofs.FoundRecords.{found_holds, left, right}
 use Rattle.wc_cache.specs.CalculationLaws.{MayStart}
 use Rattle.wc_machine.specs.declared.answer.TaskAnswer.{TaskAnswer}
 use Rattle.wc_machine.specs.declared.answer.TaskAnswer.TheVariants as answer
-use Rattle.wc_machine.specs.Asking.{fits, is_nothing, need, need_at}
+use Rattle.wc_machine.specs.Questions.{fits, is_nothing, need, need_at}
 use Rattle.wc_machine.specs.Readiness.{is_ready, may_go}
 use Rattle.wc_machine.specs.Recorded.{recorded_request}
-use Rattle.wc_calculation_turns.specs.Waiting.{MayGoOn, task_of}
+use Rattle.wc_calculation_turns.specs.Waits.{MayGoOn, task_of}
 
 -- ---- states
 

@@ -6,7 +6,7 @@ use Rattle.wc_world.specs.Applied.{applied}
 use Rattle.wc_world.specs.Consistent.{IsConsistent}
 use Rattle.wc_world.specs.Records.{find_record}
 use Rattle.wc_machine.specs.declared.answer.TaskAnswer.{TaskAnswer}
-use Rattle.wc_machine.specs.Turning.{TurnGives}
+use Rattle.wc_machine.specs.Turns.{TurnGives}
 use Rattle.wc_cache.proofs.OneList.{one_list}
 use Rattle.wc_machine.specs.Refusals.{AreFew, FullOf, HasRoom, NoneHolds, RefusesCounts}
 use Rattle.wc_machine.specs.declared.error.TurnError.{TurnError}

@@ -13,9 +13,9 @@ use Rattle.wc_world.specs.declared.change.Change.{Change}
 use Rattle.wc_world.specs.World.{World}
 use Rattle.wc_machine.specs.declared.answer.TaskAnswer.{TaskAnswer}
 use Rattle.wc_machine.specs.declared.answer.TaskAnswer.TheVariants as answer
-use Rattle.wc_machine.specs.Ending.{come_to, ends}
+use Rattle.wc_machine.specs.Ends.{come_to, ends}
 use Rattle.wc_machine.specs.Tasks.{after}
-use Rattle.wc_machine.specs.Turning.{first_task, job_set}
+use Rattle.wc_machine.specs.Turns.{first_task, job_set}
 use Rattle.wc_calculation_turns.specs.declared.tasks.JobStep.{JobStep}
 use Rattle.wc_calculation_turns.specs.Steps.{moved}
 use Rattle.wc_calculation_turns.specs.declared.courses.Course.{Course}

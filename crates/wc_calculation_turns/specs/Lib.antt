@@ -1,3 +1,3 @@
 pub mod Courses
-pub mod Waiting
+pub mod Waits
 pub mod Steps

@@ -2,7 +2,7 @@
 
 ghost use Rattle.std.specs.Prelude.{◌≡◌, ◌≤◌, ◌<◌, ◌*◌, ◌^◌, Some, false, IsTrue};
 ghost use Rattle.wc_machine.specs.Tasks.{after as after_answer, failed};
-ghost use Rattle.wc_machine.specs.Asking.{fits_task};
+ghost use Rattle.wc_machine.specs.Questions.{fits_task};
 ghost use Rattle.wc_machine.specs.Machine.{renewed};
 ghost use Rattle.wc_state.specs.declared.record.Part.TheVariants.{Job as AtJob};
 ghost use Rattle.wc_calculation_turns.specs.Steps.{task_answer, moved};

@@ -15,9 +15,9 @@ use Rattle.wc_expression.specs.declared.outcome.Outcome.TheVariants.{Gives, Faul
 use Rattle.wc_expression.specs.Val.{holds}
 use Rattle.wc_semantics.specs.Meaning.{kinds_of, takes_of}
 use Rattle.wc_semantics.specs.Run.{picked}
-use Rattle.wc_machine.specs.Advancing.{Advanced, goes, loops, submits, ends, past, at_head, first_block, numbered_arms, after_arms, other_number, chosen, turned, after_step, done, does, at_innermost, advance, popped}
+use Rattle.wc_machine.specs.Advances.{Advanced, goes, loops, submits, ends, past, at_head, first_block, numbered_arms, after_arms, other_number, chosen, turned, after_step, done, does, at_innermost, advance, popped}
 use Rattle.wc_machine.specs.Outlines.{Blocks, blocks, block_of}
-use Rattle.wc_machine.specs.Stepping.{Stepped, stops, makes, statements}
+use Rattle.wc_machine.specs.Steps.{Stepped, stops, makes, statements}
 
 abbrev pub KeepsCount : ℕ → Advanced → Type 0
 KeepsCount n (goes d) = d.calls ≡ n

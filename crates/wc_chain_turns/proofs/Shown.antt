@@ -16,15 +16,15 @@ use Rattle.wc_world.specs.World.{World}
 use Rattle.wc_world.specs.Records.{library_at}
 use Rattle.wc_world.specs.declared.change.Change.{Change}
 use Rattle.wc_world.specs.declared.change.Change.TheVariants as change
-use Rattle.wc_machine.specs.Advancing.{Advanced, goes, loops, submits, ends}
-use Rattle.wc_machine.specs.Calling as calling
-use Rattle.wc_machine.specs.Calling.{Arguments, kind_named, call_link, caching_in, plain_data, argument_links, kind_of_callee, called_number, call_changes, calls_changes, awaits, returns, advanced}
-use Rattle.wc_machine.specs.Stepping.{node, plain, Call}
-use Rattle.wc_machine.specs.Submitting.{input_link}
+use Rattle.wc_machine.specs.Advances.{Advanced, goes, loops, submits, ends}
+use Rattle.wc_machine.specs.Calls as calling
+use Rattle.wc_machine.specs.Calls.{Arguments, kind_named, call_link, caching_in, plain_data, argument_links, kind_of_callee, called_number, call_changes, calls_changes, awaits, returns, advanced}
+use Rattle.wc_machine.specs.Steps.{node, plain, Call}
+use Rattle.wc_machine.specs.Submissions.{input_link}
 use Rattle.wc_changes.specs.Shown.{shown_arguments, shown_call, shown}
 use Rattle.wc_changes.specs.declared.children.Caller.{Caller}
 use Rattle.wc_changes.specs.Called.{data_of, links_of, number_at, waited, kind_at, one_call, all_calls}
-use Rattle.wc_changes.specs.Coming.{Outs, is_now, is_missing, lacks, status, return_link, comes_to}
+use Rattle.wc_changes.specs.Advances.{Outs, is_now, is_missing, lacks, status, return_link, comes_to}
 
 -- ---- arguments
 

@@ -28,12 +28,12 @@ use Rattle.wc_world.proofs.FoundRecords.{found_holds}
 use Rattle.wc_world.proofs.RecordedEnvironments.{no_context}
 use Rattle.wc_world.specs.Applied.{applied}
 use Rattle.wc_machine.specs.declared.answer.TaskAnswer.TheVariants as answer
-use Rattle.wc_machine.specs.Advancing as machine
-use Rattle.wc_machine.specs.Advancing.{advance, goes, loops, submits, ends}
-use Rattle.wc_machine.specs.Calling.{caching_of, caching_in, bound, fuel_of, advanced}
+use Rattle.wc_machine.specs.Advances as machine
+use Rattle.wc_machine.specs.Advances.{advance, goes, loops, submits, ends}
+use Rattle.wc_machine.specs.Calls.{caching_of, caching_in, bound, fuel_of, advanced}
 use Rattle.wc_machine.specs.Recorded.{its_definition}
 use Rattle.wc_machine.specs.Tasks.{saturated}
-use Rattle.wc_machine.specs.Turning.{TurnGives, StandsAt, advances, binds}
+use Rattle.wc_machine.specs.Turns.{TurnGives, StandsAt, advances, binds}
 use Rattle.wc_changes.specs.Advanced.{Advanced}
 use Rattle.wc_changes.specs.Agreement.{Agree}
 use Rattle.wc_changes.specs.Environments.{environment_in}
@@ -47,7 +47,7 @@ use Rattle.wc_machine.proofs.Rooms.{none_full}
 use Rattle.wc_changes.specs.TurnLaws.{OneListOfChanges}
 use Rattle.wc_changes.specs.declared.children.Caller.{Caller}
 use Rattle.wc_changes.specs.Known.{known_at}
-use Rattle.wc_changes.specs.Coming.{is_now, comes_to, CallsFew}
+use Rattle.wc_changes.specs.Advances.{is_now, comes_to, CallsFew}
 use Rattle.wc_chain_turns.specs.Turned.{Gives, HasChain, HasCheckpoint}
 use Rattle.wc_chain_turns.proofs.Shown.{comes_shown}
 use Rattle.wc_chain_turns.proofs.Kept.{KeepsCount, advance_keeps}

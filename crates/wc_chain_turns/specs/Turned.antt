@@ -11,7 +11,7 @@ use Rattle.wc_world.specs.World.{World}
 use Rattle.wc_world.specs.declared.change.Change.{Change}
 use Rattle.wc_machine.specs.declared.answer.TaskAnswer.TheVariants as answer
 use Rattle.wc_machine.specs.Readiness.{is_ready}
-use Rattle.wc_machine.specs.Turning.{TurnGives}
+use Rattle.wc_machine.specs.Turns.{TurnGives}
 
 -- These are the changes of a turn that asks nothing, at every moment and with every interval of polls.
 abbrev pub Gives : World → ProcessRecord → List Change → Type 0

@@ -1,8 +1,8 @@
 //! The turn of a work chain as changes of a world: one advance of its outline, or the binding of the children that it awaited.
 #![tactic(auto)]
 
-mod binding;
 mod environment;
-mod turning;
+mod fuel;
+mod turn;
 
-pub use turning::chain_turn;
+pub use turn::chain_turn;

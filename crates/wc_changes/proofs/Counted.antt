@@ -19,8 +19,8 @@ use Rattle.wc_machine.proofs.Counted.{HasNoCount, no_count_both, nodes_more, one
 use Rattle.wc_machine.proofs.Rooms.{has_room_for, full_for}
 use Rattle.wc_changes.specs.declared.children.Caller.{Caller}
 use Rattle.wc_changes.specs.Called.{Args, data_of, links_of, number_after, added, number_at, kind_at, child, link_to, one_call, all_calls}
-use Rattle.wc_machine.specs.Submitting.{input_link}
-use Rattle.wc_changes.specs.Coming.{Outs, return_link, returned, ending, submission}
+use Rattle.wc_machine.specs.Submissions.{input_link}
+use Rattle.wc_changes.specs.Advances.{Outs, return_link, returned, ending, submission}
 
 nodes_both : (xs ys : List Change) → length (nodes_in (xs ++ ys)) ≡ length (nodes_in xs) + length (nodes_in ys)
 nodes_both xs ys = ap length (filter_map-append node_in xs ys) ∙ length-append (nodes_in xs) (nodes_in ys)

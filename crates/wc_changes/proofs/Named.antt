@@ -8,8 +8,8 @@ use Rattle.wc_syntax.specs.declared.definition.Definition.{Definition}
 use Rattle.wc_syntax.specs.declared.definition.Definition.TheVariants as definition
 use Rattle.wc_syntax.specs.declared.definition.Port.{Port}
 use Rattle.wc_semantics.proofs.Bare.{named_bare}
-use Rattle.wc_machine.specs.Calling.{kind_named}
-use Rattle.wc_changes.specs.Coming.{Outs, is_missing, lacks}
+use Rattle.wc_machine.specs.Calls.{kind_named}
+use Rattle.wc_changes.specs.Advances.{Outs, is_missing, lacks}
 
 kind_bare : (o : Option Definition) → kind_named (option_map bare_definition o) ≡ kind_named o
 kind_bare None = refl

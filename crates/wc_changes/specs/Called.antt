@@ -9,8 +9,8 @@ use Rattle.wc_outline.specs.declared.calls.Argument.TheVariants as argument
 use Rattle.wc_outline.specs.declared.calls.Call.{Call}
 use Rattle.wc_world.specs.declared.change.Change.{Change}
 use Rattle.wc_world.specs.declared.change.Change.TheVariants as change
-use Rattle.wc_machine.specs.Calling.{kind_named, call_link}
-use Rattle.wc_machine.specs.Submitting.{input_link}
+use Rattle.wc_machine.specs.Calls.{kind_named, call_link}
+use Rattle.wc_machine.specs.Submissions.{input_link}
 use Rattle.wc_changes.specs.declared.children.Caller.{Caller}
 
 -- ---- arguments

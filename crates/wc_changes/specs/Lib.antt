@@ -8,4 +8,4 @@ pub use Rattle.wc_outline.specs.TurnLaws
 pub use Rattle.wc_trees.specs.Environments
 pub mod Known
 pub mod Called
-pub mod Coming
+pub mod Advances

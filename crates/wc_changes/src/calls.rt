@@ -2,10 +2,10 @@
 
 ghost use Rattle.std.specs.Prelude.{◌≡◌, ◌+◌, ◌≤◌, length, IfOk};
 ghost use Rattle.wc_changes.specs.Called.{added};
-ghost use Rattle.wc_changes.specs.Coming.{waiting, submission};
+ghost use Rattle.wc_changes.specs.Advances.{waiting, submission};
 
 use crate::children::{Caller, put_calls};
-use crate::setting::is_now;
+use crate::progress::is_now;
 use std::alloc::{AllocError, Global};
 use wc_outline::Calls;
 use wc_state::{Awaits, Checkpoint, Part};

@@ -3,7 +3,7 @@
 ghost use Rattle.std.specs.Prelude.{◌≡◌};
 ghost use Rattle.std.specs.Option.{option_copied};
 ghost use Rattle.wc_syntax.specs.Findings.{definition_named};
-ghost use Rattle.wc_machine.specs.Calling.{kind_named, call_link};
+ghost use Rattle.wc_machine.specs.Calls.{kind_named, call_link};
 ghost use Rattle.wc_changes.specs.Known.{known_at};
 
 use wc_graph::LinkType;

@@ -4,9 +4,9 @@
 mod best;
 mod called;
 mod calls;
-mod checking;
 mod error;
 mod files;
+mod findings;
 mod heads;
 mod laws;
 mod lengths;
@@ -20,8 +20,8 @@ mod rules;
 mod scopes;
 mod statuses;
 
-pub use checking::{check, first_finding, share};
 pub use error::CheckError;
+pub use findings::{check, first_finding, share};
 pub use laws::{
     first_refusal_is_one, offsets_break_no_rule, rules_are_kept_where_nothing_is_found,
 };

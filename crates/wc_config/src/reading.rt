@@ -124,7 +124,7 @@ fn settings_in(table: &Table, enabled: Words, disabled: Words) -> Settings
     }
 }
 
-/// What is told of a refusal.
+/// The error that says why a settings file is refused, with the key that it names.
 fn told(refused: Refused) -> ConfigError
     ensures { result ≡ told (refused.kind, refused.key) }
 {

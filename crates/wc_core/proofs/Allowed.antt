@@ -8,7 +8,7 @@ use Rattle.wc_syntax.specs.Findings.{head_of}
 use Rattle.wc_world.specs.declared.change.Change.{Change}
 use Rattle.wc_world.specs.World.{World}
 use Rattle.wc_world.specs.Applied.{applied}
-use Rattle.wc_machine.specs.Submitting.{Submits, submission}
+use Rattle.wc_machine.specs.Submissions.{Submits, submission}
 use Rattle.wc_machine.specs.Refusals.{HasRoom, NoneHolds, RefusesSubmission}
 use Rattle.wc_machine.specs.declared.error.TurnError.TheVariants as error
 use Rattle.wc_machine.proofs.Rooms.{has_room}

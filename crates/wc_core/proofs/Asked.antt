@@ -7,7 +7,7 @@ use Rattle.wc_state.specs.declared.record.Task.{Task}
 use Rattle.wc_state.specs.declared.record.Task.TheVariants as task
 use Rattle.wc_world.specs.World.{World}
 use Rattle.wc_machine.specs.declared.answer.TaskAnswer.{TaskAnswer}
-use Rattle.wc_machine.specs.Asking.{Need, nothing, performs, fits, fits_task, need}
+use Rattle.wc_machine.specs.Questions.{Need, nothing, performs, fits, fits_task, need}
 use Rattle.wc_core.specs.Asks.{asks_of, asks_task, FitsAt, IsNeedAt}
 use Rattle.wc_core.specs.declared.needs.Asks.{Asks}
 use Rattle.wc_core.specs.declared.needs.Asks.TheVariants as asks

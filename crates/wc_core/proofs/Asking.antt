@@ -27,7 +27,7 @@ use Rattle.wc_world.specs.Records.{find_record}
 use Rattle.wc_world.proofs.FoundRecords.{found_holds}
 use Rattle.wc_machine.specs.declared.answer.TaskAnswer.{TaskAnswer}
 use Rattle.wc_machine.specs.declared.answer.TaskAnswer.TheVariants as answer
-use Rattle.wc_machine.specs.Asking.{Need, nothing, with_request, need_at, need, is_nothing, fits}
+use Rattle.wc_machine.specs.Questions.{Need, nothing, with_request, need_at, need, is_nothing, fits}
 use Rattle.wc_machine.specs.Recorded.{its_definition, recorded_inputs, recorded_request, request_by}
 use Rattle.wc_machine.specs.Refusals.{NoneHolds}
 use Rattle.wc_machine.specs.declared.error.TurnError.TheVariants as error

@@ -9,7 +9,7 @@ use Rattle.wc_world.specs.World.{World}
 use Rattle.wc_world.specs.Applied.{applied}
 use Rattle.wc_world.specs.After.{nodes_in}
 use Rattle.wc_world.specs.Records.{kind_of_definition}
-use Rattle.wc_machine.specs.Submitting.{data_change, input_link, links_from, submitted_number, submission}
+use Rattle.wc_machine.specs.Submissions.{data_change, input_link, links_from, submitted_number, submission}
 use Rattle.wc_machine.proofs.Counted.{HasNoCount, nodes_more, one_batch}
 use Rattle.wc_core.specs.Submitted.{root}
 

@@ -17,7 +17,7 @@ use Rattle.wc_world.specs.Consistent.{IsConsistent, Stands}
 use Rattle.wc_world.specs.Fits.{part_fits, is_nil}
 use Rattle.wc_world.specs.Records.{find_record, has_ended}
 use Rattle.wc_world.proofs.FoundRecords.{found_holds, left, right}
-use Rattle.wc_machine.specs.Killing.{awaits_of}
+use Rattle.wc_machine.specs.Kills.{awaits_of}
 use Rattle.wc_machine.specs.Readiness.{ended_at, is_over, may_go, is_ready}
 use Rattle.wc_core.specs.Standing.{is_any_live, is_held_up, is_live_and, is_resting}
 use Rattle.wc_core.proofs.Held.{not_true}

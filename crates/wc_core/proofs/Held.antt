@@ -22,7 +22,7 @@ use Rattle.wc_world.specs.Records.{find_record, has_ended, has_called, is_call_f
 use Rattle.wc_world.proofs.FoundRecords.{found_holds, left, right, IsDeeper, call_is_deeper}
 use Rattle.wc_world.proofs.ReachedLists.{unique}
 use Rattle.wc_world.proofs.SnapshotLists.{number_of_found}
-use Rattle.wc_machine.specs.Killing.{awaits_of}
+use Rattle.wc_machine.specs.Kills.{awaits_of}
 use Rattle.wc_machine.specs.Recorded.{its_definition}
 use Rattle.wc_machine.specs.Readiness.{ended_at, is_over, is_through, may_go, is_ready}
 use Rattle.wc_core.specs.Standing.{is_held_up, is_live_and, is_resting, moment_in}

@@ -17,7 +17,7 @@ use Rattle.wc_world.specs.World.{World}
 use Rattle.wc_world.specs.Records.{calls, find_record, has_ended, is_call_from}
 use Rattle.wc_world.specs.Linked.{upwards, of_node, call_in}
 use Rattle.wc_trees.proofs.Linking.{upwards_more}
-use Rattle.wc_machine.specs.Killing.{awaited_fuel, awaits_of, ends_killed, fuel_after, kill_below}
+use Rattle.wc_machine.specs.Kills.{awaited_fuel, awaits_of, ends_killed, fuel_after, kill_below}
 use Rattle.wc_machine.specs.Tasks.{saturated}
 
 -- the fuel of the process with a number after a kill

@@ -8,7 +8,7 @@ use Rattle.wc_world.specs.Accepted.{IsAccepted, IsReached}
 use Rattle.wc_world.specs.Applied.{applied}
 use Rattle.wc_machine.specs.Continues.{Continues}
 use Rattle.wc_machine.specs.Sound.{IsSound}
-use Rattle.wc_machine.specs.Submitting.{Submits, submitted_number}
+use Rattle.wc_machine.specs.Submissions.{Submits, submitted_number}
 use Rattle.wc_machine.proofs.SubmittedAccepted.{submissions_are_accepted}
 use Rattle.wc_machine.proofs.SubmittedContinues.{submissions_continue}
 use Rattle.wc_soundness.proofs.Submissions.{any_submission}

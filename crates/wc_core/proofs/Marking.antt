@@ -12,7 +12,7 @@ use Rattle.wc_world.specs.Records.{find_record, has_ended}
 use Rattle.wc_world.proofs.ReachedWorlds.{reached_is_consistent}
 use Rattle.wc_world.proofs.SnapshotLists.{number_of_found}
 use Rattle.wc_machine.specs.Continues.{Continues}
-use Rattle.wc_machine.specs.Killing.{kill_changes}
+use Rattle.wc_machine.specs.Kills.{kill_changes}
 use Rattle.wc_machine.specs.Laws.{HasPlaces}
 use Rattle.wc_machine.specs.Machine.{Event, IsLive, Leads, after_changes, kill, kills, marked, pause, pauses, pause_changes, play, plays, play_changes, renewed}
 use Rattle.wc_machine.specs.Sound.{IsSound}

@@ -7,7 +7,7 @@ use Rattle.wc_state.specs.declared.record.What.{What}
 use Rattle.wc_meaning.specs.Inputs.{bad_input}
 use Rattle.wc_world.specs.World.{World}
 use Rattle.wc_world.specs.Applied.{applied}
-use Rattle.wc_machine.specs.Submitting.{AreInputs, IsKeptLibrary, submission}
+use Rattle.wc_machine.specs.Submissions.{AreInputs, IsKeptLibrary, submission}
 use Rattle.wc_world.specs.Fits.{names_ascend}
 use Rattle.wc_machine.specs.declared.error.TurnError.{TurnError}
 use Rattle.wc_machine.specs.declared.error.TurnError.TheVariants as error

@@ -11,7 +11,7 @@ use Rattle.wc_state.specs.declared.record.Task.TheVariants as task
 use Rattle.wc_world.specs.World.{World}
 use Rattle.wc_world.specs.Records.{find_record}
 use Rattle.wc_machine.specs.declared.answer.TaskAnswer.{TaskAnswer}
-use Rattle.wc_machine.specs.Asking.{Need, nothing, performs, need, fits}
+use Rattle.wc_machine.specs.Questions.{Need, nothing, performs, need, fits}
 use Rattle.wc_core.specs.declared.needs.Asks.{Asks}
 use Rattle.wc_core.specs.declared.needs.Asks.TheVariants as asks
 

@@ -6,7 +6,7 @@ use Rattle.wc_state.specs.declared.record.Part.TheVariants as part
 use Rattle.wc_state.specs.declared.record.ProcessRecord.{ProcessRecord}
 use Rattle.wc_world.specs.World.{World}
 use Rattle.wc_world.specs.Records.{find_record, has_ended}
-use Rattle.wc_machine.specs.Killing.{awaits_of}
+use Rattle.wc_machine.specs.Kills.{awaits_of}
 use Rattle.wc_machine.specs.Readiness.{is_ready}
 use Rattle.wc_core.specs.declared.standing.Standing.{Standing}
 use Rattle.wc_core.specs.declared.standing.Standing.TheVariants.{AllEnded, Resting, Going}

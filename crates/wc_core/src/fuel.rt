@@ -2,7 +2,7 @@
 
 ghost use Rattle.std.specs.Prelude.{◌≡◌, ◌+◌, Some};
 ghost use Rattle.wc_world.specs.Records.{find_record};
-ghost use Rattle.wc_machine.specs.Killing.{awaited_fuel, fuel_after};
+ghost use Rattle.wc_machine.specs.Kills.{awaited_fuel, fuel_after};
 ghost use Rattle.wc_machine.specs.Tasks.{saturated};
 
 use wc_state::{Await, Part, ProcessRecord};

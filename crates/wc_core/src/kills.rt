@@ -4,7 +4,7 @@ ghost use Rattle.std.specs.Prelude.{◌≡◌, ◌++◌, Some, IfOk, OnOk, slice
 ghost use Rattle.std.specs.Option.{option_map};
 ghost use Rattle.wc_world.specs.Linked.{call_in};
 ghost use Rattle.wc_world.specs.Records.{find_record};
-ghost use Rattle.wc_machine.specs.Killing.{ends_killed, kill_below, kill_changes, killed};
+ghost use Rattle.wc_machine.specs.Kills.{ends_killed, kill_below, kill_changes, killed};
 
 use crate::fuel::fuel_after;
 use std::alloc::{AllocError, Global};

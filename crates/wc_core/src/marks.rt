@@ -4,7 +4,7 @@ ghost use Rattle.std.specs.Prelude.{◌≡◌, ◌≢◌, ◌≤◌, ◌+◌, �
 ghost use Rattle.wc_world.specs.Accepted.{IsAccepted};
 ghost use Rattle.wc_world.specs.Records.{has_ended};
 ghost use Rattle.wc_machine.specs.Continues.{Continues};
-ghost use Rattle.wc_machine.specs.Killing.{kill_changes as changes_of_kill};
+ghost use Rattle.wc_machine.specs.Kills.{kill_changes as changes_of_kill};
 ghost use Rattle.wc_machine.specs.Machine.{after_changes, kill, marked, pause, pause_changes as changes_of_pause, play, play_changes as changes_of_play, renewed};
 ghost use Rattle.wc_machine.specs.Sound.{IsSound};
 ghost use Rattle.wc_machine.specs.Refusals.{FullOfBatches, NoneHolds};

@@ -2,7 +2,7 @@
 
 ghost use Rattle.std.specs.Prelude.{◌≡◌, Some, IfOk, IfErr, IsSome, OnOk};
 ghost use Rattle.wc_world.specs.Records.{find_record};
-ghost use Rattle.wc_machine.specs.Asking.{with_request};
+ghost use Rattle.wc_machine.specs.Questions.{with_request};
 ghost use Rattle.wc_machine.specs.Recorded.{recorded_request};
 ghost use Rattle.wc_machine.specs.Refusals.{NoneHolds};
 ghost use Rattle.wc_core.specs.Asks.{asks_of, asks_task, task_at, IsNeedAt};

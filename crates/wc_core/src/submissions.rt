@@ -9,7 +9,7 @@ ghost use Rattle.wc_world.specs.Records.{kind_of_definition};
 ghost use Rattle.wc_world.specs.Accepted.{IsAccepted};
 ghost use Rattle.wc_machine.specs.Continues.{Continues};
 ghost use Rattle.wc_machine.specs.Sound.{IsSound};
-ghost use Rattle.wc_machine.specs.Submitting.{data_change, links_from, submitted_number, submission, Submits};
+ghost use Rattle.wc_machine.specs.Submissions.{data_change, links_from, submitted_number, submission, Submits};
 ghost use Rattle.wc_state.specs.Ranges.{AreLimits};
 ghost use Rattle.wc_machine.specs.Refusals.{HasRoom, NoneHolds, RefusesSubmission, RefusesName};
 ghost use Rattle.wc_core.specs.Submitted.{root, Takes};

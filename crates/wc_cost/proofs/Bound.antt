@@ -35,18 +35,18 @@ use Rattle.wc_world.specs.Records.{is_call_from, library_at}
 use Rattle.wc_world.specs.Trees.{Branch, branches, context_of, environment_at, inputs_of, items_of, recorded_tree}
 use Rattle.wc_world.specs.World.{World}
 use Rattle.wc_world.proofs.FoundRecords.{right}
-use Rattle.wc_machine.specs.Agreeing.{Agrees}
-use Rattle.wc_machine.specs.Calling.{bound, bound_in, fuel_of}
+use Rattle.wc_machine.specs.Agreement.{Agrees}
+use Rattle.wc_machine.specs.Calls.{bound, bound_in, fuel_of}
 use Rattle.wc_machine.specs.Outlines.{blocks, left}
 use Rattle.wc_machine.specs.Paths.{call_links, kills}
 use Rattle.wc_machine.specs.Readiness.{may_go}
-use Rattle.wc_machine.specs.Resting.{as_call, bound_calls, bound_trees, env_alone, levels_of, progress_of, progress_with}
+use Rattle.wc_machine.specs.Rest.{as_call, bound_calls, bound_trees, env_alone, levels_of, progress_of, progress_with}
 use Rattle.wc_machine.specs.Sound.{IsSound}
 use Rattle.wc_machine.specs.Tasks.{saturated}
 use Rattle.wc_machine.proofs.Frames.{branches_by}
 use Rattle.wc_soundness.specs.Binding.{Waits}
-use Rattle.wc_soundness.specs.Replacing.{IsSet, set_to}
-use Rattle.wc_soundness.specs.Touching.{MayBeTouched, Touches}
+use Rattle.wc_soundness.specs.Replaced.{IsSet, set_to}
+use Rattle.wc_soundness.specs.Touches.{MayBeTouched, Touches}
 use Rattle.wc_soundness.proofs.Binding.{is_set}
 use Rattle.wc_soundness.proofs.KillChildren.{IsOver}
 use Rattle.wc_soundness.proofs.KillTaken.{Known, Taken, bound_now, plans}
@@ -57,7 +57,7 @@ use Rattle.wc_soundness.proofs.OthersOnTrack.{items_same, over_same}
 use Rattle.wc_soundness.proofs.Replaced.{after, found_now, may, now, touches}
 use Rattle.wc_cost.specs.Cost.{Costs, Tolls, bare, bare_calls, bill, due_of, price, tolls, unasked}
 use Rattle.wc_cost.specs.Left.{ChainOwes, IsLeft, PartOwes, by_request, its_tolls}
-use Rattle.wc_cost.specs.Lowering.{BindingsLower, LeavesLess}
+use Rattle.wc_cost.specs.Turns.{BindingsLower, LeavesLess}
 use Rattle.wc_cost.proofs.Costed.{bare_label, bare_with}
 use Rattle.wc_cost.proofs.KillsKept.{kills_kept}
 use Rattle.wc_cost.proofs.OneLowered.{kills_none, lowered, owed_in}

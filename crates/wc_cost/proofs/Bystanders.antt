@@ -21,14 +21,14 @@ use Rattle.wc_world.proofs.FoundRecords.{left}
 use Rattle.wc_machine.specs.Outlines as outlines
 use Rattle.wc_machine.specs.Paths.{kills}
 use Rattle.wc_machine.specs.Recorded.{its_definition, recorded_inputs, recorded_request}
-use Rattle.wc_machine.specs.Resting.{awaited, levels_of, progress_of}
+use Rattle.wc_machine.specs.Rest.{awaited, levels_of, progress_of}
 use Rattle.wc_machine.specs.Sound.{IsSound}
 use Rattle.wc_machine.proofs.Frames.{NoCallFrom}
-use Rattle.wc_soundness.specs.Touching.{MayBeTouched, Touches}
+use Rattle.wc_soundness.specs.Touches.{MayBeTouched, Touches}
 use Rattle.wc_soundness.proofs.Standing.{awaited_same, definition_same, progress_same}
 use Rattle.wc_soundness.proofs.Touched.{found_kept, inputs_kept, library_kept, no_call, request_kept, within}
 use Rattle.wc_cost.specs.Cost.{Costs, Prices, bill, tolls}
-use Rattle.wc_cost.specs.Framing.{KillsNone, OthersOweTheSame}
+use Rattle.wc_cost.specs.Touches.{KillsNone, OthersOweTheSame}
 use Rattle.wc_cost.specs.Left.{ChainOwes, FreshOwes, JobOwes, PartOwes, by_request}
 use Rattle.wc_cost.proofs.KillsKept.{kills_kept}
 

@@ -37,14 +37,14 @@ use Rattle.wc_world.specs.Records.{find_record, has_ended, is_calculation, libra
 use Rattle.wc_world.proofs.FoundRecords.{found_holds}
 use Rattle.wc_machine.specs.declared.answer.TaskAnswer.{TaskAnswer}
 use Rattle.wc_machine.specs.declared.answer.TaskAnswer.TheVariants as answer
-use Rattle.wc_machine.specs.Ending.{TakesSource, come_to, ends}
+use Rattle.wc_machine.specs.Ends.{TakesSource, come_to, ends}
 use Rattle.wc_machine.specs.Paths.{kills}
 use Rattle.wc_machine.specs.Recorded.{its_definition, recorded_inputs, recorded_request}
-use Rattle.wc_machine.specs.Resting.{levels_of}
+use Rattle.wc_machine.specs.Rest.{levels_of}
 use Rattle.wc_machine.specs.Sound.{IsFitting, IsSound}
 use Rattle.wc_machine.specs.Sources.{IsLowestSource, IsSourceFor}
 use Rattle.wc_machine.specs.Tasks.{Moved, after}
-use Rattle.wc_machine.specs.Turning.{TurnGives, calculates, clones, begins, excepts, gives_up, moves, parses, advances, binds, first_task, job_set}
+use Rattle.wc_machine.specs.Turns.{TurnGives, calculates, clones, begins, excepts, gives_up, moves, parses, advances, binds, first_task, job_set}
 use Rattle.wc_machine.proofs.AcceptedEnds.{process_is_node}
 use Rattle.wc_machine.proofs.CalculatedOutputs.{calculated_set}
 use Rattle.wc_machine.proofs.EndedWorlds.{found_end}
@@ -52,7 +52,7 @@ use Rattle.wc_machine.proofs.Endings.{applied_ends, end_record, ended_world}
 use Rattle.wc_machine.proofs.FunctionEnds.{calculated_alive, calculated_ends, concluded_alive}
 use Rattle.wc_turn_laws.specs.CalculationLaws.{MayStart}
 use Rattle.wc_soundness.specs.Sets.{moved, moved_world}
-use Rattle.wc_soundness.specs.Touching.{MayBeTouched, Touches}
+use Rattle.wc_soundness.specs.Touches.{MayBeTouched, Touches}
 use Rattle.wc_soundness.proofs.CachingTurns.{function_ends}
 use Rattle.wc_soundness.proofs.Ended.{MayEnd, fresh_part, touches}
 use Rattle.wc_soundness.proofs.FaultingJobs.{waiting_jobs_ask}
@@ -63,7 +63,7 @@ use Rattle.wc_soundness.proofs.Outputs.{nothing_good, outputs_are_inputs}
 use Rattle.wc_soundness.proofs.Tasks.{job_waits, request_is}
 use Rattle.wc_cost.specs.Cost.{Costing, cost, job_cost, price, price_by, price_of, tolls}
 use Rattle.wc_cost.specs.Left.{FreshOwes, IsLeft, JobOwes, PartOwes, by_request, tasks_left}
-use Rattle.wc_cost.specs.Lowering.{CalculationTurnsLower, IsCalm, LeavesLess}
+use Rattle.wc_cost.specs.Turns.{CalculationTurnsLower, IsCalm, LeavesLess}
 use Rattle.wc_cost.proofs.OneLowered.{lowered, owed_in}
 use Rattle.wc_cost.proofs.Owing.{alive, part_positive}
 

@@ -29,18 +29,18 @@ use Rattle.wc_world.specs.Trees.{inputs_of, recorded_tree}
 use Rattle.wc_world.specs.World.{World}
 use Rattle.wc_world.proofs.FoundRecords.{found_holds}
 use Rattle.wc_world.proofs.ReachedWorlds.{accepted_is_consistent}
-use Rattle.wc_machine.specs.Advancing.{submits, advance}
-use Rattle.wc_machine.specs.Calling.{advanced, called_number}
+use Rattle.wc_machine.specs.Advances.{submits, advance}
+use Rattle.wc_machine.specs.Calls.{advanced, called_number}
 use Rattle.wc_machine.specs.Outlines.{blocks, left}
 use Rattle.wc_machine.specs.Paths.{call_links, kills}
-use Rattle.wc_machine.specs.Resting.{as_call, bound_calls, bound_trees, levels_of}
+use Rattle.wc_machine.specs.Rest.{as_call, bound_calls, bound_trees, levels_of}
 use Rattle.wc_machine.specs.Sound.{IsSound}
-use Rattle.wc_machine.specs.Stepping.{Call, values_in}
+use Rattle.wc_machine.specs.Steps.{Call, values_in}
 use Rattle.wc_turn_laws.specs.OutlineLaws.{as_planned}
 use Rattle.wc_turn_laws.specs.OutlineLaws as outline
 use Rattle.wc_turn_laws.specs.View.{progress_in}
 use Rattle.wc_soundness.specs.Submitted.{EachCall, calls_records, child_record, first_free, its_call_link, links_of_calls, now_waits, submitted, waiting_at, waits_at}
-use Rattle.wc_soundness.specs.Touching.{MayBeTouched, Touches}
+use Rattle.wc_soundness.specs.Touches.{MayBeTouched, Touches}
 use Rattle.wc_soundness.specs.TrackLaws.{IsAtTurn}
 use Rattle.wc_soundness.proofs.CallingTurns.{calls_of_chains_keep_sound, calling, made}
 use Rattle.wc_soundness.proofs.ChainStanding.{Standing, awaits_none, its_fit}
@@ -54,9 +54,9 @@ use Rattle.wc_soundness.proofs.Touching.{calls_touch}
 use Rattle.wc_soundness.proofs.Touched.{within}
 use Rattle.wc_soundness.proofs.AtOne.{found_other}
 use Rattle.wc_cost.specs.Cost.{Costs, Tolls, bill, cost, due_of, more, price, tolls, unasked}
-use Rattle.wc_cost.specs.Framing.{KillsNone}
+use Rattle.wc_cost.specs.Touches.{KillsNone}
 use Rattle.wc_cost.specs.Left.{AllOwe, ChainOwes, FreshOwes, IsLeft, PartOwes, by_request, its_tolls}
-use Rattle.wc_cost.specs.Lowering.{LeavesLess, CallsLower}
+use Rattle.wc_cost.specs.Turns.{LeavesLess, CallsLower}
 use Rattle.wc_cost.proofs.ChainsLowered.{costs_after, costs_by, CostsAfter}
 use Rattle.wc_cost.proofs.KillsKept.{kills_kept}
 use Rattle.wc_cost.proofs.OneLowered.{old_lowered, owed_in}

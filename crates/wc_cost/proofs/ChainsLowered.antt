@@ -28,12 +28,12 @@ use Rattle.wc_world.specs.World.{World}
 use Rattle.wc_world.specs.Applied.{applied, set}
 use Rattle.wc_world.specs.Records.{has_ended, is_call_from}
 use Rattle.wc_world.specs.Trees.{NamedValues, branches, context_of, environment_at, inputs_of, items_of, recorded_tree, values_alone}
-use Rattle.wc_machine.specs.Advancing.{Advanced, goes, loops, submits, ends, advance}
-use Rattle.wc_machine.specs.Calling.{advanced, chain_set, judged}
+use Rattle.wc_machine.specs.Advances.{Advanced, goes, loops, submits, ends, advance}
+use Rattle.wc_machine.specs.Calls.{advanced, chain_set, judged}
 use Rattle.wc_machine.specs.Outlines.{block_of, blocks, left}
 use Rattle.wc_machine.specs.Paths.{call_links, kills}
 use Rattle.wc_machine.specs.Recorded.{recorded_inputs}
-use Rattle.wc_machine.specs.Resting.{as_call, awaited, bound_calls, bound_trees, env_alone, levels_of, progress_of, progress_with, without_number}
+use Rattle.wc_machine.specs.Rest.{as_call, awaited, bound_calls, bound_trees, env_alone, levels_of, progress_of, progress_with, without_number}
 use Rattle.wc_machine.specs.Tasks.{saturated}
 use Rattle.wc_machine.proofs.Frames.{branches_by}
 use Rattle.wc_turn_laws.specs.Nodes.{HoldsAfter, NodesAre}
@@ -42,7 +42,7 @@ use Rattle.wc_turn_laws.specs.View.{View, context_in, env_in, progress_in, value
 use Rattle.wc_turn_laws.proofs.Numbering.{blocks_are}
 use Rattle.wc_turn_laws.proofs.Passed.{advance_holds}
 use Rattle.wc_soundness.specs.EndLaws.{EndsAlive}
-use Rattle.wc_soundness.specs.Replacing.{set_to}
+use Rattle.wc_soundness.specs.Replaced.{set_to}
 use Rattle.wc_soundness.specs.TrackLaws.{IsAtTurn}
 use Rattle.wc_soundness.proofs.Alive.{advances_end_alive}
 use Rattle.wc_soundness.proofs.ChainAdvances.{env_is, numbered}
@@ -56,7 +56,7 @@ use Rattle.wc_soundness.proofs.SeenWorlds.{IsData, IsRead, IsThere, items_there,
 use Rattle.wc_cost.specs.Advances.{cost_after, cost_on}
 use Rattle.wc_cost.specs.Cost.{Costs, Tolls, cost, more, tolls}
 use Rattle.wc_cost.specs.Left.{ChainOwes, FreshOwes, IsLeft, PartOwes, by_request, its_tolls}
-use Rattle.wc_cost.specs.Lowering.{AdvancesLower, LeavesLess, SubmitsNone}
+use Rattle.wc_cost.specs.Turns.{AdvancesLower, LeavesLess, SubmitsNone}
 use Rattle.wc_cost.proofs.CalculationsLowered.{not_killed, price_is}
 use Rattle.wc_cost.proofs.CostAdvance.{advances_cost_one}
 use Rattle.wc_cost.proofs.OneLowered.{lowered, owed_in}

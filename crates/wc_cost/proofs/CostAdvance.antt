@@ -25,11 +25,11 @@ use Rattle.wc_semantics.specs.Statements as plain
 use Rattle.wc_semantics.specs.declared.progress.Progress.{Progress}
 use Rattle.wc_semantics.specs.declared.progress.Stepped.{Stepped}
 use Rattle.wc_world.specs.Trees.{NamedValues}
-use Rattle.wc_machine.specs.Advancing.{Advanced, goes, block_count, popped, past, at_head, first_block, numbered_arms, after_arms, other_number, entered, at_frames, chosen, turned, after_step, done, does, at_innermost, advance}
+use Rattle.wc_machine.specs.Advances.{Advanced, goes, block_count, popped, past, at_head, first_block, numbered_arms, after_arms, other_number, entered, at_frames, chosen, turned, after_step, done, does, at_innermost, advance}
 use Rattle.wc_machine.specs.Outlines.{Blocks, blocks, block_of, blocks_in, left_in}
-use Rattle.wc_machine.specs.Resting.{env_alone}
-use Rattle.wc_machine.specs.Stepping as machine
-use Rattle.wc_machine.specs.Stepping.{stops, makes}
+use Rattle.wc_machine.specs.Rest.{env_alone}
+use Rattle.wc_machine.specs.Steps as machine
+use Rattle.wc_machine.specs.Steps.{stops, makes}
 use Rattle.wc_turn_laws.specs.Instead.{MadeCalls}
 use Rattle.wc_turn_laws.specs.OutlineLaws.{as_planned}
 use Rattle.wc_turn_laws.specs.View.{View, IsSeenRight, env_in, values_of, progress_in}

@@ -16,9 +16,9 @@ use Rattle.wc_world.proofs.ReachedLists.{found_node}
 use Rattle.wc_machine.specs.Paths.{called_under, cut_after, follow, kills}
 use Rattle.wc_machine.specs.Sound.{IsSound}
 use Rattle.wc_machine.proofs.Frames.{NoCallFrom, called_before, calls_before}
-use Rattle.wc_soundness.specs.Touching.{AddsFor, MayBeTouched, Touches}
+use Rattle.wc_soundness.specs.Touches.{AddsFor, MayBeTouched, Touches}
 use Rattle.wc_soundness.proofs.Touched.{called_kept, called_link, carried_on, found_kept, no_call, output_no_call, within}
-use Rattle.wc_cost.specs.Framing.{KillsNone, KillsStay}
+use Rattle.wc_cost.specs.Touches.{KillsNone, KillsStay}
 use Rattle.wc_cost.proofs.Owing.{alive}
 
 -- ---- labels

@@ -33,11 +33,11 @@ use Rattle.wc_world.specs.Fits.{calls_from, counted_calls, has_output}
 use Rattle.wc_world.specs.Records.{find_record, has_ended, is_call_from, library_at}
 use Rattle.wc_world.specs.Trees.{Branch, recorded_tree}
 use Rattle.wc_world.proofs.FoundRecords.{found_holds}
-use Rattle.wc_machine.specs.Agreeing.{AgreesWithWorld}
+use Rattle.wc_machine.specs.Agreement.{AgreesWithWorld}
 use Rattle.wc_machine.specs.Outlines.{blocks, left}
 use Rattle.wc_machine.specs.Paths.{call_links, kills}
 use Rattle.wc_machine.specs.Recorded.{its_definition, recorded_inputs}
-use Rattle.wc_machine.specs.Resting.{FitKills, GivesTree, IsOnTrack, and_planned, as_call, awaited, bound_calls, bound_trees, chain_rest, gone_on, is_awaited, levels_of, meant, part_rest, planned_of, progress_of, progress_with, rest, set_values}
+use Rattle.wc_machine.specs.Rest.{FitKills, GivesTree, IsOnTrack, and_planned, as_call, awaited, bound_calls, bound_trees, chain_rest, gone_on, is_awaited, levels_of, meant, part_rest, planned_of, progress_of, progress_with, rest, set_values}
 use Rattle.wc_machine.specs.Sound.{AreAwaited, AwaitsLastCalls, CallsAreKept, IsPlaced, IsSound}
 use Rattle.wc_soundness.proofs.KilledStanding.{branches_many, counted}
 use Rattle.wc_soundness.proofs.KnownChildren.{IsChild, is_child}

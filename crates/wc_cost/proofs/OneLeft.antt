@@ -19,7 +19,7 @@ use Rattle.wc_world.specs.Records.{library_at}
 use Rattle.wc_machine.specs.Outlines.{blocks, left}
 use Rattle.wc_machine.specs.Paths.{kills}
 use Rattle.wc_machine.specs.Recorded.{its_definition, recorded_inputs, recorded_request}
-use Rattle.wc_machine.specs.Resting.{awaited, levels_of, progress_of}
+use Rattle.wc_machine.specs.Rest.{awaited, levels_of, progress_of}
 use Rattle.wc_cost.specs.Cost.{Costs, Tolls, bill}
 use Rattle.wc_cost.specs.Laws.{LeftIsOne}
 use Rattle.wc_cost.specs.Left.{AllOwe, ChainOwes, FreshOwes, JobOwes, PartOwes, by_request, its_tolls}

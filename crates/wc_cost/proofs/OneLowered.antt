@@ -11,11 +11,11 @@ use Rattle.wc_world.specs.Records.{at_process, find_record}
 use Rattle.wc_world.specs.World.{World}
 use Rattle.wc_world.proofs.ReachedLists.{found_node, unique}
 use Rattle.wc_machine.specs.Sound.{IsSound}
-use Rattle.wc_soundness.specs.Touching.{MayBeTouched, Touches}
+use Rattle.wc_soundness.specs.Touches.{MayBeTouched, Touches}
 use Rattle.wc_soundness.proofs.AtOne.{found_one, found_other}
 use Rattle.wc_soundness.proofs.Sums.{found_within, only, only_once, sum_of}
 use Rattle.wc_soundness.proofs.Touched.{within}
-use Rattle.wc_cost.specs.Framing.{KillsNone}
+use Rattle.wc_cost.specs.Touches.{KillsNone}
 use Rattle.wc_cost.specs.Left.{AllOwe, IsLeft, PartOwes}
 use Rattle.wc_cost.proofs.Bystanders.{others_owe_the_same}
 use Rattle.wc_cost.proofs.OneLeft.{part_one}

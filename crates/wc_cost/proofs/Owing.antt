@@ -36,7 +36,7 @@ use Rattle.wc_world.proofs.ReachedLists.{unique}
 use Rattle.wc_machine.specs.Outlines.{blocks, left}
 use Rattle.wc_machine.specs.Paths.{cut_after, kills}
 use Rattle.wc_machine.specs.Recorded.{its_definition, recorded_inputs, recorded_request}
-use Rattle.wc_machine.specs.Resting.{awaited, levels_of, progress_of}
+use Rattle.wc_machine.specs.Rest.{awaited, levels_of, progress_of}
 use Rattle.wc_cost.specs.Cost.{Costing, Tolls, cost, front_cost, job_cost, more, price, price_by, price_of, tolls}
 use Rattle.wc_cost.specs.Laws.{LiveOwe}
 use Rattle.wc_cost.specs.Left.{AllOwe, ChainOwes, FreshOwes, JobOwes, PartOwes, by_request, its_tolls}

@@ -40,11 +40,11 @@ use Rattle.wc_world.specs.Records.{find_record, has_ended, library_at}
 use Rattle.wc_world.specs.Trees.{Branch}
 use Rattle.wc_world.proofs.FoundRecords.{found_holds}
 use Rattle.wc_world.proofs.ReachedLists.{unique}
-use Rattle.wc_machine.specs.Agreeing.{AgreesWithWorld}
+use Rattle.wc_machine.specs.Agreement.{AgreesWithWorld}
 use Rattle.wc_machine.specs.Outlines.{blocks, left}
 use Rattle.wc_machine.specs.Paths.{kills}
 use Rattle.wc_machine.specs.Recorded.{its_definition, recorded_inputs, recorded_request, request_by}
-use Rattle.wc_machine.specs.Resting.{GivesTree, as_call, awaited, bound_trees, gone_on, levels_of, part_rest, progress_of, set_values}
+use Rattle.wc_machine.specs.Rest.{GivesTree, as_call, awaited, bound_trees, gone_on, levels_of, part_rest, progress_of, set_values}
 use Rattle.wc_machine.specs.Sound.{IsFitting, IsSound, is_job_part}
 use Rattle.wc_cost.specs.Cost.{Costs, Tolls, bare, bare_calls, bill}
 use Rattle.wc_cost.specs.Laws.{LeftIsThere, RootsMean}

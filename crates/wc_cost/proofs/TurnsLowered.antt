@@ -14,18 +14,18 @@ use Rattle.wc_world.specs.Applied.{applied}
 use Rattle.wc_world.specs.Records.{find_record, is_calculation}
 use Rattle.wc_world.specs.World.{World}
 use Rattle.wc_machine.specs.declared.answer.TaskAnswer.{TaskAnswer}
-use Rattle.wc_machine.specs.Advancing.{Advanced, goes, loops, submits, ends, advance}
-use Rattle.wc_machine.specs.Agreeing.{AgreesWithWorld}
-use Rattle.wc_machine.specs.Calling.{advanced}
+use Rattle.wc_machine.specs.Advances.{Advanced, goes, loops, submits, ends, advance}
+use Rattle.wc_machine.specs.Agreement.{AgreesWithWorld}
+use Rattle.wc_machine.specs.Calls.{advanced}
 use Rattle.wc_machine.specs.Machine as machine
 use Rattle.wc_machine.specs.Machine.{Event, Leads}
 use Rattle.wc_machine.specs.Readiness.{is_ready}
 use Rattle.wc_machine.specs.Sound.{IsSound}
-use Rattle.wc_machine.specs.Turning.{TurnGives, calculates, clones, begins, excepts, gives_up, moves, parses, advances, binds}
+use Rattle.wc_machine.specs.Turns.{TurnGives, calculates, clones, begins, excepts, gives_up, moves, parses, advances, binds}
 use Rattle.wc_soundness.specs.TrackLaws.{IsAtTurn}
 use Rattle.wc_soundness.proofs.EventTurns.{function_calculates, job_calculates, of_kind}
 use Rattle.wc_cost.specs.Left.{IsLeft, by_request}
-use Rattle.wc_cost.specs.Lowering.{IsCalm, LeavesLess, TurnsLower}
+use Rattle.wc_cost.specs.Turns.{IsCalm, LeavesLess, TurnsLower}
 use Rattle.wc_cost.proofs.Bound.{bindings_lower}
 use Rattle.wc_cost.proofs.CalculationsLowered.{calculation_turns_lower}
 use Rattle.wc_cost.proofs.CallsLowered.{calls_lower}

@@ -6,7 +6,7 @@ use Rattle.wc_state.specs.declared.record.Checkpoint.{Checkpoint}
 use Rattle.wc_semantics.specs.declared.progress.Progress.{Progress}
 use Rattle.wc_semantics.specs.Tables.{Kills, Table}
 use Rattle.wc_world.specs.Trees.{NamedValues}
-use Rattle.wc_machine.specs.Advancing.{Advanced, goes, loops, submits, ends, advance}
+use Rattle.wc_machine.specs.Advances.{Advanced, goes, loops, submits, ends, advance}
 use Rattle.wc_machine.specs.Outlines.{blocks, left}
 use Rattle.wc_turn_laws.specs.Instead.{MadeCalls}
 use Rattle.wc_turn_laws.specs.OutlineLaws.{as_planned}

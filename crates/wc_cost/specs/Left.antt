@@ -21,7 +21,7 @@ use Rattle.wc_world.specs.Records.{library_at}
 use Rattle.wc_machine.specs.Outlines.{blocks, left}
 use Rattle.wc_machine.specs.Paths.{kills}
 use Rattle.wc_machine.specs.Recorded.{its_definition, recorded_inputs, recorded_request}
-use Rattle.wc_machine.specs.Resting.{awaited, levels_of, progress_of}
+use Rattle.wc_machine.specs.Rest.{awaited, levels_of, progress_of}
 use Rattle.wc_cost.specs.Cost.{Costs, Prices, Tolls, bill, tolls}
 
 -- the table that has these results by request alone, so `under` any label it is itself

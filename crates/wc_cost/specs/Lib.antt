@@ -3,5 +3,5 @@ pub mod Left
 pub mod Laws
 pub mod SmallLaws
 pub mod Advances
-pub mod Framing
-pub mod Lowering
+pub mod Touches
+pub mod Turns

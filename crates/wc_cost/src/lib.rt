@@ -6,15 +6,15 @@
 #![tactic(auto)]
 
 mod costs;
-mod framing;
-mod lowering;
 mod small;
+mod touches;
+mod turns;
 mod worlds;
 
 pub use costs::{advances_cost_one, meanings_have_one_price, runs_have_one_cost};
-pub use framing::{kills_stay, others_owe_the_same};
-pub use lowering::{
+pub use small::{fan_costs, small_runs_cost};
+pub use touches::{kills_stay, others_owe_the_same};
+pub use turns::{
     advances_lower, bindings_lower, calculation_turns_lower, calls_lower, turns_lower,
 };
-pub use small::{fan_costs, small_runs_cost};
 pub use worlds::{left_is_one, left_is_there, live_owe};

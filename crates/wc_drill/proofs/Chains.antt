@@ -16,7 +16,7 @@ use Rattle.wc_world.specs.World.{World}
 use Rattle.wc_world.specs.Accepted.{IsAccepted}
 use Rattle.wc_world.specs.Applied.{applied}
 use Rattle.wc_machine.specs.Machine.{Leads, submits}
-use Rattle.wc_machine.specs.Submitting.{Submits}
+use Rattle.wc_machine.specs.Submissions.{Submits}
 use Rattle.wc_soundness.specs.AcceptedLaws.{IsPlain}
 use Rattle.wc_soundness.proofs.Parts.{events_are_plain}
 use Rattle.wc_machine.specs.Refusals.{HasRoom, RefusesSubmission}

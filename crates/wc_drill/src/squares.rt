@@ -64,7 +64,7 @@ fn square_result(alloc: Global, number: u32) -> Result<JobResult, AllocError>
     })
 }
 
-/// The rows of all numbers.
+/// For each number below 100, in order, the request of its job and what the job leaves: the square.
 #[tactic(auto, using(crate::proofs::Rows::rows_pushed, crate::proofs::Rows::rows_none))]
 fn square_rows(alloc: Global) -> Result<Rows, AllocError>
     ensures { IfOk result (λ rows. rows ≡ square_rows 100) }

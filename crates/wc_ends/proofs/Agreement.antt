@@ -13,7 +13,7 @@ use Rattle.wc_world.specs.Records.{find_record, has_ended}
 use Rattle.wc_world.specs.World.{World}
 use Rattle.wc_world.proofs.FoundRecords.{found_holds}
 use Rattle.wc_world.proofs.ReachedLists.{found_node}
-use Rattle.wc_machine.specs.Agreeing.{AgreesWithWorld}
+use Rattle.wc_machine.specs.Agreement.{AgreesWithWorld}
 use Rattle.wc_machine.specs.Continues.{Continues}
 use Rattle.wc_machine.specs.Recorded.{Contents, HasResult, cached, folder_of, own, recorded_request, request_by, result_with, retrieved_folder}
 use Rattle.wc_machine.specs.Sound.{IsFitting, IsSound}

@@ -11,13 +11,13 @@ use Rattle.wc_world.specs.declared.change.Change.{Change}
 use Rattle.wc_world.specs.World.{World}
 use Rattle.wc_machine.specs.declared.answer.TaskAnswer.{TaskAnswer}
 use Rattle.wc_machine.specs.declared.answer.TaskAnswer.TheVariants as answer
-use Rattle.wc_machine.specs.Advancing.{advance}
-use Rattle.wc_machine.specs.Ending as ending
+use Rattle.wc_machine.specs.Advances.{advance}
+use Rattle.wc_machine.specs.Ends as ending
 use Rattle.wc_machine.specs.Recorded.{recorded_inputs}
 use Rattle.wc_machine.specs.Tasks.{Moved, after}
-use Rattle.wc_machine.specs.Turning.{TurnGives, calculates, clones, begins, excepts, gives_up, moves, parses, advances, binds}
+use Rattle.wc_machine.specs.Turns.{TurnGives, calculates, clones, begins, excepts, gives_up, moves, parses, advances, binds}
 use Rattle.wc_runner.proofs.Sets.{AllSuit, advanced_suits, ends_suit}
-use Rattle.wc_cost.specs.Lowering.{IsCalm}
+use Rattle.wc_cost.specs.Turns.{IsCalm}
 
 -- nothing is waited for
 abbrev pub SetsNoDue : SetProcess → Type 0

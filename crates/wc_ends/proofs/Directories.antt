@@ -38,14 +38,14 @@ use Rattle.wc_world.proofs.FoundRecords.{found_holds}
 use Rattle.wc_world.proofs.ReachedLists.{found_node}
 use Rattle.wc_machine.specs.declared.answer.TaskAnswer.{TaskAnswer}
 use Rattle.wc_machine.specs.declared.answer.TaskAnswer.TheVariants as answer
-use Rattle.wc_machine.specs.Advancing.{advance}
-use Rattle.wc_machine.specs.Asking.{Need, need, need_at, nothing, performs}
+use Rattle.wc_machine.specs.Advances.{advance}
+use Rattle.wc_machine.specs.Questions.{Need, need, need_at, nothing, performs}
 use Rattle.wc_machine.specs.Continues.{Continues}
-use Rattle.wc_machine.specs.Ending as ending
+use Rattle.wc_machine.specs.Ends as ending
 use Rattle.wc_machine.specs.Recorded.{its_definition, recorded_inputs, recorded_request, request_by}
 use Rattle.wc_machine.specs.Sound.{IsSound}
 use Rattle.wc_machine.specs.Tasks.{Moved, after}
-use Rattle.wc_machine.specs.Turning.{StandsAt, TurnGives, first_task, job_set, calculates, clones, begins, excepts, gives_up, moves, parses, advances, binds}
+use Rattle.wc_machine.specs.Turns.{StandsAt, TurnGives, first_task, job_set, calculates, clones, begins, excepts, gives_up, moves, parses, advances, binds}
 use Rattle.wc_soundness.proofs.AtOne.{found_one, found_other}
 use Rattle.wc_soundness.proofs.FaultingJobs.{waiting_jobs_ask}
 use Rattle.wc_soundness.proofs.LaterTables.{record_kept}
@@ -53,7 +53,7 @@ use Rattle.wc_soundness.proofs.Tasks.{job_waits}
 use Rattle.wc_runner.specs.Asked.{AreOfProcesses, MayHold, PlacesFor}
 use Rattle.wc_runner.specs.Outside.{AnswersNeed, HoldsWhenDone, IsGiven, Outside, answer_of, in_turn}
 use Rattle.wc_runner.proofs.Sets.{AllSuit, advanced_suits, changes_leave, ends_suit}
-use Rattle.wc_cost.specs.Lowering.{IsCalm}
+use Rattle.wc_cost.specs.Turns.{IsCalm}
 use Rattle.wc_ends.specs.Enough.{PartStands, ProcessStands, TaskStands}
 use Rattle.wc_ends.proofs.Requests.{request_same}
 

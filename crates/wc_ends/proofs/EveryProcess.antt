@@ -26,12 +26,12 @@ use Rattle.wc_world.specs.Records.{find_record}
 use Rattle.wc_world.specs.World.{World}
 use Rattle.wc_world.proofs.ReachedLists.{found_node, unique}
 use Rattle.wc_machine.specs.declared.answer.TaskAnswer.{TaskAnswer}
-use Rattle.wc_machine.specs.Agreeing.{AgreesWithWorld}
-use Rattle.wc_machine.specs.Asking.{need}
+use Rattle.wc_machine.specs.Agreement.{AgreesWithWorld}
+use Rattle.wc_machine.specs.Questions.{need}
 use Rattle.wc_machine.specs.Machine.{turn}
 use Rattle.wc_machine.specs.Recorded.{recorded_request}
 use Rattle.wc_machine.specs.Sound.{IsSound}
-use Rattle.wc_machine.specs.Turning.{TurnGives}
+use Rattle.wc_machine.specs.Turns.{TurnGives}
 use Rattle.wc_runner.specs.Asked.{AreOfProcesses, IsAsked, PlacesFor}
 use Rattle.wc_runner.specs.Codes.{AreBrought}
 use Rattle.wc_runner.specs.Laws.{StaysSound}
@@ -47,7 +47,7 @@ use Rattle.wc_runner.proofs.Placed.{are_still, own_placed}
 use Rattle.wc_runner.proofs.Sets.{gives_turn}
 use Rattle.wc_runner.proofs.Taken.{what_it_needs}
 use Rattle.wc_cost.specs.Left.{IsLeft, JobOwes, PartOwes}
-use Rattle.wc_cost.specs.Lowering.{IsCalm, LeavesLess}
+use Rattle.wc_cost.specs.Turns.{IsCalm, LeavesLess}
 use Rattle.wc_cost.proofs.OneLowered.{owed_in}
 use Rattle.wc_cost.proofs.Owing.{live_owe}
 use Rattle.wc_cost.proofs.Told.{left_is_there}

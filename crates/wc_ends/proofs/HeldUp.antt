@@ -8,7 +8,7 @@ use Rattle.wc_state.specs.declared.record.ProcessRecord.{ProcessRecord}
 use Rattle.wc_world.specs.Records.{find_record, has_ended}
 use Rattle.wc_world.specs.World.{World}
 use Rattle.wc_world.proofs.FoundRecords.{found_holds}
-use Rattle.wc_machine.specs.Killing.{awaits_of}
+use Rattle.wc_machine.specs.Kills.{awaits_of}
 use Rattle.wc_runner.specs.Standing.{is_any_live, is_held_up, is_live_and, is_resting}
 
 -- a live process isn't paused

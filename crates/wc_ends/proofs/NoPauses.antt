@@ -9,7 +9,7 @@ use Rattle.wc_world.proofs.FoundRecords.{found_holds}
 use Rattle.wc_world.proofs.ReachedLists.{found_node, unique}
 use Rattle.wc_machine.specs.declared.answer.TaskAnswer.{TaskAnswer}
 use Rattle.wc_machine.specs.declared.answer.TaskAnswer.TheVariants as answer
-use Rattle.wc_machine.specs.Asking.{Need, need, nothing, performs}
+use Rattle.wc_machine.specs.Questions.{Need, need, nothing, performs}
 use Rattle.wc_machine.specs.Continues.{Continues}
 use Rattle.wc_machine.specs.Sound.{IsSound}
 use Rattle.wc_soundness.proofs.LaterTables.{record_kept}
@@ -17,7 +17,7 @@ use Rattle.wc_runner.specs.Marks.{AreNoWorse, IsNoWorse, is_paused}
 use Rattle.wc_runner.specs.Outside.{Answers, AnswersNeed, IsKnown, Outside}
 use Rattle.wc_runner.specs.Trips.{TurnOf, none, one_more}
 use Rattle.wc_runner.proofs.Marked.{turns_no_worse}
-use Rattle.wc_cost.specs.Lowering.{IsCalm}
+use Rattle.wc_cost.specs.Turns.{IsCalm}
 use Rattle.wc_ends.proofs.HeldUp.{Plays}
 
 module _ (o : Outside) where

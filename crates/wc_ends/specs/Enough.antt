@@ -16,7 +16,7 @@ use Rattle.wc_transport.specs.Outside.{Holds}
 use Rattle.wc_transport.specs.declared.transport.Transport as transport
 use Rattle.wc_world.specs.Records.{has_ended}
 use Rattle.wc_world.specs.World.{World}
-use Rattle.wc_machine.specs.Agreeing.{AgreesWithWorld}
+use Rattle.wc_machine.specs.Agreement.{AgreesWithWorld}
 use Rattle.wc_machine.specs.Recorded.{recorded_request}
 use Rattle.wc_machine.specs.Sound.{IsSound}
 use Rattle.wc_runner.specs.Asked.{AreOfProcesses}

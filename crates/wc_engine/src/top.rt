@@ -54,7 +54,7 @@ fn answer<R: Shelf, D: Disk, T: Transport, P: Pacer>(
     ensures durable { IfOk result (λ r. NeedDisks (R.contents shelf.old) words.now → IsDoneOrFull r.status → IsTrue (D.tells one.old) → IsTrue (D.tells two.old) → AreDurable D.Disk one.new two.new) }
 {
     match plan(alloc, words, shelf)? {
-        Plan::Told(reply) => Ok(reply),
+        Plan::Reply(reply) => Ok(reply),
         Plan::On(deed) => Ok(act(alloc, deed, one, two, transport, pacer)?),
     }
 }
@@ -92,8 +92,8 @@ pub fn serve<R: Shelf, W: Sink, D: Disk, T: Transport, P: Pacer>(
     // begin a store, nothing or a world with which they begin it, which is sound, for `init` the empty one, and for `drill` what submissions of its
     // first chains, and turns once all are submitted, make of that; of a world, the same world, or what a deed that they plan makes of it, which
     // for `submit` is the one submission as which its words are prepared, within its settings' limit of nodes, for `pause`, `play` and `kill` that
-    // event, and for `run` what at most as many turns and rests as are given make, within the limits of its settings, whatever the transport
-    // replies. What is made of a sound world is sound, and continues it.
+    // event, and for `run` what at most as many turns and rests as are given make, within the limits of its settings, with some
+    // answers, which this clause doesn't tie to the transport. What is made of a sound world is sound, and continues it.
     ensures crash { IsTrue (D.tells one.old) → IsTrue (D.tells two.old) → LeavesMade D.Disk (R.contents shelf.old) words.now one.old two.old one.new two.new }
     // Once a deed was done, or found the store too full, nothing is pending, and each pair of images holds what the disks then read as.
     ensures durable { NeedDisks (R.contents shelf.old) words.now → IsDoneOrFull result → IsTrue (D.tells one.old) → IsTrue (D.tells two.old) → AreDurable D.Disk one.new two.new

@@ -10,7 +10,7 @@ ghost use Rattle.wc_fits.specs.Records.{has_called};
 ghost use Rattle.wc_fits.specs.Fits.{on_place, frame_fits, is_within, outline_lengths, is_process, held_fits, is_data_node, checkpoint_fits, standing_fits, set_fits};
 
 use crate::blocks::lengths_of;
-use crate::fitting::{fails_fit, part_fits};
+use crate::conditions::{fails_fit, part_fits};
 use crate::libraries::{Libraries, definition_in};
 use crate::processes::has_called;
 use std::alloc::{AllocError, Global};

@@ -19,9 +19,9 @@ mod labels;
 mod link;
 mod near;
 mod node;
-mod ordering;
 mod reach;
 mod rules;
+mod topology;
 mod walk_error;
 
 pub use choice::LinkSet;
@@ -29,9 +29,9 @@ pub use error::GraphError;
 pub use graph::{Graph, Links, Nodes};
 pub use link::{Link, LinkType};
 pub use node::NodeKind;
-pub use ordering::order;
 pub use reach::{Ids, ancestors, descendants};
 pub use rules::{
     enters, is_call, leaves, shares_called, shares_created, takes_label, takes_triple,
 };
+pub use topology::order;
 pub use walk_error::WalkError;

@@ -149,7 +149,7 @@ fn spec_of(alloc: Global, table: &Table) -> Result<Spec, AllocError>
     })
 }
 
-/// What is told of a refusal.
+/// The error that says why a spec file is refused, with the path of the key that it names.
 fn told(refused: Refused) -> RestartError
     ensures { result ≡ told (refused.kind, refused.path) }
 {

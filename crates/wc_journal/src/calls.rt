@@ -153,7 +153,7 @@ impl Journal {
             → journal_of (D.seen disk.new) ≡ with_batch self.old (journal_of (D.seen disk.old)) (payload_of batch.now)) }
         ensures any_moment { IsTrue (D.tells disk.old) → LeavesOnly D.Disk disk.old disk.new
             (HoldsEither (journal_of (D.seen disk.old)) (with_batch self.old (journal_of (D.seen disk.old)) (payload_of batch.now))) }
-        // Nothing is left behind the gate of the batch, but what stood there before.
+        // At any moment of the call the disk is no longer than it was, or than the batch with its gate makes it. What its bytes are isn't said here.
         ensures no_longer { IsTrue (D.tells disk.old) → StaysWithin D.Disk
             (max (length (D.seen disk.old)) (size_after self.old.end self.old.version (payload_of batch.now))) disk.old disk.new }
         ensures fits { OnOk result (size_after self.old.end self.old.version (payload_of batch.now) ≤ limit) }

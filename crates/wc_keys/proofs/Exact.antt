@@ -15,7 +15,7 @@ use Rattle.wc_value.proofs.Puts.{same_name}
 use Rattle.wc_records.specs.Marked.{AllAfter, IsSorted, marked}
 use Rattle.wc_records.proofs.Marks.{sorted_marked}
 use Rattle.wc_records.proofs.Standing.{stands_itself, stands_other}
-use Rattle.wc_keys.specs.declared.marking.Sealed.{Sealed}
+use Rattle.wc_keys.specs.declared.entries.Sealed.{Sealed}
 use Rattle.wc_keys.specs.Order.{earlier, is_seal, is_in, has_digest, NumbersAbove, NumbersAscend, AreSealsOf, without}
 use Rattle.wc_keys.specs.Laws.{OneList}
 use Rattle.wc_keys.proofs.Orders.{in_order, seal_tests}

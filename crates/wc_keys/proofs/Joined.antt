@@ -9,7 +9,7 @@ use Rattle.wc_value.proofs.Puts.{same_name}
 use Rattle.wc_records.specs.Marked.{IsSorted, IsPlace, is_item, marked}
 use Rattle.wc_records.proofs.Marks.{sorted_marked, sorted_is_parted, marked_present, marked_absent}
 use Rattle.wc_records.proofs.Standing.{stands_itself, stands_other, length_marked, as_number}
-use Rattle.wc_keys.specs.declared.marking.Sealed.{Sealed}
+use Rattle.wc_keys.specs.declared.entries.Sealed.{Sealed}
 use Rattle.wc_keys.specs.Order.{earlier, is_seal, is_in, joined}
 use Rattle.wc_keys.proofs.Exact.{absent, present, or_right, same_lists}
 use Rattle.wc_keys.proofs.Orders.{in_order, seal_tests}

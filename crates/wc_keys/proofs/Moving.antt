@@ -6,7 +6,7 @@ use Rattle.std.proofs.lemmas.List.{drop_more}
 use Rattle.std.proofs.lemmas.List.Folds.{list_any_at}
 use Rattle.wc_records.specs.Marked.{IsSorted, IsPlace, is_item}
 use Rattle.wc_records.proofs.Marks.{marked_absent}
-use Rattle.wc_keys.specs.declared.marking.Sealed.{Sealed}
+use Rattle.wc_keys.specs.declared.entries.Sealed.{Sealed}
 use Rattle.wc_keys.specs.Order.{earlier, is_seal, is_in, joined, AreApart}
 use Rattle.wc_keys.specs.Gaps.{HasGap, PutsInGap, NoneBefore}
 use Rattle.wc_keys.proofs.Exact.{absent}

@@ -8,7 +8,7 @@ use Rattle.wc_graph.specs.declared.node.NodeKind.{NodeKind}
 use Rattle.wc_graph.specs.declared.link.Link.{Link}
 use Rattle.wc_state.specs.declared.record.ProcessRecord.{ProcessRecord}
 use Rattle.wc_records.specs.Marked.{marked}
-use Rattle.wc_keys.specs.declared.marking.Sealed.{Sealed}
+use Rattle.wc_keys.specs.declared.entries.Sealed.{Sealed}
 use Rattle.wc_keys.specs.Order.{earlier, AreSealsOf, without}
 use Rattle.wc_keys.proofs.Exact.{exact_same, without_none, put_exact, take_exact, fewer_seals, or_right}
 use Rattle.wc_fits.specs.World.{Known}

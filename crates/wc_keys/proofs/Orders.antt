@@ -16,7 +16,7 @@ use Rattle.wc_value.specs.Ascending.{before}
 use Rattle.wc_value.proofs.Puts.{same_name, is_less}
 use Rattle.wc_records.specs.Marked.{IsOrder}
 use Rattle.wc_records.proofs.Marks.{Tests}
-use Rattle.wc_keys.specs.declared.marking.Sealed.{Sealed}
+use Rattle.wc_keys.specs.declared.entries.Sealed.{Sealed}
 use Rattle.wc_keys.specs.Order.{seal_cmp, earlier, is_seal}
 
 -- ---- orders by comparing

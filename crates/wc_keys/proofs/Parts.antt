@@ -14,7 +14,7 @@ use Rattle.wc_value.specs.Ascending.{before}
 use Rattle.wc_value.proofs.Puts.{same_name}
 use Rattle.wc_records.specs.Marked.{AllAfter, IsSorted}
 use Rattle.wc_records.proofs.Parted.{front_is_filter}
-use Rattle.wc_keys.specs.declared.marking.Sealed.{Sealed}
+use Rattle.wc_keys.specs.declared.entries.Sealed.{Sealed}
 use Rattle.wc_keys.specs.Order.{earlier, is_seal, is_in, with_digest, NumbersAbove, NumbersAscend, IsDigestPlace, IsDigestRun}
 use Rattle.wc_keys.specs.Laws.{PartsAreExact}
 use Rattle.wc_keys.proofs.Orders.{follows, by_digest, by_number, before_differs, same_stays, in_order}

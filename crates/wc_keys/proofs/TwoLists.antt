@@ -9,7 +9,7 @@ use Rattle.wc_value.proofs.Puts.{same_name}
 use Rattle.wc_records.specs.Marked.{IsSorted, marked}
 use Rattle.wc_records.proofs.Marks.{sorted_marked}
 use Rattle.wc_records.proofs.Standing.{length_marked}
-use Rattle.wc_keys.specs.declared.marking.Sealed.{Sealed}
+use Rattle.wc_keys.specs.declared.entries.Sealed.{Sealed}
 use Rattle.wc_keys.specs.Order.{earlier, is_seal, is_in, with_digest, joined, AreApart, AreTwo}
 use Rattle.wc_keys.proofs.Exact.{present, or_right, same_lists}
 use Rattle.wc_keys.proofs.Joined.{or_left, at_itself, told_marked, sorted_joined, in_joined, length_joined, long_joined, short_joined, out_joined}

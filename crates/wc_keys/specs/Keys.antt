@@ -11,9 +11,8 @@ use Rattle.wc_syntax.specs.Printing.{printed_definition}
 use Rattle.wc_graph.specs.declared.node.NodeKind.{NodeKind}
 use Rattle.wc_graph.specs.declared.link.Link.{Link}
 use Rattle.wc_state.specs.declared.record.ProcessRecord.{ProcessRecord}
-use Rattle.wc_keys.specs.declared.marking.Sealed.{Sealed}
+use Rattle.wc_keys.specs.declared.entries.Sealed.{Sealed}
 use Rattle.wc_keys.specs.SealKeys.{key_value}
-use Rattle.wc_keys.specs.Order.{AreSealsOf}
 use Rattle.wc_fits.specs.World.{World, Known}
 use Rattle.wc_fits.specs.Records.{find_record, definition_in, is_calculation}
 use Rattle.wc_fits.specs.Values.{inputs_after, inputs_of, values_alone}
@@ -73,10 +72,6 @@ digest_in w r = digest_by w.nodes w.links w.libraries r
 -- the digest of the process with this number
 abbrev pub digest_at : World → ℕ → Option (List ℕ)
 digest_at w = digest_from w.nodes w.links w.libraries w.records
-
--- The entries in order: each calculation that has finished stands there with the digest of its key, and nothing else does.
-abbrev pub AreSealed : World → List Sealed → Type 0
-AreSealed w seals = AreSealsOf (digest_at w) seals
 
 -- The definition of each process is there.
 abbrev pub AreDefined : World → Type 0

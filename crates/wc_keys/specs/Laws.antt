@@ -1,6 +1,6 @@
 -- Laws of entries in order.
 use Rattle.std.specs.Prelude.{◌≡◌, ℕ, List, Option}
-use Rattle.wc_keys.specs.declared.marking.Sealed.{Sealed}
+use Rattle.wc_keys.specs.declared.entries.Sealed.{Sealed}
 use Rattle.wc_keys.specs.Order.{AreSealsOf, IsPartOf, with_digest}
 
 -- There is one list of entries for the digests of processes.

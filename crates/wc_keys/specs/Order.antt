@@ -7,7 +7,7 @@ use Rattle.std.specs.Ordering.{nat_cmp, is_lt, ordering_then}
 use Rattle.std.specs.Cmp.Lexicographic.{slice_cmp}
 use Rattle.wc_value.specs.Ascending.{before}
 use Rattle.wc_records.specs.Marked.{IsSorted, marked}
-use Rattle.wc_keys.specs.declared.marking.Sealed.{Sealed}
+use Rattle.wc_keys.specs.declared.entries.Sealed.{Sealed}
 
 -- by the digests' bytes, and then by the numbers
 abbrev pub seal_cmp : Sealed → Sealed → Ordering

@@ -7,22 +7,22 @@
 #![tactic(auto)]
 
 mod beginnings;
+mod calculations;
 mod digests;
+mod entries;
 mod hashing;
 mod inputs;
-mod joining;
 mod keys;
 mod laws;
 mod links;
-mod marking;
-mod sealing;
+mod lists;
 mod seals;
 
+pub use calculations::{seal, seals_of, unseal};
+pub use entries::Sealed;
 pub use hashing::{digest_of, finish, put_count};
 pub use keys::{key_hasher, put_entry};
 pub use laws::seals_are_one;
-pub use marking::Sealed;
-pub use sealing::{seal, seals_of, unseal};
 pub use seals::Seals;
 pub use wc_fits::{
     Known, Libraries, call_fits, caller_of, is_calculation, is_settled, names_ascend, new_fits,

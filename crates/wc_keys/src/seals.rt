@@ -6,8 +6,8 @@ ghost use Rattle.wc_records.specs.Marked.{IsSorted, marked};
 ghost use Rattle.wc_value.specs.Ascending.{before};
 ghost use Rattle.wc_keys.specs.Order.{earlier, is_in, with_digest, NumbersAscend, IsDigestPlace, IsDigestRun};
 
-use crate::joining::{SHORT_MOST, put_in, take_out};
-use crate::marking::Sealed;
+use crate::entries::Sealed;
+use crate::lists::{SHORT_MOST, put_in, take_out};
 use std::alloc::{AllocError, Global};
 use std::marker::Model;
 
@@ -23,7 +23,7 @@ pub struct Seals {
 
 impl Model for Seals {
     ghost use Rattle.std.specs.Prelude.{ℕ, List, vec_capacity};
-    ghost use Rattle.wc_keys.specs.declared.marking.Sealed.{Sealed};
+    ghost use Rattle.wc_keys.specs.declared.entries.Sealed.{Sealed};
     ghost use Rattle.wc_keys.specs.Order.{joined, AreTwo};
 
     ghost Value = { List Sealed × ℕ };

@@ -7,7 +7,7 @@ mod folder;
 mod local;
 mod mark;
 mod random;
-mod settling;
+mod settlement;
 mod shell;
 mod slurm;
 mod squeue;

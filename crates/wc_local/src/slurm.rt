@@ -8,7 +8,7 @@ use crate::folder::{
     content_of, has_ended, is_alive, is_locked, length_of, path_in, place_file, write_file,
 };
 use crate::mark::beside;
-use crate::settling::{Settled, forget_end, settle, tell_open};
+use crate::settlement::{Settled, forget_end, settle, tell_open};
 use crate::shell::output_of;
 use crate::submission::{
     has_submission, new_name, place_name, put_number, put_over, submission_of,

@@ -37,9 +37,9 @@ use Rattle.wc_world.specs.Accepted.{Setting, setting, source_fits, Apply, IsAcce
 use Rattle.wc_world.specs.Consistent.{processes_from, process_of, Stands, IsConsistent}
 use Rattle.wc_world.proofs.FoundRecords.{found_holds}
 use Rattle.wc_world.proofs.ReachedLists.{heads, cond_some_cases, some_and, node_grown, all_at_apart}
-use Rattle.wc_machine.specs.Ending.{creations, end_of, ends}
+use Rattle.wc_machine.specs.Ends.{creations, end_of, ends}
 use Rattle.wc_machine.specs.Laws.{HasPlaces}
-use Rattle.wc_machine.specs.Submitting.{AreInputs}
+use Rattle.wc_machine.specs.Submissions.{AreInputs}
 use Rattle.wc_machine.proofs.CreatedOutputs.{creates_no_output, creates_no_call, without_output}
 use Rattle.wc_machine.proofs.Endings.{creates, with_outputs, end_set, end_record, ended_world, applied_ends}
 use Rattle.wc_machine.proofs.Frames.{no_call_from, output_before, calls_before, target_is_node, node_number}

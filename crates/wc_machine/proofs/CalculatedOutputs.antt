@@ -23,7 +23,7 @@ use Rattle.wc_expression.specs.Val.{val}
 use Rattle.wc_expression.proofs.Within.{val_levels}
 use Rattle.wc_semantics.specs.Rules.{Values, End, env_of, bound, kind_of_port, fits_port, fitting, output_of, is_taken, status_of, run_rules}
 use Rattle.wc_semantics.specs.Outcomes.{concluded, calculated}
-use Rattle.wc_machine.specs.Submitting.{AreInputs}
+use Rattle.wc_machine.specs.Submissions.{AreInputs}
 
 abbrev IsLow : List ℕ × Value → Type 0
 IsLow e = depth e.1 ≤ 32

@@ -15,7 +15,7 @@ use Rattle.wc_world.specs.Trees.{values_alone}
 use Rattle.wc_world.proofs.FoundRecords.{found_holds}
 use Rattle.wc_machine.specs.Recorded.{recorded_inputs, recorded_outputs}
 use Rattle.wc_machine.specs.Sound.{GoesUp}
-use Rattle.wc_machine.specs.Submitting.{AreInputs}
+use Rattle.wc_machine.specs.Submissions.{AreInputs}
 use Rattle.wc_machine.proofs.AcceptedEnds.{process_is_node, live_without_output}
 use Rattle.wc_machine.proofs.ContinuedEnds.{found_after}
 use Rattle.wc_machine.proofs.CreatedOutputs.{creates_no_input, creates_no_output, outputs_created}

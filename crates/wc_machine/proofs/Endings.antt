@@ -15,7 +15,7 @@ use Rattle.wc_world.specs.World.{World}
 use Rattle.wc_world.specs.Records.{at_process}
 use Rattle.wc_world.specs.Applied.{set, changed, begun, applied}
 use Rattle.wc_world.specs.Snapshot.{number_of}
-use Rattle.wc_machine.specs.Ending.{creations, end_of, ends}
+use Rattle.wc_machine.specs.Ends.{creations, end_of, ends}
 
 -- the data nodes of outputs
 abbrev pub data_nodes : Values → List NodeKind

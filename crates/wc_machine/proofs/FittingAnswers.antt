@@ -27,11 +27,11 @@ use Rattle.wc_world.specs.Records.{find_record}
 use Rattle.wc_world.proofs.FoundRecords.{found_holds}
 use Rattle.wc_machine.specs.declared.answer.TaskAnswer.{TaskAnswer}
 use Rattle.wc_machine.specs.declared.answer.TaskAnswer.TheVariants as answer
-use Rattle.wc_machine.specs.Asking.{Need, nothing, performs, need_at, need, fits_task, fits}
+use Rattle.wc_machine.specs.Questions.{Need, nothing, performs, need_at, need, fits_task, fits}
 use Rattle.wc_machine.specs.Laws.{FittingAnswersLead, TurnsFitNeeds}
 use Rattle.wc_machine.specs.Recorded.{its_definition, recorded_inputs, recorded_request, request_by}
 use Rattle.wc_machine.specs.Tasks.{Moved, after}
-use Rattle.wc_machine.specs.Turning.{StandsAt, calculates, clones, begins, excepts, gives_up, moves, parses, advances, binds}
+use Rattle.wc_machine.specs.Turns.{StandsAt, calculates, clones, begins, excepts, gives_up, moves, parses, advances, binds}
 
 -- ---- what leads on
 

@@ -22,7 +22,7 @@ use Rattle.wc_state.specs.declared.record.ProcessRecord.{ProcessRecord}
 use Rattle.wc_world.specs.World.{World}
 use Rattle.wc_world.specs.Records.{library_at}
 use Rattle.wc_machine.specs.Recorded.{its_definition, recorded_inputs}
-use Rattle.wc_machine.specs.Resting.{with_stop, levels_of, meant, part_rest, rest, GivesTree, IsOnTrack}
+use Rattle.wc_machine.specs.Rest.{with_stop, levels_of, meant, part_rest, rest, GivesTree, IsOnTrack}
 
 -- what a function gives that is killed after so many calls or not
 abbrev pub function_meant : Option ℕ → Function → ℕ → List ℕ → Values → Answer

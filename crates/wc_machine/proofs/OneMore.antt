@@ -23,10 +23,10 @@ use Rattle.wc_world.specs.Fits.{is_of_kind}
 use Rattle.wc_world.specs.Records.{find_record, library_at, definition_in, is_call_from}
 use Rattle.wc_world.specs.Trees.{branches, tree_with, tree_within, recorded_tree, values_alone}
 use Rattle.wc_world.proofs.ReachedLists.{AreUnique, unique, find_grown, found_has}
-use Rattle.wc_machine.specs.Agreeing.{Agrees}
+use Rattle.wc_machine.specs.Agreement.{Agrees}
 use Rattle.wc_machine.specs.Paths.{follow, kills, cut_after}
 use Rattle.wc_machine.specs.Recorded.{its_definition, recorded_inputs, recorded_outputs, recorded_request, request_by, retrieved_folder, folder_of, HasResult, own, cached}
-use Rattle.wc_machine.specs.Resting.{meant, levels_of}
+use Rattle.wc_machine.specs.Rest.{meant, levels_of}
 use Rattle.wc_machine.proofs.Frames.{NoInput, NoOutput, NoCalls, no_call_from, node_number, target_is_node, find_before, library_stays, inputs_stay, outputs_stay, branches_before, branches_by, follow_before, calls_before, path_within, records_below}
 
 -- a process more with this number, and nodes, links and libraries: the links lead to it alone, and are neither outputs nor calls

@@ -16,7 +16,7 @@ use Rattle.wc_world.specs.Fits.{part_fits}
 use Rattle.wc_world.specs.Records.{find_record, has_ended, is_call_from}
 use Rattle.wc_world.specs.World.{World}
 use Rattle.wc_machine.specs.Paths.{kills}
-use Rattle.wc_machine.specs.Resting.{with_stop, meant, part_rest, rest, is_awaited, has_bound, FitKills, GivesTree, IsOnTrack}
+use Rattle.wc_machine.specs.Rest.{with_stop, meant, part_rest, rest, is_awaited, has_bound, FitKills, GivesTree, IsOnTrack}
 use Rattle.wc_machine.specs.Sound.{IsMeant}
 use Rattle.wc_machine.proofs.Frames.{any_before}
 use Rattle.wc_machine.proofs.OneMore.{Addition, grown, no_calls_from, number_within, stands, meant_kept, kills_kept, agrees_before, recorded_tree_kept}

@@ -23,7 +23,7 @@ use Rattle.wc_world.specs.World.{World}
 use Rattle.wc_records.specs.declared.change.NewProcess.{NewProcess}
 use Rattle.wc_world.proofs.ReachedLists.{called_grown}
 use Rattle.wc_machine.specs.Recorded.{its_definition}
-use Rattle.wc_machine.specs.Resting.{is_awaited, bound_calls}
+use Rattle.wc_machine.specs.Rest.{is_awaited, bound_calls}
 use Rattle.wc_machine.specs.Paths.{call_links}
 use Rattle.wc_machine.specs.Sound.{TakesItsInputs, IsFitting, AreNumbered, is_call_to, IsPlaced, CallsAreKept, AreAwaited, AwaitsLastCalls, IsEndedCall, HoldsEnded, IsKnownNode, NamesKnown, is_awaited_in, fuel_in}
 use Rattle.wc_machine.proofs.Frames.{and_false, find_before, any_before, filter_before, no_call_beyond, none_target_beyond}

@@ -18,7 +18,7 @@ use Rattle.wc_world.specs.World.{World, Known}
 use Rattle.wc_world.specs.Records.{kind_of_definition, process_node, definition_in}
 use Rattle.wc_world.specs.Applied.{made, next_number, after_change, changed, applied}
 use Rattle.wc_world.proofs.After.{changed_append}
-use Rattle.wc_machine.specs.Submitting.{data_change, input_link, links_from, submitted_number, submission}
+use Rattle.wc_machine.specs.Submissions.{data_change, input_link, links_from, submitted_number, submission}
 
 pub at_length : {X : Type 0} (front : List X) (x : X) (rest : List X) → slice_get (front ++ x ∷ rest) (length front) ≡ Some x
 at_length [] x rest = refl

@@ -24,7 +24,7 @@ use Rattle.wc_world.specs.Fits.{names_ascend, is_of_kind, new_fits, calls_from, 
 use Rattle.wc_world.specs.Records.{kind_of_definition, same_kind, process_node}
 use Rattle.wc_world.proofs.ReachedWorlds.{reached_is_consistent}
 use Rattle.wc_machine.specs.Laws.{HasPlaces, SubmissionsAreAccepted}
-use Rattle.wc_machine.specs.Submitting.{AreInputs, data_change, input_link, links_from, submitted_number, submission}
+use Rattle.wc_machine.specs.Submissions.{AreInputs, data_change, input_link, links_from, submitted_number, submission}
 use Rattle.wc_machine.proofs.Frames.{NoOutput, NoCallFrom, no_call_from, no_output_beyond, no_call_beyond, none_target_beyond, output_before, calls_before, settled_stays}
 use Rattle.wc_machine.proofs.Submitted.{data_node, with_nodes, new_process, new_record, new_nodes, new_links, with_library, with_process, submitted_world, data_added, process_added, number_is, submission_gives, new_definition, at_length}
 use Rattle.wc_machine.proofs.SubmittedLinks.{AreData, are_data, AreDistinct, distinct, LacksLabels, input_allowed, labels_left, calls_nothing, linked_no_output, linked_no_calls}

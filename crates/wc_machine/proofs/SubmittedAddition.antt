@@ -5,7 +5,7 @@ use Rattle.wc_semantics.specs.Rules.{Values}
 use Rattle.wc_state.specs.declared.record.ProcessKind.{ProcessKind}
 use Rattle.wc_world.specs.World.{World}
 use Rattle.wc_world.specs.Records.{kind_of_definition}
-use Rattle.wc_machine.specs.Submitting.{input_link, submitted_number}
+use Rattle.wc_machine.specs.Submissions.{input_link, submitted_number}
 use Rattle.wc_machine.proofs.OneMore.{Addition}
 use Rattle.wc_machine.proofs.Submitted.{new_process, new_nodes, new_links}
 use Rattle.wc_machine.proofs.SubmittedLinks.{linked_no_output, linked_no_calls, linked_no_input}

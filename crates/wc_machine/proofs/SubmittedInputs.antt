@@ -22,7 +22,7 @@ use Rattle.wc_state.specs.declared.record.ProcessKind.{ProcessKind}
 use Rattle.wc_state.specs.declared.record.ProcessKind.TheVariants as kind
 use Rattle.wc_world.specs.Records.{takes_input}
 use Rattle.wc_world.specs.Trees.{NamedValues, data_of, value_of, with_value, inputs_after, values_alone}
-use Rattle.wc_machine.specs.Submitting.{input_link}
+use Rattle.wc_machine.specs.Submissions.{input_link}
 use Rattle.wc_machine.proofs.Frames.{inputs_append, inputs_untouched, no_input_beyond}
 use Rattle.wc_machine.proofs.Submitted.{linked}
 use Rattle.wc_machine.proofs.SubmittedLinks.{AreData}

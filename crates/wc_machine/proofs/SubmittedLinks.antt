@@ -23,7 +23,7 @@ use Rattle.wc_semantics.specs.Rules.{Values}
 use Rattle.wc_state.specs.declared.record.ProcessKind.{ProcessKind}
 use Rattle.wc_state.specs.declared.record.ProcessKind.TheVariants as kind
 use Rattle.wc_world.specs.Records.{calls, gives_output, takes_input, is_input_of, is_output_of, process_node}
-use Rattle.wc_machine.specs.Submitting.{input_link}
+use Rattle.wc_machine.specs.Submissions.{input_link}
 use Rattle.wc_machine.proofs.Frames.{and_false, NoInput, NoOutput, NoCalls}
 use Rattle.wc_machine.proofs.Submitted.{at_length, data_node, linked}
 

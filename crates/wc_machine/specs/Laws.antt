@@ -19,14 +19,14 @@ use Rattle.wc_world.specs.Consistent.{IsConsistent}
 use Rattle.wc_world.specs.Records.{find_record, is_calculation}
 use Rattle.wc_machine.specs.declared.answer.TaskAnswer.{TaskAnswer}
 use Rattle.wc_machine.specs.declared.answer.TaskAnswer.TheVariants as answer
-use Rattle.wc_machine.specs.Asking.{need, fits, fits_task}
+use Rattle.wc_machine.specs.Questions.{need, fits, fits_task}
 use Rattle.wc_machine.specs.Continues.{Continues}
-use Rattle.wc_machine.specs.Ending.{ends}
+use Rattle.wc_machine.specs.Ends.{ends}
 use Rattle.wc_machine.specs.Recorded.{its_definition, recorded_inputs}
 use Rattle.wc_machine.specs.Sound.{CallsAreKept, IsSound}
-use Rattle.wc_machine.specs.Submitting.{Submits, submitted_number}
+use Rattle.wc_machine.specs.Submissions.{Submits, submitted_number}
 use Rattle.wc_machine.specs.Tasks.{Moved, after}
-use Rattle.wc_machine.specs.Turning.{TurnGives}
+use Rattle.wc_machine.specs.Turns.{TurnGives}
 
 -- there is room for nodes up to this number, and for one batch more
 pub record HasPlaces (w : World) (last : ℕ) : Type 0 where

@@ -11,10 +11,10 @@ use Rattle.wc_world.specs.World.{World}
 use Rattle.wc_world.specs.Records.{find_record, has_ended}
 use Rattle.wc_world.specs.Applied.{applied}
 use Rattle.wc_machine.specs.declared.answer.TaskAnswer.{TaskAnswer}
-use Rattle.wc_machine.specs.Killing.{kill_changes}
+use Rattle.wc_machine.specs.Kills.{kill_changes}
 use Rattle.wc_machine.specs.Readiness.{is_ready}
-use Rattle.wc_machine.specs.Submitting.{Submits}
-use Rattle.wc_machine.specs.Turning.{TurnGives}
+use Rattle.wc_machine.specs.Submissions.{Submits}
+use Rattle.wc_machine.specs.Turns.{TurnGives}
 
 pub data Event : Type 0 where
   -- a definition of a library is submitted with inputs; the names with caching on ascend

@@ -12,7 +12,7 @@ use Rattle.wc_world.specs.declared.change.Change.{Change}
 use Rattle.wc_world.specs.World.{World}
 use Rattle.wc_world.specs.Applied.{applied}
 use Rattle.wc_world.specs.Records.{find_record, has_ended}
-use Rattle.wc_machine.specs.Submitting.{Submits}
+use Rattle.wc_machine.specs.Submissions.{Submits}
 use Rattle.wc_machine.specs.declared.error.TurnError.{TurnError}
 use Rattle.wc_machine.specs.declared.error.TurnError.TheVariants as error
 

@@ -29,10 +29,10 @@ use Rattle.wc_world.specs.Consistent.{IsConsistent}
 use Rattle.wc_machine.specs.Paths.{call_links, kills}
 use Rattle.wc_machine.specs.Recorded.{its_definition, recorded_inputs, recorded_request}
 use Rattle.wc_machine.specs.Created.{IsCreatedByInputs}
-use Rattle.wc_machine.specs.Submitting.{IsKeptLibrary}
+use Rattle.wc_machine.specs.Submissions.{IsKeptLibrary}
 use Rattle.wc_machine.specs.Sources.{KeepsCacheRule}
-use Rattle.wc_machine.specs.Agreeing.{Agrees}
-use Rattle.wc_machine.specs.Resting.{GivesTree, meant, is_awaited, bound_calls, IsOnTrack}
+use Rattle.wc_machine.specs.Agreement.{Agrees}
+use Rattle.wc_machine.specs.Rest.{GivesTree, meant, is_awaited, bound_calls, IsOnTrack}
 
 -- ---- links
 

@@ -1,7 +1,7 @@
 //! How what a process takes is linked to it.
 
 ghost use Rattle.std.specs.Prelude.{◌≡◌};
-ghost use Rattle.wc_machine.specs.Submitting.{input_link};
+ghost use Rattle.wc_machine.specs.Submissions.{input_link};
 
 use wc_graph::LinkType;
 use wc_state::ProcessKind;

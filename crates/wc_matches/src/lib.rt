@@ -4,8 +4,8 @@
 mod found;
 mod laws;
 mod level;
+mod nodes;
 mod numbers;
-mod passing;
 mod search;
 mod sets;
 mod text;
@@ -15,5 +15,5 @@ pub use laws::{
     first_rows_are_one, last_level_matches, levels_go_on, names_are_read, rows_are_found,
 };
 pub use level::Rows;
-pub use passing::meets;
+pub use nodes::meets;
 pub use text::rows_text;

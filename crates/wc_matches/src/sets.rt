@@ -4,8 +4,8 @@ ghost use Rattle.std.specs.Prelude.{◌≡◌, ◌&&◌, ◌<◌, ◌≤◌, ◌
 ghost use Rattle.wc_matches.specs.Meets.{meets};
 ghost use Rattle.wc_matches.specs.Sets.{LeadsToMarked, IsSet, AreSets};
 
+use crate::nodes::meets;
 use crate::numbers::{is_marked, numbers};
-use crate::passing::meets;
 use crate::search::joined;
 use std::alloc::{AllocError, Global};
 use wc_graph::Graph;

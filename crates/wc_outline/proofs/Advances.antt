@@ -42,9 +42,9 @@ use Rattle.wc_semantics.specs.Rules.{Values, is_taken, status_of}
 use Rattle.wc_semantics.specs.Run.{picked}
 use Rattle.wc_semantics.specs.Statements.{keyed, with_key}
 use Rattle.wc_semantics.specs.Tables.{Label as OutLabel}
-use Rattle.wc_machine.specs.Advancing.{past, at_head, first_block, numbered_arms, after_arms, other_number, chosen, turned, after_step, done, does, at_innermost, advance, popped}
+use Rattle.wc_machine.specs.Advances.{past, at_head, first_block, numbered_arms, after_arms, other_number, chosen, turned, after_step, done, does, at_innermost, advance, popped}
 use Rattle.wc_machine.specs.Outlines.{Blocks, blocks, block_of}
-use Rattle.wc_machine.specs.Stepping.{Argument, Call, Noted, Stepped, stops, makes, values_in, output_node, node_in, named_node, or_wrong, fitting_node, output, or_plain, arguments, or_stops, exits, with_plain, with_output, with_call, planned, collected, statements}
+use Rattle.wc_machine.specs.Steps.{Argument, Call, Noted, Stepped, stops, makes, values_in, output_node, node_in, named_node, or_wrong, fitting_node, output, or_plain, arguments, or_stops, exits, with_plain, with_output, with_call, planned, collected, statements}
 use Rattle.wc_outline.specs.Agreement.{AgreeOn, Agree}
 use Rattle.wc_outline.specs.Keys.{mentions_of_form, arm_mentions, level_mentions}
 use Rattle.wc_outline.specs.Places.{front_of, standing}

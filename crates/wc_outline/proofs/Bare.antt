@@ -44,9 +44,9 @@ use Rattle.wc_semantics.specs.Laws.{arm_block, condition}
 use Rattle.wc_semantics.specs.Meaning.{kinds_of, is_good, takes_inputs, takes_of}
 use Rattle.wc_semantics.specs.Run.{picked, returned}
 use Rattle.wc_semantics.proofs.Bare.{inputs_bare, named_bare}
-use Rattle.wc_machine.specs.Advancing.{Advanced, ends, past, at_head, first_block, numbered_arms, after_arms, other_number, chosen, turned, after_step, done, does, at_innermost, advance, popped}
+use Rattle.wc_machine.specs.Advances.{Advanced, ends, past, at_head, first_block, numbered_arms, after_arms, other_number, chosen, turned, after_step, done, does, at_innermost, advance, popped}
 use Rattle.wc_machine.specs.Outlines.{Blocks, blocks, block_of}
-use Rattle.wc_machine.specs.Stepping.{Argument, values_in, output_node, node_in, named_node, or_wrong, fitting_node, output, or_plain, arguments, Noted, or_stops, exits, with_plain, with_output, with_call, planned, collected, statements}
+use Rattle.wc_machine.specs.Steps.{Argument, values_in, output_node, node_in, named_node, or_wrong, fitting_node, output, or_plain, arguments, Noted, or_stops, exits, with_plain, with_output, with_call, planned, collected, statements}
 use Rattle.wc_outline.specs.Places.{chain_of}
 use Rattle.wc_outline.specs.Shown.{shown}
 use Rattle.wc_outline.proofs.BareBlocks.{bare_all, bare_opened, instr_opened, arm_condition, arm_count, blocks_bare, get_map, found_bare, popped_bare, first_bare}

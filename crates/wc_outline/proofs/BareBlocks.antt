@@ -11,7 +11,7 @@ use Rattle.wc_state.specs.declared.record.Frame.{Frame}
 use Rattle.wc_semantics.specs.Laws.{arm_block, condition}
 use Rattle.wc_semantics.specs.Run.{instrs}
 use Rattle.wc_semantics.proofs.Induction.{AllOf, Inside, every_block, every_instr}
-use Rattle.wc_machine.specs.Advancing.{is_done, popped, block_count, first_block}
+use Rattle.wc_machine.specs.Advances.{is_done, popped, block_count, first_block}
 use Rattle.wc_machine.specs.Outlines.{Blocks, blocks, blocks_in, block_of}
 use Rattle.wc_turn_laws.proofs.Numbering.{arm_blocks, opened_blocks, blocks_in_are, listed, blocks_are}
 

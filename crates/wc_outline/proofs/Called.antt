@@ -16,8 +16,8 @@ use Rattle.wc_expression.specs.declared.outcome.Outcome.TheVariants.{Gives, Faul
 use Rattle.wc_expression.specs.Outcomes.{◌>>=◌, mapped}
 use Rattle.wc_expression.specs.Val.{val}
 use Rattle.wc_semantics.specs.Meaning.{is_good, takes_inputs, takes_of}
-use Rattle.wc_machine.specs.Stepping as stepping
-use Rattle.wc_machine.specs.Stepping.{value_of, values_in, named_node, or_plain, arguments}
+use Rattle.wc_machine.specs.Steps as stepping
+use Rattle.wc_machine.specs.Steps.{value_of, values_in, named_node, or_plain, arguments}
 use Rattle.wc_outline.specs.declared.arguments.Gathered.{Gathered}
 use Rattle.wc_outline.specs.declared.calls.Argument.{Argument}
 use Rattle.wc_outline.specs.Arguments.{takes_at, with_argument, arguments_from, judged, taken_arguments, unless}

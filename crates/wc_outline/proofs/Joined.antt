@@ -6,7 +6,7 @@ use Rattle.std.proofs.lemmas.Slice.Eq.{bytes_eq-Decides}
 use Rattle.wc_state.specs.Context.{Pairs, found_at, with_set}
 use Rattle.wc_state.specs.declared.context.CtxRef.{CtxRef}
 use Rattle.wc_state.specs.declared.context.CtxRef.TheVariants as held
-use Rattle.wc_machine.specs.Calling.{joined}
+use Rattle.wc_machine.specs.Calls.{joined}
 
 itself : (key : List ℕ) → bytes_eq key key ≡ true
 itself key = (bytes_eq-Decides key key).1 refl

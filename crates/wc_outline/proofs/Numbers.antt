@@ -8,7 +8,7 @@ use Rattle.wc_syntax.specs.declared.outline.Block.{Block}
 use Rattle.wc_syntax.specs.declared.outline.Instr.{Instr}
 use Rattle.wc_syntax.specs.declared.outline.Instr.TheVariants as instr
 use Rattle.wc_state.specs.declared.record.Frame.{Frame}
-use Rattle.wc_machine.specs.Advancing.{block_count}
+use Rattle.wc_machine.specs.Advances.{block_count}
 use Rattle.wc_machine.specs.Outlines.{Blocks, blocks, blocks_in, block_of}
 use Rattle.wc_turn_laws.proofs.Numbering.{blocks_are, entered}
 use Rattle.wc_outline.specs.Places.{Standing, front_of, standing, first_number, if_blocks, Fit}

@@ -8,8 +8,8 @@ use Rattle.wc_state.specs.declared.environment.Env.{Env}
 use Rattle.wc_state.specs.declared.environment.NodeValue.{NodeValue}
 use Rattle.wc_state.specs.declared.record.Checkpoint.{Checkpoint}
 use Rattle.wc_semantics.specs.Meaning.{ended}
-use Rattle.wc_machine.specs.Advancing.{Advanced, goes, loops, submits, ends, advance}
-use Rattle.wc_machine.specs.Stepping.{Argument, node, plain, Call}
+use Rattle.wc_machine.specs.Advances.{Advanced, goes, loops, submits, ends, advance}
+use Rattle.wc_machine.specs.Steps.{Argument, node, plain, Call}
 use Rattle.wc_turn_laws.specs.OutlineLaws.{remains}
 use Rattle.wc_turn_laws.specs.Nodes.{InArgument, InCall, HoldsAfter}
 use Rattle.wc_turn_laws.specs.View.{View, env_in}

@@ -12,7 +12,7 @@ use Rattle.wc_expression.specs.declared.outcome.Outcome.{Outcome}
 use Rattle.wc_expression.specs.declared.outcome.Outcome.TheVariants.{Gives, Faults}
 use Rattle.wc_expression.specs.Outcomes.{◌>>=◌}
 use Rattle.wc_expression.specs.Val.{holds}
-use Rattle.wc_machine.specs.Advancing.{block_count}
+use Rattle.wc_machine.specs.Advances.{block_count}
 use Rattle.wc_machine.specs.Outlines.{Blocks, blocks, blocks_in}
 use Rattle.wc_outline.specs.Places.{behind, picked_from}
 

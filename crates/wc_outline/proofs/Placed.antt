@@ -21,12 +21,12 @@ use Rattle.wc_expression.specs.declared.outcome.Outcome.TheVariants.{Gives, Faul
 use Rattle.wc_expression.specs.Val.{holds}
 use Rattle.wc_semantics.specs.Meaning.{kinds_of, takes_of}
 use Rattle.wc_semantics.specs.Run.{picked, returned}
-use Rattle.wc_machine.specs.Advancing.{ends, past, at_head, numbered_arms, after_arms, other_number, chosen, turned, done, does, at_innermost}
+use Rattle.wc_machine.specs.Advances.{ends, past, at_head, numbered_arms, after_arms, other_number, chosen, turned, done, does, at_innermost}
 use Rattle.wc_machine.specs.Outlines.{Blocks, block_of}
-use Rattle.wc_machine.specs.Stepping as machine
-use Rattle.wc_machine.specs.Stepping.{statements}
-use Rattle.wc_outline.specs.declared.answering.Next.{Next}
-use Rattle.wc_outline.specs.declared.answering.Next.TheVariants as next
+use Rattle.wc_machine.specs.Steps as machine
+use Rattle.wc_machine.specs.Steps.{statements}
+use Rattle.wc_outline.specs.declared.answer.Next.{Next}
+use Rattle.wc_outline.specs.declared.answer.Next.TheVariants as next
 use Rattle.wc_outline.specs.declared.calls.Advanced.{Advanced as Answered}
 use Rattle.wc_outline.specs.declared.calls.Advanced.TheVariants as advanced
 use Rattle.wc_outline.specs.declared.statements.Noted.{Noted}

@@ -5,7 +5,7 @@ use Rattle.std.specs.Prelude.{reverse, if◌then◌else◌, option_map, slice_ge
 use Rattle.std.proofs.lemmas.List.{reverse-append, reverse-reverse}
 use Rattle.wc_syntax.specs.declared.outline.Instr.{Instr}
 use Rattle.wc_state.specs.declared.record.Frame.{Frame}
-use Rattle.wc_machine.specs.Advancing.{is_done, popped}
+use Rattle.wc_machine.specs.Advances.{is_done, popped}
 use Rattle.wc_machine.specs.Outlines.{Blocks, block_of}
 use Rattle.wc_outline.specs.Places.{behind, front_of, standing}
 use Rattle.wc_outline.proofs.Gathered.{take_next}

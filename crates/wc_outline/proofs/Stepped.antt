@@ -17,9 +17,9 @@ use Rattle.wc_expression.specs.Outcomes.{◌>>=◌, mapped}
 use Rattle.wc_expression.specs.Val.{val}
 use Rattle.wc_semantics.specs.Rules.{is_taken, status_of}
 use Rattle.wc_semantics.specs.Meaning.{kinds_of, takes_of}
-use Rattle.wc_machine.specs.Advancing.{after_step}
-use Rattle.wc_machine.specs.Stepping as machine
-use Rattle.wc_machine.specs.Stepping.{values_in, arguments, output, exits, collected}
+use Rattle.wc_machine.specs.Advances.{after_step}
+use Rattle.wc_machine.specs.Steps as machine
+use Rattle.wc_machine.specs.Steps.{values_in, arguments, output, exits, collected}
 use Rattle.wc_outline.specs.declared.calls.Call.{Call}
 use Rattle.wc_outline.specs.declared.statements.Noted.{Noted}
 use Rattle.wc_outline.specs.declared.statements.Scene.{Scene}

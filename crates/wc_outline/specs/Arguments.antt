@@ -15,8 +15,8 @@ use Rattle.wc_expression.specs.Outcomes.{◌>>=◌}
 use Rattle.wc_expression.specs.Val.{val}
 use Rattle.wc_semantics.specs.Rules.{Values}
 use Rattle.wc_semantics.specs.Meaning.{is_good}
-use Rattle.wc_machine.specs.Stepping as machine
-use Rattle.wc_machine.specs.Stepping.{value_of, values_in, named_node, or_plain, arguments}
+use Rattle.wc_machine.specs.Steps as machine
+use Rattle.wc_machine.specs.Steps.{value_of, values_in, named_node, or_plain, arguments}
 use Rattle.wc_outline.specs.declared.arguments.Gathered.{Gathered}
 use Rattle.wc_outline.specs.declared.calls.Argument.{Argument}
 use Rattle.wc_outline.specs.Shown.{shown_argument, shown_arguments}

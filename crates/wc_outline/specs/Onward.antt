@@ -8,8 +8,8 @@ use Rattle.wc_semantics.specs.Meaning.{ended, around, within}
 use Rattle.wc_semantics.specs.Run.{Around}
 use Rattle.wc_semantics.specs.Tables.{Table, Kills}
 use Rattle.wc_machine.specs.Trees.{NamedValues}
-use Rattle.wc_machine.specs.Advancing as machine
-use Rattle.wc_machine.specs.Stepping as stepping
+use Rattle.wc_machine.specs.Advances as machine
+use Rattle.wc_machine.specs.Steps as stepping
 use Rattle.wc_turn_laws.specs.Instead.{MadeCalls}
 use Rattle.wc_turn_laws.specs.OutlineLaws.{run_on, remains}
 use Rattle.wc_turn_laws.specs.View.{View, IsSeenRight, env_in}

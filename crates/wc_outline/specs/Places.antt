@@ -11,7 +11,7 @@ use Rattle.wc_state.specs.declared.environment.Env.{Env}
 use Rattle.wc_state.specs.declared.record.Frame.{Frame}
 use Rattle.wc_expression.specs.declared.outcome.Outcome.{Outcome}
 use Rattle.wc_semantics.specs.Run.{picked}
-use Rattle.wc_machine.specs.Advancing.{block_count, numbered_arms, after_arms, other_number}
+use Rattle.wc_machine.specs.Advances.{block_count, numbered_arms, after_arms, other_number}
 use Rattle.wc_machine.specs.Outlines.{Blocks, blocks, block_of}
 use Rattle.wc_outline.specs.declared.frames.Place.{Place}
 

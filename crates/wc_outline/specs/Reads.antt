@@ -8,7 +8,7 @@ use Rattle.wc_syntax.specs.declared.definition.Definition.{Definition}
 use Rattle.wc_state.specs.Context.{Pairs}
 use Rattle.wc_state.specs.declared.environment.Env.{Env}
 use Rattle.wc_state.specs.declared.record.Checkpoint.{Checkpoint}
-use Rattle.wc_machine.specs.Advancing.{popped, advance}
+use Rattle.wc_machine.specs.Advances.{popped, advance}
 use Rattle.wc_machine.specs.Outlines.{blocks}
 use Rattle.wc_outline.specs.Agreement.{Agree}
 use Rattle.wc_outline.specs.Keys.{mentions_key, instr_mentions}

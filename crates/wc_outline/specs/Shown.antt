@@ -1,7 +1,7 @@
 -- What the machine's advance gives, as it is answered: of a node that is passed to a call its number alone.
 use Rattle.std.specs.Prelude.{ℕ, List, map}
-use Rattle.wc_machine.specs.Advancing as machine
-use Rattle.wc_machine.specs.Stepping as stepping
+use Rattle.wc_machine.specs.Advances as machine
+use Rattle.wc_machine.specs.Steps as stepping
 use Rattle.wc_outline.specs.declared.calls.Advanced.{Advanced}
 use Rattle.wc_outline.specs.declared.calls.Advanced.TheVariants as advanced
 use Rattle.wc_outline.specs.declared.calls.Argument.{Argument}

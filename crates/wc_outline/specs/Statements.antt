@@ -24,10 +24,10 @@ use Rattle.wc_semantics.specs.Meaning.{kinds_of, takes_of}
 use Rattle.wc_semantics.specs.Run.{label}
 use Rattle.wc_semantics.specs.Statements.{with_key}
 use Rattle.wc_semantics.specs.Tables.{Label}
-use Rattle.wc_machine.specs.Advancing.{entered}
-use Rattle.wc_machine.specs.Stepping.{output}
-use Rattle.wc_outline.specs.declared.answering.Next.{Next}
-use Rattle.wc_outline.specs.declared.answering.Next.TheVariants as next
+use Rattle.wc_machine.specs.Advances.{entered}
+use Rattle.wc_machine.specs.Steps.{output}
+use Rattle.wc_outline.specs.declared.answer.Next.{Next}
+use Rattle.wc_outline.specs.declared.answer.Next.TheVariants as next
 use Rattle.wc_outline.specs.declared.calls.Advanced.{Advanced}
 use Rattle.wc_outline.specs.declared.calls.Advanced.TheVariants as advanced
 use Rattle.wc_outline.specs.declared.calls.Argument.{Argument}

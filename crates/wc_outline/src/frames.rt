@@ -1,7 +1,7 @@
 //! The frames of a checkpoint.
 
 ghost use Rattle.std.specs.Prelude.{◌≡◌, ◌^◌, ◌<◌, ◌≤◌, ◌∷◌, length, take, reverse, option_map, IfSome};
-ghost use Rattle.wc_machine.specs.Advancing.{is_done, popped};
+ghost use Rattle.wc_machine.specs.Advances.{is_done, popped};
 ghost use Rattle.wc_outline.specs.Places.{behind, seen, standing};
 
 use wc_state::Frame;

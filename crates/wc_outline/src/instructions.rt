@@ -6,13 +6,13 @@ ghost use Rattle.wc_state.specs.declared.record.Await.{Await};
 ghost use Rattle.wc_state.specs.declared.record.Checkpoint.{Checkpoint};
 ghost use Rattle.wc_expression.specs.Val.{holds};
 ghost use Rattle.wc_semantics.specs.Run.{returned};
-ghost use Rattle.wc_machine.specs.Advancing.{past, at_head, done};
+ghost use Rattle.wc_machine.specs.Advances.{past, at_head, done};
 ghost use Rattle.wc_machine.specs.Outlines.{Blocks, blocks_in};
 ghost use Rattle.wc_outline.specs.Places.{first_number, front_of, picked_from, if_blocks, Fit};
 ghost use Rattle.wc_outline.specs.Shown.{shown};
 ghost use Rattle.wc_outline.specs.Statements.{chosen_next, turned_next, statements_in, came_to, answered, IsUnnoted};
 
-use crate::answering::Next;
+use crate::answer::Next;
 use crate::blocks::{number_behind, put_block, put_blocks};
 use crate::frames::Place;
 use crate::statements::{Noted, Scene, run_statements};

@@ -6,7 +6,7 @@ ghost use Rattle.wc_syntax.specs.declared.expression.Form.TheOpen.{Form-F};
 ghost use Rattle.wc_syntax.specs.declared.expression.ChildPart.TheVariants.{Outputs};
 ghost use Rattle.wc_expression.specs.Outcomes.{mapped, found};
 ghost use Rattle.wc_semantics.specs.Rules.{kind_of_port};
-ghost use Rattle.wc_machine.specs.Stepping.{node_in, named_node, output};
+ghost use Rattle.wc_machine.specs.Steps.{node_in, named_node, output};
 
 use std::alloc::{AllocError, Global};
 use wc_expression::{Outcome, eval, find_child, find_children, find_item};

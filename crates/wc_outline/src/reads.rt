@@ -7,7 +7,7 @@ ghost use Rattle.wc_outline.specs.Keys.{instr_mentions, mentions_key};
 ghost use Rattle.wc_outline.specs.Places.{chain_of};
 ghost use Rattle.wc_outline.specs.Reads.{context_read, mentioned_of, IsRead};
 
-use crate::advancing::the_chain;
+use crate::advances::the_chain;
 use crate::blocks::put_block;
 use crate::frames::place_of;
 use crate::keys::instr_mentions_key;

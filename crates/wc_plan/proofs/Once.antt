@@ -125,10 +125,10 @@ one_submission told file name given inputs (Ok t) p q h a b = a.2 ∙ ap (plan_o
 -- words plan one thing
 pub one_plan : (told : Option (List ℕ → Option (List ℕ))) (command : Option Command) (p q : Plan) → IsSome told → Plans told command p → Plans told command q → p ≡ q
 one_plan told None p q h a b = a ∙ sym b
-one_plan told (Some (Check file)) p q h a b = a.2 ∙ ap (λ (r : Read). plan.Told (owed_check r)) (one_from told file a.0 b.0 h a.1 b.1) ∙ sym b.2
+one_plan told (Some (Check file)) p q h a b = a.2 ∙ ap (λ (r : Read). plan.Reply (owed_check r)) (one_from told file a.0 b.0 h a.1 b.1) ∙ sym b.2
 one_plan told (Some (Dry file name given inputs table fuel)) p q h a b =
     let t : Trial = record { name = name; given = given; inputs = inputs; table = table; fuel = fuel } in
-    a.4 ∙ ap (λ (r : Reply). plan.Told r) (one_dry told t file a.0 b.0 a.2 b.2 h a.1 b.1 a.3 b.3) ∙ sym b.4
+    a.4 ∙ ap (λ (r : Reply). plan.Reply r) (one_dry told t file a.0 b.0 a.2 b.2 h a.1 b.1 a.3 b.3) ∙ sym b.4
 one_plan told (Some Init) p q h a b = a ∙ sym b
 one_plan told (Some (Submit file name given inputs settings)) p q h a b =
     let same : b.0 ≡ a.0 = settings_from told settings b.0 a.0 h b.1 a.1 in

@@ -47,7 +47,7 @@ is_replied status.WriteFault h = h
 is_replied (status.Full what count limit) h = absurd h
 is_replied (status.Unsound f) h = absurd h
 
-same_reply : (r s : Reply) → plan.Told r ≡ plan.Told s → r ≡ s
+same_reply : (r s : Reply) → plan.Reply r ≡ plan.Reply s → r ≡ s
 same_reply r s is = cc
 
 -- so was each reply for which no disk is asked
@@ -88,21 +88,21 @@ check_replied (read.Refused c) = tt
 check_replied (read.Library library) = tt
 
 -- a prepared submission that is refused
-prepared_replied : (t : Settings) (p : Prepared) (r : Reply) → plan_of_prepared t p ≡ plan.Told r → HasReplied r
+prepared_replied : (t : Settings) (p : Prepared) (r : Reply) → plan_of_prepared t p ≡ plan.Reply r → HasReplied r
 prepared_replied t (prepared.Refused c) r is = subst HasReplied (same_reply (refuses c) r is) tt
 prepared_replied t (prepared.Submits i) r is = absurd (cc)
 
 submission_replied : (told : Option (List ℕ → Option (List ℕ))) (file name : List ℕ) (given : List (List ℕ × List ℕ)) (inputs : Option (List ℕ)) (s : Result Settings Cause) (r : Reply)
-    → PlansSubmission told file name given inputs s (plan.Told r) → HasReplied r
+    → PlansSubmission told file name given inputs s (plan.Reply r) → HasReplied r
 submission_replied told file name given inputs (Err c) r p = subst HasReplied (same_reply (refuses c) r (sym p)) tt
 submission_replied told file name given inputs (Ok t) r p = prepared_replied t p.0 r (sym p.2)
 
 -- a run that is refused
-run_refused : (turns seed : ℕ) (s : Result Settings Cause) (r : Reply) → plan_of_run turns seed s ≡ plan.Told r → HasReplied r
+run_refused : (turns seed : ℕ) (s : Result Settings Cause) (r : Reply) → plan_of_run turns seed s ≡ plan.Reply r → HasReplied r
 run_refused turns seed (Err c) r is = subst HasReplied (same_reply (refuses c) r is) tt
 run_refused turns seed (Ok t) r is = absurd (cc)
 
-pub told_replied : (told : Option (List ℕ → Option (List ℕ))) (command : Option Command) (r : Reply) → Plans told command (plan.Told r) → HasReplied r
+pub told_replied : (told : Option (List ℕ → Option (List ℕ))) (command : Option Command) (r : Reply) → Plans told command (plan.Reply r) → HasReplied r
 told_replied told None r p = subst HasReplied (same_reply (refuses cause.Words) r (sym p)) tt
 told_replied told (Some (Check file)) r p = subst HasReplied (same_reply (owed_check p.0) r (sym p.2)) (check_replied p.0)
 told_replied told (Some (Dry file name given inputs table fuel)) r p =

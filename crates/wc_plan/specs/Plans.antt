@@ -32,12 +32,12 @@ on w = plan.On (deed.Work w)
 
 -- a refusal, or that a process is submitted with these settings
 abbrev pub plan_of_prepared : Settings → Prepared → Plan
-plan_of_prepared t (prepared.Refused c) = plan.Told (refuses c)
+plan_of_prepared t (prepared.Refused c) = plan.Reply (refuses c)
 plan_of_prepared t (prepared.Submits i) = on (work.Event (asked.Submit (submitted_with t i)))
 
 -- with these settings, which come before the workflow file
 abbrev pub PlansSubmission : Option (List ℕ → Option (List ℕ)) → List ℕ → List ℕ → List (List ℕ × List ℕ) → Option (List ℕ) → Result Settings Cause → Plan → Type 0
-PlansSubmission told file name given inputs (Err c) p = p ≡ plan.Told (refuses c)
+PlansSubmission told file name given inputs (Err c) p = p ≡ plan.Reply (refuses c)
 PlansSubmission told file name given inputs (Ok t) p = (q : Prepared) × PreparesFrom told file name given inputs q × (p ≡ plan_of_prepared t q)
 
 -- a seed in 32 bits; words give none that is greater
@@ -46,7 +46,7 @@ seed_of seed = min seed 4294967295
 
 -- a refusal, or a run within the limits of these settings
 abbrev pub plan_of_run : (turns seed : ℕ) → Result Settings Cause → Plan
-plan_of_run turns seed (Err c) = plan.Told (refuses c)
+plan_of_run turns seed (Err c) = plan.Reply (refuses c)
 plan_of_run turns seed (Ok t) = on (work.Run (record { turns = turns; seed = seed_of seed; limits = t.limits }))
 
 -- how many chains a drill may run at most; words give none that are more
@@ -55,10 +55,10 @@ chains_of count = min count 10000
 
 -- Words that are this command, or are none, plan this, on a shelf that tells this.
 abbrev pub Plans : Option (List ℕ → Option (List ℕ)) → Option Command → Plan → Type 0
-Plans told None p = p ≡ plan.Told (refuses cause.Words)
-Plans told (Some (Check file)) p = (r : Read) × ReadsFrom told file r × (p ≡ plan.Told (owed_check r))
+Plans told None p = p ≡ plan.Reply (refuses cause.Words)
+Plans told (Some (Check file)) p = (r : Read) × ReadsFrom told file r × (p ≡ plan.Reply (owed_check r))
 Plans told (Some (Dry file name given inputs table fuel)) p = (r : Read) × ReadsFrom told file r × (reply : Reply)
-    × OwesDry told (record { name = name; given = given; inputs = inputs; table = table; fuel = fuel }) r reply × (p ≡ plan.Told reply)
+    × OwesDry told (record { name = name; given = given; inputs = inputs; table = table; fuel = fuel }) r reply × (p ≡ plan.Reply reply)
 Plans told (Some Init) p = p ≡ plan.On (deed.Begin begin.Init)
 Plans told (Some (Submit file name given inputs settings)) p =
     (s : Result Settings Cause) × SettingsFrom told settings s × PlansSubmission told file name given inputs s p
@@ -100,5 +100,5 @@ IsReadyDeed (deed.Begin b) = IsReadyBegin b
 IsReadyDeed (deed.Work w) = IsReadyWork w
 
 abbrev pub IsReadyPlan : Plan → Type 0
-IsReadyPlan (plan.Told r) = Unit {0}
+IsReadyPlan (plan.Reply r) = Unit {0}
 IsReadyPlan (plan.On d) = IsReadyDeed d

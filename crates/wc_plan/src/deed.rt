@@ -69,7 +69,7 @@ pub enum Deed {
 #[derive(Drop)]
 pub enum Plan {
     /// A reply, with no store.
-    Told(Reply),
+    Reply(Reply),
     /// Something that is done with the disks.
     On(Deed),
 }

@@ -59,7 +59,7 @@ fn plan_of_prepared(
     ensures ready { IfOk result (λ p. IsReadyPlan p) }
 {
     match prepared {
-        Prepared::Refused(cause) => Ok(Plan::Told(refuse(alloc, cause)?)),
+        Prepared::Refused(cause) => Ok(Plan::Reply(refuse(alloc, cause)?)),
         Prepared::Submits(invocation) => {
             let submission = submitted_with(alloc, settings, invocation)?;
             Ok(Plan::On(Deed::Work(Work::Event(Asked::Submit(submission)))))
@@ -86,7 +86,7 @@ fn plan_submission<R: Shelf>(
     ensures named { AsksFirst (file.now ∷ given_file inputs.now) (R.asked shelf.old) (R.asked shelf.new) }
 {
     match settings {
-        Err(cause) => Ok(Plan::Told(refuse(alloc, cause)?)),
+        Err(cause) => Ok(Plan::Reply(refuse(alloc, cause)?)),
         Ok(settings) => {
             let prepared = prepare(alloc, shelf, file, name, given, inputs)?;
             Ok(plan_of_prepared(alloc, &settings, prepared)?)
@@ -121,7 +121,7 @@ fn plan_of_run(
     ensures ready { IfOk result (λ p. IsReadyPlan p) }
 {
     match settings {
-        Err(cause) => Ok(Plan::Told(refuse(alloc, cause)?)),
+        Err(cause) => Ok(Plan::Reply(refuse(alloc, cause)?)),
         Ok(settings) => Ok(Plan::On(Deed::Work(Work::Run(RunOptions {
             turns,
             seed: seed_of(seed),
@@ -143,7 +143,7 @@ fn plan_command<R: Shelf>(alloc: Global, command: Command, shelf: &mut R) -> Res
     match command {
         Command::Check { file } => {
             let read = read_from(alloc, shelf, &file)?;
-            Ok(Plan::Told(reply_to_check(alloc, read)?))
+            Ok(Plan::Reply(reply_to_check(alloc, read)?))
         }
         Command::Dry {
             file,
@@ -161,7 +161,7 @@ fn plan_command<R: Shelf>(alloc: Global, command: Command, shelf: &mut R) -> Res
                 table,
                 fuel,
             };
-            Ok(Plan::Told(reply_to_dry(alloc, shelf, read, &trial)?))
+            Ok(Plan::Reply(reply_to_dry(alloc, shelf, read, &trial)?))
         }
         Command::Submit {
             file,
@@ -213,7 +213,7 @@ pub fn plan<R: Shelf>(alloc: Global, words: &Words, shelf: &mut R) -> Result<Pla
     ensures named { AsksFirst (files_named (command_of words.now)) (R.asked shelf.old) (R.asked shelf.new) }
 {
     match command_of(alloc, words)? {
-        None => Ok(Plan::Told(refuse(alloc, Cause::Words)?)),
+        None => Ok(Plan::Reply(refuse(alloc, Cause::Words)?)),
         Some(command) => plan_command(alloc, command, shelf),
     }
 }

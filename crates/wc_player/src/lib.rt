@@ -16,6 +16,7 @@ mod jobs;
 mod kept;
 mod machine;
 mod mistake;
+mod moves;
 mod names;
 mod number;
 mod outside;
@@ -29,7 +30,6 @@ mod simple;
 mod source;
 mod steps;
 mod sweep;
-mod taking;
 
 pub use clock::Clock;
 pub use deed::Transcript;

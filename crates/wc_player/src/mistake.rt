@@ -28,7 +28,7 @@ pub enum Mistake {
 }
 
 impl Mistake {
-    /// What is told of it.
+    /// The words that say what the mistake is.
     fn told(self) -> &'static str {
         match self {
             Mistake::OutOfMemory => "out of memory",

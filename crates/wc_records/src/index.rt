@@ -8,7 +8,7 @@ ghost use Rattle.wc_records.specs.Readiness.{is_over, is_ready, ready_at, sooner
 ghost use Rattle.wc_records.specs.Marked.{IsSorted, marked};
 ghost use Rattle.wc_records.specs.Index.{passed_by, IsIndexOf, AreCounted, AreNotAbove, is_other, without_due, with_due, HasPlaces};
 
-use crate::awaiting::passed_by;
+use crate::awaits::passed_by;
 use crate::change::SetProcess;
 use crate::in_place;
 use crate::places::{is_numbered, place_of};

@@ -3,7 +3,7 @@
 //! Contracts see records as a list and how many further ones take no memory.
 #![tactic(auto)]
 
-mod awaiting;
+mod awaits;
 mod change;
 mod copies;
 mod in_place;

@@ -13,7 +13,7 @@ use Rattle.wc_transport.specs.declared.transport.Progress.{Progress}
 use Rattle.wc_transport.specs.declared.transport.Progress.TheVariants as progress
 use Rattle.wc_machine.specs.declared.answer.TaskAnswer.{TaskAnswer}
 use Rattle.wc_machine.specs.declared.answer.TaskAnswer.TheVariants as answer
-use Rattle.wc_machine.specs.Asking.{fits_task}
+use Rattle.wc_machine.specs.Questions.{fits_task}
 use Rattle.wc_runner.specs.declared.error.RunError.{RunError}
 use Rattle.wc_runner.specs.declared.error.RunError.TheVariants.{OutOfMemory}
 use Rattle.wc_runner.specs.Asked.{MayHold, PlacesOwn}

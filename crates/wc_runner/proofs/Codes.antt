@@ -41,15 +41,15 @@ use Rattle.wc_world.proofs.FoundRecords.{found_holds}
 use Rattle.wc_world.proofs.ReachedLists.{at_one, at_one_keeps, find_mapped, found_node}
 use Rattle.wc_machine.specs.declared.answer.TaskAnswer.{TaskAnswer}
 use Rattle.wc_machine.specs.declared.answer.TaskAnswer.TheVariants as answer
-use Rattle.wc_machine.specs.Advancing.{advance}
-use Rattle.wc_machine.specs.Asking.{Need, need, need_at, performs}
+use Rattle.wc_machine.specs.Advances.{advance}
+use Rattle.wc_machine.specs.Questions.{Need, need, need_at, performs}
 use Rattle.wc_machine.specs.Continues.{Carries, Continues}
-use Rattle.wc_machine.specs.Ending as ending
+use Rattle.wc_machine.specs.Ends as ending
 use Rattle.wc_machine.specs.Machine.{turn}
 use Rattle.wc_machine.specs.Recorded.{Contents, HasResult, own, folder_of, folder_seen, its_definition, recorded_inputs, recorded_outputs, recorded_request, request_by, retrieved_folder}
 use Rattle.wc_machine.specs.Sound.{IsFitting, IsSound}
-use Rattle.wc_machine.specs.Submitting.{AreInputs}
-use Rattle.wc_machine.specs.Turning.{TurnGives, calculates, clones, begins, excepts, gives_up, moves, parses, advances, binds}
+use Rattle.wc_machine.specs.Submissions.{AreInputs}
+use Rattle.wc_machine.specs.Turns.{TurnGives, calculates, clones, begins, excepts, gives_up, moves, parses, advances, binds}
 use Rattle.wc_machine.proofs.CalculatedOutputs.{concluded_set, nothing_set, rules_set, set_more}
 use Rattle.wc_machine.proofs.Endings.{applied_ends, end_record, ended_world}
 use Rattle.wc_machine.proofs.EndedWorlds.{found_end, inputs_kept, outputs_of_end}

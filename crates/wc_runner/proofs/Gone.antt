@@ -7,7 +7,7 @@ use Rattle.wc_state.specs.declared.record.Limits.{Limits}
 use Rattle.wc_transport.specs.declared.transport.Transport as transport
 use Rattle.wc_world.specs.World.{World}
 use Rattle.wc_world.specs.Accepted.{IsReached}
-use Rattle.wc_machine.specs.Asking.{Need}
+use Rattle.wc_machine.specs.Questions.{Need}
 use Rattle.wc_machine.specs.Sound.{IsSound}
 use Rattle.wc_runner.specs.Asked.{AsksOnce, IsAsked, IsAskedFor}
 use Rattle.wc_runner.specs.Codes.{AreBrought}

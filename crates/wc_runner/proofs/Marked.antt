@@ -15,13 +15,13 @@ use Rattle.wc_world.specs.Applied.{begun, changed, keep, made, set}
 use Rattle.wc_world.specs.Records.{find_record}
 use Rattle.wc_machine.specs.declared.answer.TaskAnswer.{TaskAnswer}
 use Rattle.wc_machine.specs.declared.answer.TaskAnswer.TheVariants as answer
-use Rattle.wc_machine.specs.Advancing.{advance}
-use Rattle.wc_machine.specs.Asking.{Need, nothing, performs, need}
-use Rattle.wc_machine.specs.Ending as ending
+use Rattle.wc_machine.specs.Advances.{advance}
+use Rattle.wc_machine.specs.Questions.{Need, nothing, performs, need}
+use Rattle.wc_machine.specs.Ends as ending
 use Rattle.wc_machine.specs.Machine.{turn}
 use Rattle.wc_machine.specs.Recorded.{recorded_inputs}
 use Rattle.wc_machine.specs.Tasks.{Moved, after, saturated}
-use Rattle.wc_machine.specs.Turning.{TurnGives, calculates, clones, begins, excepts, gives_up, moves, parses, advances, binds}
+use Rattle.wc_machine.specs.Turns.{TurnGives, calculates, clones, begins, excepts, gives_up, moves, parses, advances, binds}
 use Rattle.wc_runner.specs.Marks.{AreNoWorse, IsNoWorse, fails_in}
 use Rattle.wc_runner.specs.Outside.{Outside, AnswersNeed, IsKnown}
 use Rattle.wc_runner.specs.Trips.{TurnOf, Turns, none, one_more, one_rest}

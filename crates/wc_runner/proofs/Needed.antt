@@ -9,7 +9,7 @@ use Rattle.wc_state.specs.declared.record.Task.TheVariants as task
 use Rattle.wc_transport.specs.declared.transport.Transport as transport
 use Rattle.wc_world.specs.World.{World}
 use Rattle.wc_world.specs.Records.{find_record}
-use Rattle.wc_machine.specs.Asking.{Need, nothing, performs, need}
+use Rattle.wc_machine.specs.Questions.{Need, nothing, performs, need}
 use Rattle.wc_machine.specs.declared.error.TurnError.{TurnError}
 use Rattle.wc_machine.specs.declared.error.TurnError.TheVariants as turn_error
 use Rattle.wc_core.specs.Asks.{asks_of, asks_task}

@@ -9,7 +9,7 @@ use Rattle.wc_state.specs.declared.record.Limits.{Limits}
 use Rattle.wc_state.specs.declared.record.What.{What}
 use Rattle.wc_transport.specs.declared.transport.Transport as transport
 use Rattle.wc_world.specs.World.{World}
-use Rattle.wc_machine.specs.Asking.{Need, nothing, performs}
+use Rattle.wc_machine.specs.Questions.{Need, nothing, performs}
 use Rattle.wc_core.specs.Order.{IsChosen, IsOf}
 use Rattle.wc_core.specs.declared.next.Next.TheVariants.{Turn}
 use Rattle.wc_core.specs.declared.order.Order.{Order}

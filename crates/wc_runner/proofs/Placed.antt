@@ -11,7 +11,7 @@ use Rattle.wc_world.specs.World.{World}
 use Rattle.wc_world.specs.Applied.{after_change, applied, begun, changed}
 use Rattle.wc_world.specs.Records.{find_record}
 use Rattle.wc_world.proofs.ReachedGrown.{grows}
-use Rattle.wc_machine.specs.Asking.{Need, nothing, performs}
+use Rattle.wc_machine.specs.Questions.{Need, nothing, performs}
 use Rattle.wc_runner.specs.Asked.{AreOfProcesses, PlacesFor}
 use Rattle.wc_runner.specs.Leaves.{IsOrTurnOf}
 use Rattle.wc_runner.specs.Outside.{Outside}

@@ -21,14 +21,14 @@ use Rattle.wc_world.specs.World.{World}
 use Rattle.wc_world.specs.Applied.{after_change, changed, keep, made, next_number, set}
 use Rattle.wc_world.specs.Records.{find_record}
 use Rattle.wc_world.proofs.ReachedLists.{at_one, at_one_keeps, find_mapped}
-use Rattle.wc_machine.specs.Advancing.{Advanced, goes, loops, submits, ends}
-use Rattle.wc_machine.specs.Calling.{Arguments, advanced, argument_links, called_number, calls_changes, call_changes, chain_set, kept_outputs, plain_data, returns}
-use Rattle.wc_machine.specs.Ending as ending
-use Rattle.wc_machine.specs.Ending.{creations}
+use Rattle.wc_machine.specs.Advances.{Advanced, goes, loops, submits, ends}
+use Rattle.wc_machine.specs.Calls.{Arguments, advanced, argument_links, called_number, calls_changes, call_changes, chain_set, kept_outputs, plain_data, returns}
+use Rattle.wc_machine.specs.Ends as ending
+use Rattle.wc_machine.specs.Ends.{creations}
 use Rattle.wc_machine.specs.Machine.{Event, Leads, submit, turn, pause, play, kill, turns, pauses, plays, kills}
 use Rattle.wc_machine.specs.Machine as machine
-use Rattle.wc_machine.specs.Stepping.{Call, node, plain}
-use Rattle.wc_machine.specs.Turning.{TurnGives}
+use Rattle.wc_machine.specs.Steps.{Call, node, plain}
+use Rattle.wc_machine.specs.Turns.{TurnGives}
 
 -- ---- what is set
 

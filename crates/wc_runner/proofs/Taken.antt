@@ -7,7 +7,7 @@ use Rattle.wc_state.specs.declared.record.ProcessRecord.{ProcessRecord}
 use Rattle.wc_transport.specs.declared.transport.Transport as transport
 use Rattle.wc_world.specs.World.{World}
 use Rattle.wc_world.specs.Records.{find_record}
-use Rattle.wc_machine.specs.Asking.{Need, nothing, performs, need}
+use Rattle.wc_machine.specs.Questions.{Need, nothing, performs, need}
 use Rattle.wc_machine.specs.Readiness.{is_ready}
 use Rattle.wc_core.specs.Ready.{is_ready_at, is_ready_by}
 use Rattle.wc_runner.specs.Asked.{AsksOnce, CountsAsking, IsAsked, IsAskedFor, WhatItNeeds}

@@ -5,7 +5,7 @@ use Rattle.wc_io.specs.declared.pacer.Pacer as pacer
 use Rattle.wc_state.specs.declared.record.Limits.{Limits}
 use Rattle.wc_transport.specs.declared.transport.Transport as transport
 use Rattle.wc_world.specs.World.{World}
-use Rattle.wc_machine.specs.Asking.{need}
+use Rattle.wc_machine.specs.Questions.{need}
 use Rattle.wc_machine.specs.Machine.{turn}
 use Rattle.wc_runner.specs.Asked.{AsksOnce, IsAsked}
 use Rattle.wc_runner.specs.Laws.{ComesTo}

@@ -14,7 +14,7 @@ use Rattle.wc_world.specs.Records.{find_record}
 use Rattle.wc_world.specs.Applied.{applied}
 use Rattle.wc_machine.specs.declared.answer.TaskAnswer.{TaskAnswer}
 use Rattle.wc_machine.specs.declared.answer.TaskAnswer.TheVariants as answer
-use Rattle.wc_machine.specs.Asking.{Need, nothing, performs, need}
+use Rattle.wc_machine.specs.Questions.{Need, nothing, performs, need}
 use Rattle.wc_machine.specs.Machine.{Leads, turn}
 use Rattle.wc_machine.specs.Refusals.{HasRoom, IsFull}
 use Rattle.wc_store.specs.Refusals.{RefusesCommit}

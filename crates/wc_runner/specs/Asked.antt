@@ -8,7 +8,7 @@ use Rattle.wc_transport.specs.Outside.{BothTold, MayGet, Stays}
 use Rattle.wc_transport.specs.declared.transport.Transport as transport
 use Rattle.wc_world.specs.World.{World}
 use Rattle.wc_world.specs.Records.{find_record}
-use Rattle.wc_machine.specs.Asking.{Need, nothing, performs, need}
+use Rattle.wc_machine.specs.Questions.{Need, nothing, performs, need}
 use Rattle.wc_runner.specs.declared.error.RunError.{RunError}
 use Rattle.wc_runner.specs.declared.error.RunError.TheVariants.{DiskFault, Full, OutOfMemory}
 

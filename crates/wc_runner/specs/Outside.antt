@@ -14,7 +14,7 @@ use Rattle.wc_world.specs.World.{World}
 use Rattle.wc_world.specs.Records.{find_record}
 use Rattle.wc_machine.specs.declared.answer.TaskAnswer.{TaskAnswer}
 use Rattle.wc_machine.specs.declared.answer.TaskAnswer.TheVariants as answer
-use Rattle.wc_machine.specs.Asking.{Need, nothing, performs, need}
+use Rattle.wc_machine.specs.Questions.{Need, nothing, performs, need}
 use Rattle.wc_runner.specs.declared.error.RunError.{RunError}
 use Rattle.wc_runner.specs.declared.error.RunError.TheVariants as error
 

@@ -4,7 +4,7 @@ ghost use Rattle.std.specs.Prelude.{◌≡◌, ℕ, true, IfOk, IfErr};
 ghost use Rattle.wc_io.specs.Counts.{RisesByOne};
 ghost use Rattle.wc_state.specs.declared.record.Limits.{Limits as AnyLimits};
 ghost use Rattle.wc_transport.specs.Outside.{retrieve_reply, task_reply, update_reply, error_reply};
-ghost use Rattle.wc_machine.specs.Asking.{fits_task, performs};
+ghost use Rattle.wc_machine.specs.Questions.{fits_task, performs};
 ghost use Rattle.wc_runner.specs.Asked.{IsAsked};
 ghost use Rattle.wc_runner.specs.declared.error.RunError.TheVariants.{OutOfMemory};
 ghost use Rattle.wc_runner.specs.Outside.{IsAnswer, IsGiven, in_turn};

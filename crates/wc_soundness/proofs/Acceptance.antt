@@ -26,11 +26,11 @@ use Rattle.wc_world.specs.World.{World}
 use Rattle.wc_world.proofs.After.{same_number}
 use Rattle.wc_world.proofs.ReachedGrown.{checkpoint_from}
 use Rattle.wc_world.proofs.ReachedLists.{all_at_apart, all_found, find_grown, unique}
-use Rattle.wc_machine.specs.Advancing.{advance, submits}
-use Rattle.wc_machine.specs.Calling.{advanced, awaits, called_number, calls_changes, kind_of_callee}
+use Rattle.wc_machine.specs.Advances.{advance, submits}
+use Rattle.wc_machine.specs.Calls.{advanced, awaits, called_number, calls_changes, kind_of_callee}
 use Rattle.wc_machine.specs.Laws.{HasPlaces}
-use Rattle.wc_machine.specs.Stepping.{Call}
-use Rattle.wc_machine.specs.Submitting.{input_link}
+use Rattle.wc_machine.specs.Steps.{Call}
+use Rattle.wc_machine.specs.Submissions.{input_link}
 use Rattle.wc_machine.proofs.AcceptedEnds.{live_without_output, process_is_node, settled_all}
 use Rattle.wc_machine.proofs.Frames.{calls_before, no_call_from, output_before, settled_stays}
 use Rattle.wc_machine.proofs.SubmittedAccepted.{apply_append}

@@ -19,7 +19,7 @@ use Rattle.wc_world.specs.Records.{find_record, has_ended, same_kind}
 use Rattle.wc_world.specs.World.{World}
 use Rattle.wc_world.proofs.FoundRecords.{found_holds, right}
 use Rattle.wc_world.proofs.ReachedGrown.{CheckpointFits, checkpoint_from, checkpoint_parts}
-use Rattle.wc_machine.specs.Calling.{bound, bound_in, fuel_of}
+use Rattle.wc_machine.specs.Calls.{bound, bound_in, fuel_of}
 use Rattle.wc_machine.specs.Readiness.{ended_at, is_ready, is_over, may_go}
 use Rattle.wc_machine.specs.Recorded.{its_definition}
 use Rattle.wc_machine.specs.Tasks.{saturated}

@@ -17,15 +17,15 @@ use Rattle.wc_world.specs.Records.{find_record, has_ended, kind_of_definition, p
 use Rattle.wc_world.proofs.FoundRecords.{found_holds}
 use Rattle.wc_world.proofs.ReachedWorlds.{reached_is_consistent}
 use Rattle.wc_machine.specs.declared.answer.TaskAnswer.{TaskAnswer}
-use Rattle.wc_machine.specs.Advancing.{Advanced, goes, loops, submits, ends, advance}
-use Rattle.wc_machine.specs.Calling.{advanced}
+use Rattle.wc_machine.specs.Advances.{Advanced, goes, loops, submits, ends, advance}
+use Rattle.wc_machine.specs.Calls.{advanced}
 use Rattle.wc_machine.specs.Laws.{HasPlaces}
 use Rattle.wc_machine.specs.Machine as machine
 use Rattle.wc_machine.specs.Machine.{turns, pauses, plays, kills, after_changes}
 use Rattle.wc_machine.specs.Readiness.{is_ready}
 use Rattle.wc_machine.specs.Sound.{OutputsAscend}
-use Rattle.wc_machine.specs.Submitting.{Submits, submitted_number}
-use Rattle.wc_machine.specs.Turning.{TurnGives, calculates, clones, begins, excepts, gives_up, moves, parses, advances, binds}
+use Rattle.wc_machine.specs.Submissions.{Submits, submitted_number}
+use Rattle.wc_machine.specs.Turns.{TurnGives, calculates, clones, begins, excepts, gives_up, moves, parses, advances, binds}
 use Rattle.wc_machine.proofs.Submitted.{data_node, new_nodes, submission_gives}
 use Rattle.wc_machine.proofs.SubmittedAccepted.{submissions_are_accepted}
 use Rattle.wc_soundness.specs.AcceptedLaws.{EventsAreAccepted}

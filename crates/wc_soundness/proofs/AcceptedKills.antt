@@ -21,7 +21,7 @@ use Rattle.wc_world.specs.Fits.{is_settled, unsettled}
 use Rattle.wc_world.specs.Records.{at_process, calls, find_record, has_called, has_ended, is_call_from}
 use Rattle.wc_world.proofs.FoundRecords.{IsDeeper, call_is_deeper, left, right}
 use Rattle.wc_world.proofs.ReachedLists.{all_at_apart, found_node}
-use Rattle.wc_machine.specs.Killing.{kill_changes}
+use Rattle.wc_machine.specs.Kills.{kill_changes}
 use Rattle.wc_machine.specs.Machine.{IsLive}
 use Rattle.wc_machine.proofs.AcceptedEnds.{settled_all}
 use Rattle.wc_machine.proofs.EndedTrees.{call_is_called}

@@ -24,9 +24,9 @@ use Rattle.wc_expression.specs.Val.{val, holds}
 use Rattle.wc_semantics.specs.Rules.{is_taken, status_of}
 use Rattle.wc_semantics.specs.Meaning.{kinds_of, takes_inputs, takes_of}
 use Rattle.wc_semantics.specs.Run.{picked}
-use Rattle.wc_machine.specs.Advancing.{Advanced, goes, loops, submits, ends, popped, past, at_head, first_block, numbered_arms, after_arms, other_number, chosen, turned, after_step, done, does, at_innermost, advance}
+use Rattle.wc_machine.specs.Advances.{Advanced, goes, loops, submits, ends, popped, past, at_head, first_block, numbered_arms, after_arms, other_number, chosen, turned, after_step, done, does, at_innermost, advance}
 use Rattle.wc_machine.specs.Outlines.{Blocks, blocks, block_of}
-use Rattle.wc_machine.specs.Stepping.{Argument, arguments, values_in, Noted, Stepped, stops, makes, or_stops, exits, with_plain, with_output, with_call, output, planned, collected, statements, Call}
+use Rattle.wc_machine.specs.Steps.{Argument, arguments, values_in, Noted, Stepped, stops, makes, or_stops, exits, with_plain, with_output, with_call, output, planned, collected, statements, Call}
 use Rattle.wc_turn_laws.proofs.Named.{HasNode, then_has}
 
 -- the callee is there, and another level may be called

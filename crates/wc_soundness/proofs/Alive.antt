@@ -22,9 +22,9 @@ use Rattle.wc_semantics.specs.Rules.{Values, is_taken, status_of}
 use Rattle.wc_semantics.specs.Meaning.{takes_of, kinds_of}
 use Rattle.wc_semantics.specs.Run.{picked}
 use Rattle.wc_world.specs.Records.{has_ended}
-use Rattle.wc_machine.specs.Advancing.{popped, past, at_head, first_block, numbered_arms, after_arms, other_number, chosen, turned, after_step, done, does, at_innermost}
+use Rattle.wc_machine.specs.Advances.{popped, past, at_head, first_block, numbered_arms, after_arms, other_number, chosen, turned, after_step, done, does, at_innermost}
 use Rattle.wc_machine.specs.Outlines.{Blocks, blocks, block_of}
-use Rattle.wc_machine.specs.Stepping.{Noted, Stepped, stops, makes, or_stops, exits, with_plain, with_output, with_call, output, collected, statements}
+use Rattle.wc_machine.specs.Steps.{Noted, Stepped, stops, makes, or_stops, exits, with_plain, with_output, with_call, output, collected, statements}
 use Rattle.wc_soundness.specs.EndLaws.{EndsAlive, AdvancesEndAlive}
 
 abbrev IsAlive : ProcessState → Type 0

@@ -21,7 +21,7 @@ use Rattle.wc_world.specs.Trees.{NamedValues, values_alone, inputs_of}
 use Rattle.wc_world.specs.World.{World}
 use Rattle.wc_machine.specs.Outlines.{blocks, block_of, left}
 use Rattle.wc_machine.specs.Recorded.{its_definition, recorded_inputs}
-use Rattle.wc_machine.specs.Resting.{with_stop, levels_of, meant, without_number, GivesTree}
+use Rattle.wc_machine.specs.Rest.{with_stop, levels_of, meant, without_number, GivesTree}
 use Rattle.wc_turn_laws.specs.View.{progress_in}
 use Rattle.wc_turn_laws.proofs.Numbering.{blocks_are}
 use Rattle.wc_soundness.proofs.Rests.{finishes}

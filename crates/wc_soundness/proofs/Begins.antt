@@ -28,21 +28,21 @@ use Rattle.wc_world.specs.Records.{find_record, at_process, has_ended, has_calle
 use Rattle.wc_world.proofs.FoundRecords.{found_holds}
 use Rattle.wc_world.proofs.ReachedLists.{AreUnique, unique, all_found, all_at_apart}
 use Rattle.wc_world.proofs.ReachedWorlds.{accepted_is_consistent}
-use Rattle.wc_machine.specs.Agreeing.{Agrees}
+use Rattle.wc_machine.specs.Agreement.{Agrees}
 use Rattle.wc_machine.specs.Continues.{Carries, Continues}
 use Rattle.wc_machine.specs.Recorded.{its_definition, recorded_inputs, request_by}
-use Rattle.wc_machine.specs.Resting.{has_bound, is_awaited, part_rest, rest, FitKills, GivesTree, IsOnTrack}
+use Rattle.wc_machine.specs.Rest.{has_bound, is_awaited, part_rest, rest, FitKills, GivesTree, IsOnTrack}
 use Rattle.wc_machine.specs.Sound.{IsFitting, IsPlaced, CallsAreKept, fuel_in, IsSound}
 use Rattle.wc_machine.specs.Sources.{KeepsRule, KeepsCacheRule}
-use Rattle.wc_machine.specs.Turning.{first_task}
+use Rattle.wc_machine.specs.Turns.{first_task}
 use Rattle.wc_machine.proofs.AcceptedEnds.{live_without_output}
 use Rattle.wc_machine.proofs.ContinuedEnds.{carried_itself}
 use Rattle.wc_machine.proofs.Frames.{NoCallFrom, records_below}
-use Rattle.wc_soundness.specs.Touching.{AddsFor, Touches, MayBeTouched, EndsLate, IsSoundRecord}
+use Rattle.wc_soundness.specs.Touches.{AddsFor, Touches, MayBeTouched, EndsLate, IsSoundRecord}
 use Rattle.wc_soundness.proofs.Others.{others_stay_sound, sound_by_records}
 use Rattle.wc_soundness.proofs.Touched.{tables_narrow, touching_continues}
 use Rattle.wc_soundness.specs.CachingLaws.{MayBegin, beginning, BeginningsAreAccepted, BeginningsContinue, BeginningsKeepSound}
-use Rattle.wc_soundness.specs.Starting.{EndsAreLater, StartsByRule, stays, starts}
+use Rattle.wc_soundness.specs.Starts.{EndsAreLater, StartsByRule, stays, starts}
 use Rattle.wc_soundness.proofs.AtOne.{found_other, found_one}
 use Rattle.wc_soundness.proofs.Calculations.{calls_nothing}
 use Rattle.wc_soundness.proofs.Ended.{fresh_part, takes_same, with_own}

@@ -23,11 +23,11 @@ use Rattle.wc_world.specs.Records.{find_record, has_called, has_ended, is_call_f
 use Rattle.wc_world.proofs.FoundRecords.{found_holds, left, right}
 use Rattle.wc_world.proofs.ReachedGrown.{CheckpointFits, checkpoint_from, checkpoint_parts}
 use Rattle.wc_world.proofs.ReachedLists.{all_at_apart, found_node, unique}
-use Rattle.wc_machine.specs.Calling.{bound, bound_in, fuel_of}
+use Rattle.wc_machine.specs.Calls.{bound, bound_in, fuel_of}
 use Rattle.wc_machine.specs.Paths.{call_links}
-use Rattle.wc_machine.specs.Resting.{bound_calls, is_awaited}
+use Rattle.wc_machine.specs.Rest.{bound_calls, is_awaited}
 use Rattle.wc_machine.specs.Sound.{AllDiffer, AreAwaited, CallsAreKept, HoldsEnded, IsEndedCall, IsFitting, IsKnownNode, IsSound, NamesKnown, OutputsAscend, awaited_numbers, fuel_in, is_awaited_in}
-use Rattle.wc_soundness.specs.Replacing.{IsSet, SetsWell}
+use Rattle.wc_soundness.specs.Replaced.{IsSet, SetsWell}
 use Rattle.wc_soundness.proofs.Replaced.{after, at_it, found_now, now, one_record, setting}
 use Rattle.wc_soundness.proofs.KillChildren.{IsOver}
 use Rattle.wc_soundness.proofs.Sound.{sets_keep_sound}

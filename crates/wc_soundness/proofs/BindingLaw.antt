@@ -14,11 +14,11 @@ use Rattle.wc_world.specs.World.{World}
 use Rattle.wc_world.specs.Fits.{fails_fit, is_settled, part_fits, standing_fits, unsettled}
 use Rattle.wc_world.specs.Records.{has_ended}
 use Rattle.wc_world.proofs.FoundRecords.{right}
-use Rattle.wc_machine.specs.Calling.{bound, chain_set, fuel_of}
+use Rattle.wc_machine.specs.Calls.{bound, chain_set, fuel_of}
 use Rattle.wc_machine.specs.Readiness.{may_go}
 use Rattle.wc_machine.specs.Sound.{IsSound, fuel_in}
 use Rattle.wc_machine.specs.Tasks.{saturated}
-use Rattle.wc_soundness.specs.Replacing.{world_to}
+use Rattle.wc_soundness.specs.Replaced.{world_to}
 use Rattle.wc_soundness.proofs.Replaced.{continues}
 use Rattle.wc_soundness.specs.Binding.{Waits}
 use Rattle.wc_soundness.specs.BindingLaws.{KeepsSound, BindingsKeepSound}

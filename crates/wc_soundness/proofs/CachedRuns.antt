@@ -3,10 +3,10 @@ use Rattle.std.proofs.Common.{◌<◌, ◌≤◌, [], ◌∷◌, Some, refl, ari
 use Rattle.std.proofs.lemmas.List.Elements.{All-nil, All-cons}
 use Rattle.wc_syntax.specs.declared.definition.Definition.TheVariants as definition
 use Rattle.wc_state.specs.declared.record.ProcessRecord.{ProcessRecord}
-use Rattle.wc_machine.specs.Ending.{TakesSource}
+use Rattle.wc_machine.specs.Ends.{TakesSource}
 use Rattle.wc_machine.specs.Machine as machine
 use Rattle.wc_machine.specs.Sources.{IsSourceFor}
-use Rattle.wc_machine.specs.Turning as turning
+use Rattle.wc_machine.specs.Turns as turning
 use Rattle.wc_machine.specs.declared.answer.TaskAnswer.TheVariants as answer
 use Rattle.wc_soundness.specs.Library.{double}
 use Rattle.wc_soundness.specs.CachedWorlds as cached

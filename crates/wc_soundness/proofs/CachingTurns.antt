@@ -26,12 +26,12 @@ use Rattle.wc_world.proofs.FoundRecords.{found_holds}
 use Rattle.wc_world.proofs.ReachedWorlds.{accepted_is_consistent}
 use Rattle.wc_machine.specs.Continues.{Continues}
 use Rattle.wc_machine.specs.Created.{GivenFor, cached, function, no_request, IsGiven}
-use Rattle.wc_machine.specs.Ending.{ends, come_to, TakesSource}
+use Rattle.wc_machine.specs.Ends.{ends, come_to, TakesSource}
 use Rattle.wc_machine.specs.Laws.{calculated_for}
 use Rattle.wc_machine.specs.Recorded.{its_definition, recorded_inputs}
 use Rattle.wc_machine.specs.Sound.{IsSound}
 use Rattle.wc_machine.specs.Sources.{IsLowestSource, IsSourceFor}
-use Rattle.wc_machine.specs.Submitting.{AreInputs}
+use Rattle.wc_machine.specs.Submissions.{AreInputs}
 use Rattle.wc_machine.proofs.AcceptedEnds.{process_is_node, ends_accepted}
 use Rattle.wc_machine.proofs.CalculatedOutputs.{calculated_set}
 use Rattle.wc_machine.proofs.EndedWorlds.{inputs_kept}

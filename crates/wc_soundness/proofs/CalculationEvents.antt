@@ -36,15 +36,15 @@ use Rattle.wc_world.specs.Records.{find_record, has_ended, is_calculation, proce
 use Rattle.wc_world.proofs.FoundRecords.{found_holds}
 use Rattle.wc_machine.specs.declared.answer.TaskAnswer.{TaskAnswer}
 use Rattle.wc_machine.specs.declared.answer.TaskAnswer.TheVariants as answer
-use Rattle.wc_machine.specs.Ending.{TakesSource, come_to, ends}
+use Rattle.wc_machine.specs.Ends.{TakesSource, come_to, ends}
 use Rattle.wc_machine.specs.Laws.{HasPlaces}
 use Rattle.wc_machine.specs.Machine.{marked, pause_changes, play_changes, renewed}
 use Rattle.wc_machine.specs.Readiness.{is_ready, may_go}
 use Rattle.wc_machine.specs.Recorded.{its_definition, recorded_inputs}
 use Rattle.wc_machine.specs.Sources.{IsLowestSource, IsSourceFor}
-use Rattle.wc_machine.specs.Submitting.{AreInputs}
+use Rattle.wc_machine.specs.Submissions.{AreInputs}
 use Rattle.wc_machine.specs.Tasks.{Moved, after, failed, saturated}
-use Rattle.wc_machine.specs.Turning.{first_task, job_set}
+use Rattle.wc_machine.specs.Turns.{first_task, job_set}
 use Rattle.wc_machine.proofs.AcceptedEnds.{ends_accepted, process_is_node}
 use Rattle.wc_machine.proofs.CalculatedOutputs.{calculated_set, concluded_set, nothing_set, rules_set, set_more}
 use Rattle.wc_machine.proofs.Endings.{applied_ends, data_nodes, end_set}

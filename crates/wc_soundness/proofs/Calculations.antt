@@ -26,7 +26,7 @@ use Rattle.wc_world.specs.Trees.{branches, tree_with, tree_within, recorded_tree
 use Rattle.wc_world.proofs.FoundRecords.{left, right}
 use Rattle.wc_machine.specs.Paths.{cut_after, kills}
 use Rattle.wc_machine.specs.Recorded.{its_definition, recorded_inputs, recorded_outputs}
-use Rattle.wc_machine.specs.Resting.{levels_of, meant}
+use Rattle.wc_machine.specs.Rest.{levels_of, meant}
 use Rattle.wc_machine.proofs.AcceptedEnds.{process_is_node}
 use Rattle.wc_machine.proofs.Frames.{NoCallFrom, branches_before}
 

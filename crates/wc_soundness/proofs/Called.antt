@@ -8,10 +8,10 @@ use Rattle.wc_state.specs.declared.record.ProcessRecord.{ProcessRecord}
 use Rattle.wc_world.specs.Records.{find_record, has_called, is_call_from}
 use Rattle.wc_world.specs.World.{World}
 use Rattle.std.specs.Prelude.{◌==◌, ◌&&◌}
-use Rattle.wc_machine.specs.Advancing.{advance, submits}
-use Rattle.wc_machine.specs.Calling.{called_number}
+use Rattle.wc_machine.specs.Advances.{advance, submits}
+use Rattle.wc_machine.specs.Calls.{called_number}
 use Rattle.wc_machine.specs.Recorded.{recorded_inputs}
-use Rattle.wc_machine.specs.Stepping.{Call, values_in}
+use Rattle.wc_machine.specs.Steps.{Call, values_in}
 use Rattle.wc_soundness.specs.TrackLaws.{IsAtTurn}
 use Rattle.wc_soundness.specs.SubmitLaws.{IsCalledWith, CallsMakeTheseWorlds, CalledHaveTheirInputs}
 use Rattle.wc_soundness.specs.Submitted.{EachCall, calls_links, child_record, first_free, now_waits, submitted}

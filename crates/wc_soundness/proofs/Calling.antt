@@ -30,17 +30,17 @@ use Rattle.wc_world.specs.Fits.{calls_from, counted_calls, has_output}
 use Rattle.wc_world.specs.Records.{find_record, has_called, has_ended, is_call_from, library_at}
 use Rattle.wc_world.specs.Trees.{branches, child_at, context_of, data_of, environment_at, inputs_of, items_of, recorded_tree, value_of}
 use Rattle.wc_world.proofs.ReachedLists.{found_node}
-use Rattle.wc_machine.specs.Advancing.{submits}
-use Rattle.wc_machine.specs.Calling.{awaits}
+use Rattle.wc_machine.specs.Advances.{submits}
+use Rattle.wc_machine.specs.Calls.{awaits}
 use Rattle.wc_machine.specs.Paths.{call_links}
 use Rattle.wc_machine.specs.Recorded.{its_definition}
-use Rattle.wc_machine.specs.Resting.{as_call, awaited, bound_calls, bound_trees, chain_rest, env_alone, gone_on, levels_of, progress_of, progress_with, rest, set_values}
+use Rattle.wc_machine.specs.Rest.{as_call, awaited, bound_calls, bound_trees, chain_rest, env_alone, gone_on, levels_of, progress_of, progress_with, rest, set_values}
 use Rattle.wc_machine.specs.Sound.{HoldsEnded, IsEndedCall, IsKnownNode, IsSound}
-use Rattle.wc_machine.specs.Stepping.{Call}
+use Rattle.wc_machine.specs.Steps.{Call}
 use Rattle.wc_machine.proofs.EndedTrees.{call_is_called}
 use Rattle.wc_machine.proofs.Frames.{branches_by, value_stays}
 use Rattle.wc_turn_laws.specs.Instead.{MadeCalls}
-use Rattle.wc_soundness.specs.Touching.{MayBeTouched, Touches}
+use Rattle.wc_soundness.specs.Touches.{MayBeTouched, Touches}
 use Rattle.wc_soundness.proofs.Standing.{Over, called_there, inputs_of_kept, items_kept, over_tree}
 use Rattle.wc_soundness.proofs.Touched.{library_kept, within as number_within}
 use Rattle.wc_turn_laws.specs.OutlineLaws as outline

@@ -21,13 +21,13 @@ use Rattle.wc_state.specs.declared.record.ProcessRecord.{ProcessRecord}
 use Rattle.wc_world.specs.World.{World}
 use Rattle.wc_world.specs.Records.{calls as is_call, find_record, gives_output, has_called, has_ended, is_call_from, is_input_of, is_output_of}
 use Rattle.wc_world.proofs.FoundRecords.{found_holds, left}
-use Rattle.wc_machine.specs.Calling.{awaits}
+use Rattle.wc_machine.specs.Calls.{awaits}
 use Rattle.wc_machine.specs.Paths.{call_links}
-use Rattle.wc_machine.specs.Resting.{bound_calls, is_awaited}
+use Rattle.wc_machine.specs.Rest.{bound_calls, is_awaited}
 use Rattle.wc_machine.specs.Sound.{AreAwaited, AreNumbered, AwaitsLastCalls, CallsAreKept, HoldsEnded, IsEndedCall, IsFitting, IsKnownNode, IsPlaced, NamesKnown, TakesItsInputs, is_call_to}
-use Rattle.wc_machine.specs.Stepping.{Call}
+use Rattle.wc_machine.specs.Steps.{Call}
 use Rattle.wc_machine.proofs.Frames.{and_false, any_before}
-use Rattle.wc_soundness.specs.Touching.{AddsFor}
+use Rattle.wc_soundness.specs.Touches.{AddsFor}
 use Rattle.wc_soundness.proofs.Standing.{over_found}
 use Rattle.wc_soundness.proofs.Touched.{carried_on, first_false, input_no_call, inputs_kept, output_no_call}
 use Rattle.wc_turn_laws.specs.OutlineLaws as outline

@@ -19,10 +19,10 @@ use Rattle.wc_state.specs.declared.record.ProcessRecord.{ProcessRecord}
 use Rattle.wc_world.specs.World.{World}
 use Rattle.wc_world.specs.Records.{find_record, has_ended, is_call_from}
 use Rattle.wc_world.proofs.FoundRecords.{found_holds, left, right}
-use Rattle.wc_machine.specs.Agreeing.{Agrees}
+use Rattle.wc_machine.specs.Agreement.{Agrees}
 use Rattle.wc_machine.specs.Paths.{called_under, cut_after, follow, kills}
-use Rattle.wc_machine.specs.Resting.{FitKills, GivesTree, IsOnTrack, as_call, bound_trees, has_bound, is_awaited, meant, part_rest, rest, with_stop}
-use Rattle.wc_machine.specs.Stepping.{Call}
+use Rattle.wc_machine.specs.Rest.{FitKills, GivesTree, IsOnTrack, as_call, bound_trees, has_bound, is_awaited, meant, part_rest, rest, with_stop}
+use Rattle.wc_machine.specs.Steps.{Call}
 use Rattle.wc_machine.proofs.EndedTrees.{call_is_called}
 use Rattle.wc_turn_laws.proofs.CalledLabels.{calls_under_labels}
 use Rattle.wc_soundness.proofs.Standing.{any_gives, called_there}

@@ -16,14 +16,14 @@ use Rattle.wc_world.specs.World.{World}
 use Rattle.wc_world.specs.Records.{find_record, is_call_from}
 use Rattle.wc_world.specs.Trees.{inputs_of}
 use Rattle.wc_world.proofs.FoundRecords.{found_holds}
-use Rattle.wc_machine.specs.Advancing.{Advanced, submits, advance}
-use Rattle.wc_machine.specs.Calling.{called_number}
+use Rattle.wc_machine.specs.Advances.{Advanced, submits, advance}
+use Rattle.wc_machine.specs.Calls.{called_number}
 use Rattle.wc_machine.specs.Laws.{HasPlaces}
 use Rattle.wc_machine.specs.Paths.{call_links}
 use Rattle.wc_machine.specs.Recorded.{recorded_inputs}
-use Rattle.wc_machine.specs.Resting.{levels_of}
+use Rattle.wc_machine.specs.Rest.{levels_of}
 use Rattle.wc_machine.specs.Sound.{HoldsEnded, IsKnownNode, NamesKnown}
-use Rattle.wc_machine.specs.Stepping.{Call, values_in}
+use Rattle.wc_machine.specs.Steps.{Call, values_in}
 use Rattle.wc_turn_laws.specs.Instead.{MadeCalls}
 use Rattle.wc_turn_laws.specs.OutlineLaws.{remains}
 use Rattle.wc_turn_laws.specs.Nodes.{HoldsAfter, NodesAre}

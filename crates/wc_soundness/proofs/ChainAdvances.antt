@@ -17,8 +17,8 @@ use Rattle.wc_turn_laws.specs.Instead.{MadeCalls}
 use Rattle.wc_world.specs.Records.{find_record, has_ended}
 use Rattle.wc_world.specs.Trees.{inputs_of, items_of, context_of}
 use Rattle.wc_world.specs.World.{World}
-use Rattle.wc_machine.specs.Advancing.{Advanced, goes, loops, advance}
-use Rattle.wc_machine.specs.Resting.{levels_of, GivesTree, IsOnTrack}
+use Rattle.wc_machine.specs.Advances.{Advanced, goes, loops, advance}
+use Rattle.wc_machine.specs.Rest.{levels_of, GivesTree, IsOnTrack}
 use Rattle.wc_machine.specs.Sound.{is_awaited_in, fuel_in}
 use Rattle.wc_machine.specs.Tasks.{saturated}
 use Rattle.wc_turn_laws.specs.OutlineLaws.{remains, IsNumbered}

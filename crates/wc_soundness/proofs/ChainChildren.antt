@@ -16,15 +16,15 @@ use Rattle.wc_world.specs.Fits.{has_output}
 use Rattle.wc_world.specs.Records.{definition_in, find_record, has_called, is_call_from}
 use Rattle.wc_world.specs.World.{World}
 use Rattle.wc_world.proofs.FoundRecords.{found_holds}
-use Rattle.wc_machine.specs.Calling.{called_number, kind_of_callee}
+use Rattle.wc_machine.specs.Calls.{called_number, kind_of_callee}
 use Rattle.wc_machine.specs.Paths as paths
 use Rattle.wc_machine.specs.Recorded.{recorded_inputs}
 use Rattle.wc_machine.specs.Sound.{AreNumbered, CallsAreKept, IsFitting, IsPlaced, TakesItsInputs}
-use Rattle.wc_machine.specs.Stepping.{Call, values_in}
-use Rattle.wc_machine.specs.Submitting.{input_link}
+use Rattle.wc_machine.specs.Steps.{Call, values_in}
+use Rattle.wc_machine.specs.Submissions.{input_link}
 use Rattle.wc_machine.proofs.Frames.{NoCallFrom, any_before, filter_before, no_call_beyond, no_output_beyond, output_before}
 use Rattle.wc_machine.proofs.OneMoreMeaning.{fresh_on_track}
-use Rattle.wc_soundness.specs.Touching.{IsSoundRecord}
+use Rattle.wc_soundness.specs.Touches.{IsSoundRecord}
 use Rattle.wc_soundness.specs.Submitted.{call_links, calls_links, child_record, EachCall, first_free, input_links, its_call_link, now_waits, submitted}
 use Rattle.wc_soundness.proofs.Links.{its_link_calls, no_calls_of, no_outputs}
 use Rattle.wc_soundness.proofs.Records.{each_beyond, each_both, each_by, found_now, within}

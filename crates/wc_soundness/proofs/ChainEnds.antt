@@ -14,8 +14,8 @@ use Rattle.wc_world.specs.Accepted.{IsAccepted}
 use Rattle.wc_world.specs.Applied.{applied}
 use Rattle.wc_world.specs.Consistent.{IsConsistent}
 use Rattle.wc_world.proofs.ReachedWorlds.{accepted_is_consistent}
-use Rattle.wc_machine.specs.Advancing.{ends, advance}
-use Rattle.wc_machine.specs.Calling.{advanced, chain_set}
+use Rattle.wc_machine.specs.Advances.{ends, advance}
+use Rattle.wc_machine.specs.Calls.{advanced, chain_set}
 use Rattle.wc_machine.specs.Continues.{Continues}
 use Rattle.wc_machine.specs.Laws.{HasPlaces}
 use Rattle.wc_machine.specs.Sound.{IsSound}

@@ -29,7 +29,7 @@ use Rattle.wc_world.specs.Trees.{value_of, outputs_after, values_alone}
 use Rattle.wc_world.specs.World.{World}
 use Rattle.wc_world.specs.Linked.{with_plain, plain_after}
 use Rattle.wc_world.proofs.LabelledValues.{plain_outputs}
-use Rattle.wc_machine.specs.Calling.{judged, lacks}
+use Rattle.wc_machine.specs.Calls.{judged, lacks}
 use Rattle.wc_machine.proofs.CreatedOutputs.{without_output}
 use Rattle.wc_machine.proofs.Frames.{outputs_append, outputs_untouched}
 use Rattle.wc_turn_laws.specs.View.{View, values_of}

@@ -28,9 +28,9 @@ use Rattle.wc_world.proofs.FoundRecords.{found_holds}
 use Rattle.wc_world.proofs.ReachedLists.{found_node}
 use Rattle.wc_graph.specs.Rules.{node_of}
 use Rattle.wc_machine.specs.Recorded.{its_definition}
-use Rattle.wc_machine.specs.Resting.{is_awaited}
+use Rattle.wc_machine.specs.Rest.{is_awaited}
 use Rattle.wc_machine.specs.Sound.{IsSound, IsFitting, CallsAreKept, IsEndedCall, HoldsEnded, NamesKnown}
-use Rattle.wc_machine.specs.Turning.{StandsAt}
+use Rattle.wc_machine.specs.Turns.{StandsAt}
 use Rattle.wc_machine.proofs.EndedTrees.{call_is_called}
 use Rattle.wc_soundness.proofs.Touched.{ended_stay}
 use Rattle.wc_soundness.proofs.OneSet.{went, found_other, goes_touch, may_go}

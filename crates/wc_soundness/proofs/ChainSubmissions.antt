@@ -28,10 +28,10 @@ use Rattle.wc_world.specs.Records.{definition_in, find_record, has_ended, librar
 use Rattle.wc_world.specs.World.{World, Known}
 use Rattle.wc_world.proofs.ReachedGrown.{checkpoint_parts}
 use Rattle.wc_world.proofs.ReachedLists.{node_grown, option_map_some}
-use Rattle.wc_machine.specs.Advancing.{submits, advance}
+use Rattle.wc_machine.specs.Advances.{submits, advance}
 use Rattle.wc_machine.specs.Sound.{OutputsAscend}
-use Rattle.wc_machine.specs.Stepping.{Call}
-use Rattle.wc_machine.specs.Submitting.{IsKeptLibrary}
+use Rattle.wc_machine.specs.Steps.{Call}
+use Rattle.wc_machine.specs.Submissions.{IsKeptLibrary}
 use Rattle.wc_turn_laws.specs.OutlineLaws.{AreOrdered, IsNumbered}
 use Rattle.wc_turn_laws.specs.Nodes.{HoldsAfter, InCall, NodesAre}
 use Rattle.wc_turn_laws.proofs.Ordered.{advances_keep_order, none_ascends}

@@ -33,9 +33,9 @@ use Rattle.wc_machine.specs.Inputs.{bad_input, least, missing_inputs, wrong_inpu
 use Rattle.wc_semantics.specs.Meaning.{is_good, kinds_of, takes_inputs, takes_of}
 use Rattle.wc_semantics.specs.Run.{picked}
 use Rattle.wc_semantics.proofs.Induction.{AllOf}
-use Rattle.wc_machine.specs.Advancing.{Advanced, goes, loops, submits, ends, popped, past, at_head, first_block, numbered_arms, after_arms, other_number, chosen, turned, after_step, done, does, at_innermost, advance}
+use Rattle.wc_machine.specs.Advances.{Advanced, goes, loops, submits, ends, popped, past, at_head, first_block, numbered_arms, after_arms, other_number, chosen, turned, after_step, done, does, at_innermost, advance}
 use Rattle.wc_machine.specs.Outlines.{Blocks, blocks, block_of}
-use Rattle.wc_machine.specs.Stepping.{Argument, value_of, arguments, named_node, or_plain, values_in, Noted, Stepped, stops, makes, or_stops, exits, with_plain, with_output, with_call, output, planned, collected, statements, Call}
+use Rattle.wc_machine.specs.Steps.{Argument, value_of, arguments, named_node, or_plain, values_in, Noted, Stepped, stops, makes, or_stops, exits, with_plain, with_output, with_call, output, planned, collected, statements, Call}
 use Rattle.wc_turn_laws.proofs.Named.{HasNode, then_has}
 use Rattle.wc_soundness.proofs.Required.{OfCall, OfStep, OfBlocks, GivesRequired}
 

@@ -35,14 +35,14 @@ use Rattle.wc_world.specs.Trees.{data_of}
 use Rattle.wc_world.proofs.FoundRecords.{found_holds}
 use Rattle.wc_world.proofs.ReachedGrown.{checkpoint_parts, checkpoint_from}
 use Rattle.wc_world.proofs.ReachedWorlds.{accepted_is_consistent}
-use Rattle.wc_machine.specs.Advancing.{Advanced, goes, loops, advance}
+use Rattle.wc_machine.specs.Advances.{Advanced, goes, loops, advance}
 use Rattle.wc_machine.specs.Laws.{HasPlaces}
-use Rattle.wc_machine.specs.Resting.{is_awaited}
+use Rattle.wc_machine.specs.Rest.{is_awaited}
 use Rattle.wc_machine.specs.Sound.{fuel_in}
 use Rattle.wc_machine.specs.Sources.{KeepsRule}
 use Rattle.wc_machine.specs.Tasks.{saturated}
 use Rattle.wc_machine.proofs.Frames.{records_below}
-use Rattle.wc_soundness.specs.Touching.{Touches, MayBeTouched, EndsLate, IsSoundRecord}
+use Rattle.wc_soundness.specs.Touches.{Touches, MayBeTouched, EndsLate, IsSoundRecord}
 use Rattle.wc_soundness.proofs.Others.{touched_worlds_are_sound}
 use Rattle.wc_soundness.proofs.Touched.{touching_continues}
 use Rattle.wc_turn_laws.specs.OutlineLaws.{KeepsCalls}

@@ -37,12 +37,12 @@ use Rattle.wc_world.specs.Trees.{child_at, context_of, environment_at, inputs_of
 use Rattle.wc_world.specs.World.{World}
 use Rattle.wc_world.proofs.FoundRecords.{found_holds}
 use Rattle.wc_world.proofs.ReachedGrown.{checkpoint_from, checkpoint_parts}
-use Rattle.wc_machine.specs.Advancing.{Advanced, goes, loops, ends, advance}
-use Rattle.wc_machine.specs.Calling.{advanced, chain_set, judged}
+use Rattle.wc_machine.specs.Advances.{Advanced, goes, loops, ends, advance}
+use Rattle.wc_machine.specs.Calls.{advanced, chain_set, judged}
 use Rattle.wc_machine.specs.Recorded.{its_definition}
 use Rattle.wc_machine.specs.Sound.{OutputsAscend}
 use Rattle.wc_machine.specs.Tasks.{saturated}
-use Rattle.wc_machine.specs.Turning.{StandsAt}
+use Rattle.wc_machine.specs.Turns.{StandsAt}
 use Rattle.wc_turn_laws.specs.OutlineLaws.{AreOrdered, IsNumbered, KeepsCalls}
 use Rattle.wc_turn_laws.specs.Nodes.{Holds, HoldsAfter, NodesAre}
 use Rattle.wc_turn_laws.specs.View.{context_in, env_in}

@@ -16,8 +16,8 @@ use Rattle.wc_semantics.specs.Run as run
 use Rattle.wc_semantics.specs.Statements.{keyed}
 use Rattle.wc_world.specs.World.{World}
 use Rattle.wc_world.specs.Trees.{child_at, children_at, and_child, item_of, and_item, items_of}
-use Rattle.wc_machine.specs.Calling as calling
-use Rattle.wc_machine.specs.Resting.{child_alone, item_alone}
+use Rattle.wc_machine.specs.Calls as calling
+use Rattle.wc_machine.specs.Rest.{child_alone, item_alone}
 use Rattle.wc_soundness.specs.BoundAlike.{alone, IsBoundAlike}
 
 abbrev Items : Type 0

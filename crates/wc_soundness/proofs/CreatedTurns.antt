@@ -19,11 +19,11 @@ use Rattle.wc_world.specs.Fits.{is_of_kind}
 use Rattle.wc_world.specs.Records.{is_calculation}
 use Rattle.wc_world.proofs.FoundRecords.{found_holds}
 use Rattle.wc_machine.specs.Continues.{Continues}
-use Rattle.wc_machine.specs.Ending.{ends, come_to}
+use Rattle.wc_machine.specs.Ends.{ends, come_to}
 use Rattle.wc_machine.specs.Laws.{HasPlaces, calculated_for}
 use Rattle.wc_machine.specs.Recorded.{its_definition, recorded_inputs}
 use Rattle.wc_machine.specs.Sound.{IsSound}
-use Rattle.wc_machine.specs.Turning.{calculates, clones, begins, excepts, gives_up, moves, parses, advances, binds}
+use Rattle.wc_machine.specs.Turns.{calculates, clones, begins, excepts, gives_up, moves, parses, advances, binds}
 use Rattle.wc_machine.proofs.AcceptedEnds.{ends_accepted}
 use Rattle.wc_machine.proofs.CalculatedOutputs.{calculated_set}
 use Rattle.wc_machine.proofs.Endings.{data_nodes, applied_ends}

@@ -33,11 +33,11 @@ use Rattle.wc_world.specs.Fits.{calls_from, counted_calls, has_output, is_settle
 use Rattle.wc_world.specs.Records.{find_record, gives_output, has_ended, is_output_of, process_node}
 use Rattle.wc_world.proofs.FoundRecords.{found_holds}
 use Rattle.wc_world.proofs.ReachedLists.{all_at_apart}
-use Rattle.wc_machine.specs.Calling.{chain_set, returns}
+use Rattle.wc_machine.specs.Calls.{chain_set, returns}
 use Rattle.wc_machine.proofs.AcceptedEnds.{live_without_output, over_fits, process_is_node, settled_all}
 use Rattle.wc_machine.proofs.CreatedOutputs.{without_output}
 use Rattle.wc_machine.proofs.Frames.{calls_before, no_call_from, output_before}
-use Rattle.wc_soundness.specs.Replacing.{set_to}
+use Rattle.wc_soundness.specs.Replaced.{set_to}
 use Rattle.wc_soundness.proofs.Returns.{applied_ending, ended_to, ending, return_link, return_links, returns_no_call, returns_no_output, with_returns}
 
 -- ---- a link that returns an output

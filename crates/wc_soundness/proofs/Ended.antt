@@ -25,23 +25,23 @@ use Rattle.wc_world.proofs.FoundRecords.{found_holds}
 use Rattle.wc_world.proofs.ReachedLists.{AreUnique, unique, all_found, called_grown}
 use Rattle.wc_machine.specs.Continues.{Carries, Continues}
 use Rattle.wc_machine.specs.Created.{GivenFor}
-use Rattle.wc_machine.specs.Ending.{TakesSource}
+use Rattle.wc_machine.specs.Ends.{TakesSource}
 use Rattle.wc_machine.specs.Recorded.{its_definition, recorded_inputs, recorded_outputs}
-use Rattle.wc_machine.specs.Resting.{is_awaited}
+use Rattle.wc_machine.specs.Rest.{is_awaited}
 use Rattle.wc_machine.specs.Sound.{TakesItsInputs, IsFitting, IsPlaced, CallsAreKept, AreNumbered, is_call_to, IsMeant, fuel_in, IsSound, KeepsFew}
 use Rattle.wc_machine.specs.Sources.{KeepsRule, KeepsCacheRule}
-use Rattle.wc_machine.specs.Submitting.{AreInputs}
+use Rattle.wc_machine.specs.Submissions.{AreInputs}
 use Rattle.wc_machine.proofs.AcceptedEnds.{live_without_output}
 use Rattle.wc_machine.proofs.ContinuedEnds.{carried_itself}
 use Rattle.wc_machine.proofs.CreatedOutputs.{creates_no_call}
 use Rattle.wc_machine.proofs.EndedWorlds.{inputs_kept, outputs_of_end, found_end, upward_after}
 use Rattle.wc_machine.proofs.Endings.{data_nodes, creates, end_record, ended_world, applied_ends}
 use Rattle.wc_machine.proofs.Frames.{NoCalls, no_call_from, any_before, filter_before, records_below}
-use Rattle.wc_soundness.specs.Touching.{Touches, MayBeTouched, EndsLate, IsSoundRecord}
+use Rattle.wc_soundness.specs.Touches.{Touches, MayBeTouched, EndsLate, IsSoundRecord}
 use Rattle.wc_soundness.proofs.Others.{others_stay_sound, sound_by_records}
 use Rattle.wc_soundness.proofs.Touched.{ended_stay, touching_continues}
 use Rattle.wc_soundness.proofs.TouchingEvents.{ends_touch}
-use Rattle.wc_soundness.specs.Starting.{EndsAreLater, StartsByRule, stays, starts}
+use Rattle.wc_soundness.specs.Starts.{EndsAreLater, StartsByRule, stays, starts}
 use Rattle.wc_soundness.proofs.AtOne.{found_other}
 use Rattle.wc_soundness.proofs.Calculations.{calls_nothing}
 use Rattle.wc_soundness.proofs.Fuel.{KeepsFuel, sum_falls}

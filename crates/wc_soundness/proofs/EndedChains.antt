@@ -27,10 +27,10 @@ use Rattle.wc_machine.specs.Recorded.{its_definition}
 use Rattle.wc_machine.specs.Sound.{AreNumbered, CallsAreKept, GoesUp, IsFitting, IsMeant, IsPlaced, IsSound, KeepsFew, TakesItsInputs, fuel_in, is_call_to}
 use Rattle.wc_machine.specs.Sources.{KeepsRule}
 use Rattle.wc_machine.proofs.Frames.{any_before, called_before, filter_before, no_call_from, records_below}
-use Rattle.wc_soundness.specs.Touching.{EndsLate, HasSoundLists, IsSoundRecord, MayBeTouched, Touches}
+use Rattle.wc_soundness.specs.Touches.{EndsLate, HasSoundLists, IsSoundRecord, MayBeTouched, Touches}
 use Rattle.wc_soundness.proofs.Others.{touched_worlds_are_sound}
 use Rattle.wc_soundness.proofs.Touched.{called_link, first_false, inputs_kept, kill_kept, touching_continues, within}
-use Rattle.wc_soundness.specs.Replacing.{record_to, set_to}
+use Rattle.wc_soundness.specs.Replaced.{record_to, set_to}
 use Rattle.wc_soundness.proofs.KillChildren.{IsOver, all_over}
 use Rattle.wc_soundness.proofs.Replaced.{found_now, found_other, one_record}
 use Rattle.wc_soundness.proofs.EndedFuel.{IsOverLike, fuel_falls}

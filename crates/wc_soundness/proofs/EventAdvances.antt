@@ -7,8 +7,8 @@ use Rattle.wc_state.specs.declared.record.Checkpoint.{Checkpoint}
 use Rattle.wc_state.specs.declared.record.ProcessRecord.{ProcessRecord}
 use Rattle.wc_world.specs.World.{World}
 use Rattle.wc_world.specs.Applied.{applied}
-use Rattle.wc_machine.specs.Advancing.{Advanced, goes, loops, submits, ends, advance}
-use Rattle.wc_machine.specs.Calling.{advanced}
+use Rattle.wc_machine.specs.Advances.{Advanced, goes, loops, submits, ends, advance}
+use Rattle.wc_machine.specs.Calls.{advanced}
 use Rattle.wc_machine.specs.Laws.{HasPlaces}
 use Rattle.wc_soundness.specs.BindingLaws.{KeepsSound}
 use Rattle.wc_soundness.specs.TrackLaws.{IsAtTurn}

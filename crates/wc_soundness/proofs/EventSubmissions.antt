@@ -10,7 +10,7 @@ use Rattle.wc_world.specs.Applied.{applied}
 use Rattle.wc_world.specs.Records.{kind_of_definition, process_node}
 use Rattle.wc_machine.specs.Laws.{HasPlaces}
 use Rattle.wc_machine.specs.Sound.{IsSound}
-use Rattle.wc_machine.specs.Submitting.{Submits, submitted_number}
+use Rattle.wc_machine.specs.Submissions.{Submits, submitted_number}
 use Rattle.wc_machine.proofs.Submitted.{data_node, new_nodes, submission_gives}
 use Rattle.wc_soundness.proofs.Submissions.{any_submission}
 use Rattle.wc_soundness.proofs.Submitted.{submission_accepted, submission_continues}

@@ -22,7 +22,7 @@ use Rattle.wc_machine.specs.Laws.{HasPlaces}
 use Rattle.wc_machine.specs.Readiness.{is_ready}
 use Rattle.wc_machine.specs.Recorded.{its_definition, recorded_inputs}
 use Rattle.wc_machine.specs.Sound.{IsSound}
-use Rattle.wc_machine.specs.Turning.{TurnGives, job_set, calculates, clones, begins, excepts, gives_up, moves, parses, advances, binds}
+use Rattle.wc_machine.specs.Turns.{TurnGives, job_set, calculates, clones, begins, excepts, gives_up, moves, parses, advances, binds}
 use Rattle.wc_soundness.specs.Sets.{AreSafe, AreSafeWithin}
 use Rattle.wc_soundness.proofs.FaultingJobs.{waiting_jobs_ask}
 use Rattle.wc_soundness.proofs.Parses.{parses_safe}

@@ -1,8 +1,8 @@
 -- A job fails five times and is played, by computation.
 use Rattle.std.proofs.Common.{true, false, refl}
 use Rattle.wc_machine.specs.Machine as machine
-use Rattle.wc_machine.specs.Turning as turning
-use Rattle.wc_machine.specs.Turning.{TurnGives}
+use Rattle.wc_machine.specs.Turns as turning
+use Rattle.wc_machine.specs.Turns.{TurnGives}
 use Rattle.wc_machine.specs.declared.answer.TaskAnswer.TheVariants as answer
 use Rattle.wc_soundness.specs.Library.{double}
 use Rattle.wc_soundness.specs.FanWorlds as fans

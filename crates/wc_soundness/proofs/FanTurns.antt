@@ -6,12 +6,12 @@ use Rattle.wc_state.specs.declared.record.Task.TheVariants as task
 use Rattle.wc_state.specs.declared.record.ProcessRecord.{ProcessRecord}
 use Rattle.wc_semantics.specs.declared.outcomes.Parsed.{Parsed}
 use Rattle.wc_world.specs.World.{World}
-use Rattle.wc_machine.specs.Advancing.{Advanced}
-use Rattle.wc_machine.specs.Calling.{advanced}
-use Rattle.wc_machine.specs.Ending.{TakesSource, ends}
+use Rattle.wc_machine.specs.Advances.{Advanced}
+use Rattle.wc_machine.specs.Calls.{advanced}
+use Rattle.wc_machine.specs.Ends.{TakesSource, ends}
 use Rattle.wc_machine.specs.Machine as machine
-use Rattle.wc_machine.specs.Turning as turning
-use Rattle.wc_machine.specs.Turning.{TurnGives}
+use Rattle.wc_machine.specs.Turns as turning
+use Rattle.wc_machine.specs.Turns.{TurnGives}
 use Rattle.wc_machine.specs.declared.answer.TaskAnswer.TheVariants as answer
 use Rattle.wc_soundness.specs.Library.{double, fan, library}
 use Rattle.wc_soundness.specs.FanWorlds as fans

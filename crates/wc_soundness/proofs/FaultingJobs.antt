@@ -27,9 +27,9 @@ use Rattle.wc_world.specs.Fits.{is_of_kind}
 use Rattle.wc_world.specs.Records.{has_ended, is_calculation, library_at, same_kind}
 use Rattle.wc_world.proofs.FoundRecords.{found_holds}
 use Rattle.wc_machine.specs.Created.{GivenFor, no_request}
-use Rattle.wc_machine.specs.Ending.{ends}
+use Rattle.wc_machine.specs.Ends.{ends}
 use Rattle.wc_machine.specs.Recorded.{its_definition, recorded_inputs, recorded_request, request_by}
-use Rattle.wc_machine.specs.Resting.{levels_of, meant}
+use Rattle.wc_machine.specs.Rest.{levels_of, meant}
 use Rattle.wc_machine.specs.Sound.{IsFitting, is_job_part}
 use Rattle.wc_machine.proofs.CalculatedOutputs.{nothing_set}
 use Rattle.wc_machine.proofs.Endings.{applied_ends, end_record, ended_world}

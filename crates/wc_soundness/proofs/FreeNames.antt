@@ -16,7 +16,7 @@ use Rattle.wc_semantics.specs.Rules.{kind_of_port}
 use Rattle.wc_world.specs.World.{Known}
 use Rattle.wc_world.specs.Records.{library_at}
 use Rattle.wc_world.proofs.ReachedLists.{option_map_some}
-use Rattle.wc_machine.specs.Submitting.{IsKeptLibrary}
+use Rattle.wc_machine.specs.Submissions.{IsKeptLibrary}
 use Rattle.wc_machine.proofs.FunctionMeaning.{definition_parts}
 use Rattle.wc_soundness.specs.JobLaws.{RetrievedIsFree}
 

@@ -5,7 +5,7 @@ use Rattle.std.proofs.lemmas.Bool.{eqb-true}
 use Rattle.std.proofs.lemmas.List.Elements.{All-head, All-tail}
 use Rattle.wc_state.specs.declared.record.ProcessRecord.{ProcessRecord}
 use Rattle.wc_world.specs.Records.{at_process, has_ended}
-use Rattle.wc_machine.specs.Resting.{is_awaited}
+use Rattle.wc_machine.specs.Rest.{is_awaited}
 use Rattle.wc_machine.specs.Sound.{is_awaited_in, fuel_in}
 
 -- A record that is put through a function lives before, awaits nothing before and after, and keeps its fuel.

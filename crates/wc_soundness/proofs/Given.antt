@@ -26,15 +26,15 @@ use Rattle.wc_world.specs.Records.{find_record, has_ended, is_calculation}
 use Rattle.wc_world.specs.Trees.{tree_with}
 use Rattle.wc_world.proofs.FoundRecords.{found_holds}
 use Rattle.wc_world.proofs.ReachedLists.{found_node}
-use Rattle.wc_machine.specs.Agreeing.{Agrees}
+use Rattle.wc_machine.specs.Agreement.{Agrees}
 use Rattle.wc_machine.specs.Created.{GivenFor, killed, cached, function, job, no_request}
 use Rattle.wc_machine.specs.Paths.{kills}
 use Rattle.wc_machine.specs.Recorded.{its_definition, recorded_inputs, recorded_outputs, recorded_request, request_by, HasResult, own, cached as taken, result_with}
 use Rattle.wc_machine.specs.Sound.{IsMeant}
 use Rattle.wc_soundness.specs.CachingLaws.{GivenComes}
 use Rattle.wc_machine.specs.Sources.{IsLowestSource, KeepsRule, KeepsCacheRule}
-use Rattle.wc_machine.specs.Submitting.{IsKeptLibrary}
-use Rattle.wc_soundness.specs.Coming.{ComesTo, by_rules, by_result, by_reason}
+use Rattle.wc_machine.specs.Submissions.{IsKeptLibrary}
+use Rattle.wc_soundness.specs.Courses.{ComesTo, by_rules, by_result, by_reason}
 use Rattle.wc_soundness.proofs.Calculations.{calls_nothing, leaf_recorded, alive_uncut, GivesWhole, meant_whole}
 use Rattle.wc_turn_laws.proofs.Keys.{equal_keys}
 

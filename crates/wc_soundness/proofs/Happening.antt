@@ -7,11 +7,11 @@ use Rattle.wc_world.specs.declared.change.Change.{Change}
 use Rattle.wc_world.specs.Consistent.{IsConsistent}
 use Rattle.wc_world.specs.Records.{find_record, has_ended}
 use Rattle.wc_world.proofs.ReachedLists.{found_node}
-use Rattle.wc_machine.specs.Killing.{kill_changes}
+use Rattle.wc_machine.specs.Kills.{kill_changes}
 use Rattle.wc_machine.specs.Machine.{Event, submit, turn, pause, play, kill, Leads, submits, turns, pauses, plays, kills, pause_changes, play_changes}
 use Rattle.wc_machine.specs.Readiness.{is_ready}
-use Rattle.wc_machine.specs.Submitting.{Submits, submission}
-use Rattle.wc_machine.specs.Turning.{TurnGives}
+use Rattle.wc_machine.specs.Submissions.{Submits, submission}
+use Rattle.wc_machine.specs.Turns.{TurnGives}
 use Rattle.wc_machine.proofs.FittingAnswers.{turns_fit_needs}
 use Rattle.wc_soundness.proofs.Replaced.{one_record}
 use Rattle.wc_turn_laws.proofs.OneList.{one_list}

@@ -9,7 +9,7 @@ use Rattle.wc_state.specs.Context.{Pairs, found_at, with_set}
 use Rattle.wc_state.specs.declared.context.CtxRef.{CtxRef}
 use Rattle.wc_state.specs.declared.context.CtxRef.TheVariants as held
 use Rattle.wc_state.specs.declared.record.Await.{Await}
-use Rattle.wc_machine.specs.Calling.{bound_in, children_at, joined}
+use Rattle.wc_machine.specs.Calls.{bound_in, children_at, joined}
 
 pub all_from : {X : Type 0} (test : X → Bool) (xs : List X) → list_all test xs ≡ true → All (λ x. test x ≡ true) xs
 all_from test [] h = All-nil (λ x. test x ≡ true)

@@ -27,10 +27,10 @@ use Rattle.wc_world.specs.Records.{is_input_of, takes_input, process_node}
 use Rattle.wc_world.specs.Trees.{NamedValues, data_of, value_of, with_value, inputs_after, values_alone}
 use Rattle.wc_world.specs.World.{World}
 use Rattle.wc_world.proofs.ReachedLists.{node_grown}
-use Rattle.wc_machine.specs.Calling.{Arguments, called_number, kind_of_callee}
+use Rattle.wc_machine.specs.Calls.{Arguments, called_number, kind_of_callee}
 use Rattle.wc_machine.specs.Recorded.{recorded_inputs}
-use Rattle.wc_machine.specs.Stepping.{Argument, node, plain, Call, values_in}
-use Rattle.wc_machine.specs.Submitting.{input_link}
+use Rattle.wc_machine.specs.Steps.{Argument, node, plain, Call, values_in}
+use Rattle.wc_machine.specs.Submissions.{input_link}
 use Rattle.wc_machine.proofs.Frames.{NoInput, inputs_append, inputs_untouched, no_input_beyond}
 use Rattle.wc_machine.proofs.Submitted.{at_length}
 use Rattle.wc_turn_laws.specs.Nodes.{InArgument, InCall}

@@ -25,9 +25,9 @@ use Rattle.wc_semantics.specs.Run.{picked, instrs}
 use Rattle.wc_semantics.proofs.Induction.{AllOf, OptionOf}
 use Rattle.wc_world.specs.Blocks.{block_lengths}
 use Rattle.wc_world.specs.Fits.{is_nil, is_within, frame_fits}
-use Rattle.wc_machine.specs.Advancing.{is_done, popped, past, at_head, block_count, first_block, numbered_arms, after_arms, other_number, chosen, turned, after_step, done, does, at_innermost, advance}
+use Rattle.wc_machine.specs.Advances.{is_done, popped, past, at_head, block_count, first_block, numbered_arms, after_arms, other_number, chosen, turned, after_step, done, does, at_innermost, advance}
 use Rattle.wc_machine.specs.Outlines.{Blocks, blocks, block_of, blocks_in}
-use Rattle.wc_machine.specs.Stepping.{Stepped, stops, makes, statements}
+use Rattle.wc_machine.specs.Steps.{Stepped, stops, makes, statements}
 use Rattle.wc_turn_laws.proofs.Frames.{Stand, stand_first}
 use Rattle.wc_turn_laws.proofs.Named.{HasNode}
 use Rattle.wc_turn_laws.proofs.Numbering.{arm_blocks, other_blocks, opened_blocks, blocks_are, blocks_in_are, get_behind, get_front}

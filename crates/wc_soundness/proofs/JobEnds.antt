@@ -17,16 +17,16 @@ use Rattle.wc_world.specs.Fits.{part_fits, unsettled}
 use Rattle.wc_world.specs.Records.{find_record, gives_output, has_ended, is_calculation, is_output_of}
 use Rattle.wc_world.proofs.FoundRecords.{found_holds}
 use Rattle.wc_machine.specs.Continues.{Carries}
-use Rattle.wc_machine.specs.Ending.{end_of, ends}
+use Rattle.wc_machine.specs.Ends.{end_of, ends}
 use Rattle.wc_machine.specs.Laws.{HasPlaces}
 use Rattle.wc_machine.specs.Sound.{IsFitting}
-use Rattle.wc_machine.specs.Submitting.{AreInputs}
+use Rattle.wc_machine.specs.Submissions.{AreInputs}
 use Rattle.wc_machine.proofs.AcceptedEnds.{CanCreate, apply_created, calculation_by, live_without_output, over_fits, process_is_node, settled_after}
 use Rattle.wc_machine.proofs.CreatedOutputs.{without_output}
 use Rattle.wc_machine.proofs.Endings.{applied_ends, creates, data_nodes, end_record, ended_world}
 use Rattle.wc_machine.proofs.EndedWorlds.{found_end}
 use Rattle.wc_machine.proofs.Frames.{node_number, target_is_node}
-use Rattle.wc_soundness.specs.Touching.{Touches}
+use Rattle.wc_soundness.specs.Touches.{Touches}
 use Rattle.wc_soundness.proofs.TouchingEvents.{creates_adds, found_other}
 use Rattle.wc_soundness.specs.JobLaws.{LiveEndsAreAccepted, LiveEndsTouch}
 use Rattle.wc_soundness.proofs.Moves.{not_created, same_record}

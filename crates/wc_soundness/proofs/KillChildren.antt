@@ -15,7 +15,7 @@ use Rattle.wc_world.specs.Records.{find_record, has_ended, has_called, is_call_f
 use Rattle.wc_world.proofs.FoundRecords.{IsDeeper, call_is_deeper, found_holds}
 use Rattle.wc_world.proofs.ReachedLists.{found_node}
 use Rattle.wc_machine.specs.Paths.{call_links}
-use Rattle.wc_machine.specs.Resting.{bound_calls, is_awaited}
+use Rattle.wc_machine.specs.Rest.{bound_calls, is_awaited}
 use Rattle.wc_machine.specs.Sound.{AreAwaited, AwaitsLastCalls, CallsAreKept, IsSound}
 use Rattle.wc_machine.proofs.EndedTrees.{call_is_called}
 use Rattle.wc_turn_laws.proofs.CalledLabels.{distinct}

@@ -21,15 +21,15 @@ use Rattle.wc_world.specs.Consistent.{Stands}
 use Rattle.wc_world.specs.Fits.{is_nil, is_of_kind, part_fits}
 use Rattle.wc_world.specs.Records.{has_ended, is_call_from}
 use Rattle.wc_world.proofs.FoundRecords.{found_holds}
-use Rattle.wc_machine.specs.Calling.{fuel_of}
-use Rattle.wc_machine.specs.Killing.{awaits_of}
+use Rattle.wc_machine.specs.Calls.{fuel_of}
+use Rattle.wc_machine.specs.Kills.{awaits_of}
 use Rattle.wc_machine.specs.Machine.{IsLive}
 use Rattle.wc_machine.specs.Readiness.{ended_at, is_over}
 use Rattle.wc_machine.specs.Recorded.{its_definition}
-use Rattle.wc_machine.specs.Resting.{is_awaited}
+use Rattle.wc_machine.specs.Rest.{is_awaited}
 use Rattle.wc_machine.specs.Sound.{IsSound, fuel_in, is_awaited_in}
 use Rattle.wc_machine.specs.Tasks.{saturated}
-use Rattle.wc_soundness.specs.Replacing.{world_to}
+use Rattle.wc_soundness.specs.Replaced.{world_to}
 use Rattle.wc_soundness.proofs.KillChildren.{IsCalled, IsOver, is_called}
 use Rattle.wc_soundness.specs.Binding.{Waits}
 use Rattle.wc_soundness.proofs.Binding.{awaited_is_called, kept_before, over_by_call}

@@ -17,14 +17,14 @@ use Rattle.wc_world.specs.Consistent.{Stands}
 use Rattle.wc_world.specs.Records.{at_process, find_record, has_called, has_ended, is_call_from}
 use Rattle.wc_world.proofs.FoundRecords.{IsDeeper, call_is_deeper, found_holds, left, right}
 use Rattle.wc_world.proofs.ReachedLists.{found_node}
-use Rattle.wc_machine.specs.Calling.{fuel_at, fuel_of}
-use Rattle.wc_machine.specs.Killing.{awaited_fuel, awaits_of, fuel_after}
-use Rattle.wc_machine.specs.Resting.{is_awaited}
+use Rattle.wc_machine.specs.Calls.{fuel_at, fuel_of}
+use Rattle.wc_machine.specs.Kills.{awaited_fuel, awaits_of, fuel_after}
+use Rattle.wc_machine.specs.Rest.{is_awaited}
 use Rattle.wc_machine.specs.Sound.{IsSound}
 use Rattle.wc_machine.specs.Tasks.{saturated}
 use Rattle.wc_machine.proofs.EndedTrees.{call_is_called}
 use Rattle.wc_turn_laws.proofs.CalledLabels.{targets, distinct}
-use Rattle.wc_soundness.specs.Replacing.{record_to, set_to}
+use Rattle.wc_soundness.specs.Replaced.{record_to, set_to}
 use Rattle.wc_soundness.proofs.OthersOnTrack.{any_gives}
 use Rattle.wc_soundness.proofs.Replaced.{found_now, found_other, one_record}
 use Rattle.wc_soundness.proofs.Binding.{awaited_is_called}

@@ -9,7 +9,7 @@ use Rattle.wc_world.specs.declared.change.Change.{Change}
 use Rattle.wc_world.specs.World.{World}
 use Rattle.wc_world.specs.Records.{find_record, has_called, has_ended, is_call_from}
 use Rattle.wc_world.proofs.FoundRecords.{IsDeeper, call_is_deeper, left, right}
-use Rattle.wc_machine.specs.Killing.{ends_killed, fuel_after, kill_below, killed}
+use Rattle.wc_machine.specs.Kills.{ends_killed, fuel_after, kill_below, killed}
 use Rattle.wc_machine.specs.Sound.{IsSound}
 use Rattle.wc_soundness.proofs.OthersOnTrack.{any_gives}
 use Rattle.wc_soundness.proofs.Replaced.{one_record}

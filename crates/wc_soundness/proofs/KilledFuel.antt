@@ -12,12 +12,12 @@ use Rattle.wc_world.specs.declared.change.Change.{Change}
 use Rattle.wc_world.specs.Applied.{after_change, applied, begun, changed, set}
 use Rattle.wc_world.specs.Records.{find_record, has_called, has_ended}
 use Rattle.wc_world.proofs.After.{find_at}
-use Rattle.wc_machine.specs.Calling.{fuel_at, fuel_of}
-use Rattle.wc_machine.specs.Killing.{awaited_fuel, awaits_of, fuel_after, kill_changes}
+use Rattle.wc_machine.specs.Calls.{fuel_at, fuel_of}
+use Rattle.wc_machine.specs.Kills.{awaited_fuel, awaits_of, fuel_after, kill_changes}
 use Rattle.wc_machine.specs.Machine.{IsLive}
 use Rattle.wc_machine.specs.Sound.{IsSound}
 use Rattle.wc_machine.specs.Tasks.{saturated}
-use Rattle.wc_soundness.specs.Replacing.{set_to}
+use Rattle.wc_soundness.specs.Replaced.{set_to}
 use Rattle.wc_soundness.proofs.KillLists.{IsKid, fuel_enough, its_awaited, kid_of, low}
 use Rattle.wc_soundness.proofs.Replaced.{one_record}
 use Rattle.wc_soundness.specs.Killed.{IsAtOrBelow, IsKilledWith, KillsEach, called, its_kill}

@@ -18,7 +18,7 @@ use Rattle.wc_world.proofs.ReachedLists.{found_node}
 use Rattle.wc_machine.specs.Machine.{IsLive}
 use Rattle.wc_machine.specs.Sound.{IsSound}
 use Rattle.wc_machine.proofs.EndedTrees.{call_is_called}
-use Rattle.wc_soundness.specs.Replacing.{set_to}
+use Rattle.wc_soundness.specs.Replaced.{set_to}
 use Rattle.wc_soundness.proofs.KillLists.{AreNext, kill_next, without}
 use Rattle.wc_soundness.proofs.KillOrder.{CallsOne, add, all_below, call_deeper, changes_are, fuel_then, its_own, kids}
 use Rattle.wc_soundness.specs.Killed.{IsAtOrBelow, itself, called, KillsEach}

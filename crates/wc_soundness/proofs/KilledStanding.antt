@@ -36,10 +36,10 @@ use Rattle.wc_world.proofs.FoundRecords.{found_holds}
 use Rattle.wc_world.proofs.RecordedEnvironments.{no_context}
 use Rattle.wc_world.proofs.RecordedTrees.{no_tree}
 use Rattle.wc_world.proofs.ReachedGrown.{CheckpointFits, checkpoint_parts}
-use Rattle.wc_machine.specs.Calling.{bound_in}
+use Rattle.wc_machine.specs.Calls.{bound_in}
 use Rattle.wc_machine.specs.Paths.{call_links}
 use Rattle.wc_machine.specs.Readiness.{ended_at, is_over}
-use Rattle.wc_machine.specs.Resting.{and_value, as_call, bound_calls, bound_trees, env_alone, is_awaited, levels_of, progress_of, progress_with, set_values}
+use Rattle.wc_machine.specs.Rest.{and_value, as_call, bound_calls, bound_trees, env_alone, is_awaited, levels_of, progress_of, progress_with, set_values}
 use Rattle.wc_machine.specs.Sound.{AreAwaited, AwaitsLastCalls, HoldsEnded, IsEndedCall, IsSound, NamesKnown}
 use Rattle.wc_soundness.proofs.KillChildren.{IsOver, over_if_not_awaited, bound_over}
 use Rattle.wc_soundness.specs.Binding.{Waits}

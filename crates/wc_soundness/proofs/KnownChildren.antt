@@ -34,13 +34,13 @@ use Rattle.wc_world.specs.Records.{find_record, has_ended, calls, is_call_from, 
 use Rattle.wc_world.specs.Trees.{NamedValues, Branch, and_branch, branches, child_at, items_of, outputs_of, recorded_tree, tree_with, tree_within, values_alone}
 use Rattle.wc_world.proofs.FoundRecords.{IsDeeper, call_is_deeper, found_holds, left, right}
 use Rattle.wc_world.proofs.ReachedLists.{found_node}
-use Rattle.wc_machine.specs.Agreeing.{Agrees}
-use Rattle.wc_machine.specs.Calling as calling
-use Rattle.wc_machine.specs.Calling.{bound_in, fuel_at, fuel_of}
+use Rattle.wc_machine.specs.Agreement.{Agrees}
+use Rattle.wc_machine.specs.Calls as calling
+use Rattle.wc_machine.specs.Calls.{bound_in, fuel_at, fuel_of}
 use Rattle.wc_machine.specs.Paths.{called_under, kills}
 use Rattle.wc_machine.specs.Readiness.{ended_at, is_over}
 use Rattle.wc_machine.specs.Recorded.{recorded_inputs}
-use Rattle.wc_machine.specs.Resting.{and_planned, awaited, child_alone, levels_of, planned_of, without_number}
+use Rattle.wc_machine.specs.Rest.{and_planned, awaited, child_alone, levels_of, planned_of, without_number}
 use Rattle.wc_machine.specs.Sound.{AreAwaited, IsMeant, IsPlaced, IsSound}
 use Rattle.wc_turn_laws.specs.RunLaws.{IsUnderItsLabel}
 use Rattle.wc_turn_laws.proofs.CalledLabels.{calls_under_labels}

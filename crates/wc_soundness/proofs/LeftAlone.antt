@@ -23,10 +23,10 @@ use Rattle.wc_world.specs.Trees.{context_of}
 use Rattle.wc_world.proofs.FoundRecords.{left}
 use Rattle.wc_world.proofs.ReachedLists.{called_grown, found_node}
 use Rattle.wc_machine.specs.Recorded.{its_definition}
-use Rattle.wc_machine.specs.Resting.{bound_calls, is_awaited}
+use Rattle.wc_machine.specs.Rest.{bound_calls, is_awaited}
 use Rattle.wc_machine.specs.Sound.{AreAwaited, AreNumbered, AwaitsLastCalls, CallsAreKept, HoldsEnded, IsEndedCall, IsFitting, IsKnownNode, IsPlaced, IsSound, NamesKnown, TakesItsInputs, is_call_to}
 use Rattle.wc_machine.proofs.Frames.{NoCallFrom, NoOutput, and_false, any_before, output_before}
-use Rattle.wc_soundness.specs.Touching.{AddsFor, Touches, MayBeTouched}
+use Rattle.wc_soundness.specs.Touches.{AddsFor, Touches, MayBeTouched}
 use Rattle.wc_soundness.proofs.Standing.{called_there, definition_same, links_kept, over_found}
 use Rattle.wc_soundness.proofs.Touched.{carried_on, first_false, input_no_call, inputs_kept, output_no_call, request_kept, within}
 

@@ -11,9 +11,9 @@ use Rattle.wc_state.specs.declared.record.ProcessKind.TheVariants as kind
 use Rattle.wc_state.specs.declared.record.ProcessRecord.{ProcessRecord}
 use Rattle.wc_world.specs.Records.{calls, gives_output, takes_input, is_call_from, is_input_of, is_output_of}
 use Rattle.wc_world.specs.World.{World}
-use Rattle.wc_machine.specs.Calling.{Arguments, call_link, called_number, kind_of_callee}
-use Rattle.wc_machine.specs.Stepping.{node, plain, Call}
-use Rattle.wc_machine.specs.Submitting.{input_link}
+use Rattle.wc_machine.specs.Calls.{Arguments, call_link, called_number, kind_of_callee}
+use Rattle.wc_machine.specs.Steps.{node, plain, Call}
+use Rattle.wc_machine.specs.Submissions.{input_link}
 use Rattle.wc_machine.proofs.Frames.{NoInput, NoOutput, NoCallFrom, NoCalls, and_false, no_call_from}
 use Rattle.wc_soundness.specs.Submitted.{input_links, its_call_link, call_links, calls_links, links_of_calls}
 

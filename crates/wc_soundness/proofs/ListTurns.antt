@@ -33,13 +33,13 @@ use Rattle.wc_world.proofs.ReachedLists.{found_node}
 use Rattle.wc_world.proofs.RecordedEnvironments.{no_context}
 use Rattle.wc_machine.specs.declared.answer.TaskAnswer.{TaskAnswer}
 use Rattle.wc_machine.specs.declared.answer.TaskAnswer.TheVariants as answer
-use Rattle.wc_machine.specs.Asking.{fits, is_nothing, need_at, with_request}
-use Rattle.wc_machine.specs.Advancing.{advance}
-use Rattle.wc_machine.specs.Calling.{advanced}
-use Rattle.wc_machine.specs.Ending.{TakesSource, ends, come_to}
+use Rattle.wc_machine.specs.Questions.{fits, is_nothing, need_at, with_request}
+use Rattle.wc_machine.specs.Advances.{advance}
+use Rattle.wc_machine.specs.Calls.{advanced}
+use Rattle.wc_machine.specs.Ends.{TakesSource, ends, come_to}
 use Rattle.wc_machine.specs.Readiness.{may_go}
 use Rattle.wc_machine.specs.Recorded.{its_definition, recorded_inputs, request_by}
-use Rattle.wc_machine.specs.Turning.{StandsAt, TurnGives, calculates, clones, begins, excepts, gives_up, moves, parses, advances, binds}
+use Rattle.wc_machine.specs.Turns.{StandsAt, TurnGives, calculates, clones, begins, excepts, gives_up, moves, parses, advances, binds}
 use Rattle.wc_machine.proofs.FittingAnswers.{fitting_answers_lead}
 use Rattle.wc_soundness.proofs.KilledStanding.{library_of}
 use Rattle.wc_turn_laws.proofs.OneList.{one_list}

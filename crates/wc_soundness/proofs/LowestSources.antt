@@ -18,7 +18,7 @@ use Rattle.wc_world.specs.World.{World}
 use Rattle.wc_world.specs.Consistent.{IsConsistent}
 use Rattle.wc_world.specs.Records.{find_record, is_calculation}
 use Rattle.wc_world.proofs.ReachedLists.{unique}
-use Rattle.wc_machine.specs.Ending.{TakesSource}
+use Rattle.wc_machine.specs.Ends.{TakesSource}
 use Rattle.wc_machine.specs.Recorded.{its_definition, recorded_inputs}
 use Rattle.wc_machine.specs.Sources.{HaveEqualKeys, IsLowestSource, IsSourceFor, IsValidSource, marks}
 use Rattle.wc_soundness.specs.ListLaws.{SourcesAreThere}

@@ -54,9 +54,9 @@ use Rattle.wc_semantics.specs.declared.progress.Flow.{Flow}
 use Rattle.wc_semantics.specs.declared.progress.Flow.TheVariants.{Goes, Ends, NoFuel}
 use Rattle.wc_semantics.specs.declared.progress.Stepped.TheVariants.{Makes}
 use Rattle.wc_machine.specs.Paths.{kills}
-use Rattle.wc_machine.specs.Resting.{meant}
+use Rattle.wc_machine.specs.Rest.{meant}
 use Rattle.wc_soundness.specs.Library.{calls_with, output_at, double, fan, go, done, input_a, numeral, one_more, library}
-use Rattle.wc_soundness.specs.Writing.{word}
+use Rattle.wc_soundness.specs.Words.{word}
 use Rattle.wc_soundness.specs.FanWorlds as fans
 use Rattle.wc_soundness.specs.FanWorlds.{HasBoth}
 use Rattle.wc_soundness.specs.KilledWorlds as killed

@@ -19,7 +19,7 @@ use Rattle.wc_world.proofs.ReachedLists.{all_at_apart, all_found, at_one, at_one
 use Rattle.wc_machine.specs.Continues.{Carries}
 use Rattle.wc_machine.specs.Sound.{IsFitting}
 use Rattle.wc_machine.proofs.AcceptedEnds.{live_without_output, settled_all}
-use Rattle.wc_soundness.specs.Touching.{AddsFor, Touches}
+use Rattle.wc_soundness.specs.Touches.{AddsFor, Touches}
 use Rattle.wc_soundness.specs.JobLaws.{MovesAreAccepted, MovesTouch}
 use Rattle.wc_soundness.specs.Sets.{moved, moved_world}
 

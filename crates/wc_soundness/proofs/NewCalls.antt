@@ -9,9 +9,9 @@ use Rattle.wc_state.specs.declared.record.ProcessRecord.{ProcessRecord}
 use Rattle.wc_world.specs.Fits.{calls_from}
 use Rattle.wc_world.specs.Records.{is_call_from}
 use Rattle.wc_world.specs.World.{World}
-use Rattle.wc_machine.specs.Calling.{awaits, called_number}
+use Rattle.wc_machine.specs.Calls.{awaits, called_number}
 use Rattle.wc_machine.specs.Sound.{AllDiffer, AreAwaited, AreNumbered}
-use Rattle.wc_machine.specs.Stepping.{Call}
+use Rattle.wc_machine.specs.Steps.{Call}
 use Rattle.wc_turn_laws.specs.OutlineLaws as outline
 use Rattle.wc_soundness.specs.Submitted.{links_of_calls}
 

@@ -9,13 +9,13 @@ use Rattle.wc_world.specs.World.{World}
 use Rattle.wc_world.specs.declared.change.Change.{Change}
 use Rattle.wc_world.specs.Records.{find_record, has_ended, is_call_from}
 use Rattle.wc_machine.specs.declared.answer.TaskAnswer.{TaskAnswer}
-use Rattle.wc_machine.specs.Advancing.{Advanced, goes, loops, submits, ends, advance}
-use Rattle.wc_machine.specs.Calling.{advanced}
-use Rattle.wc_machine.specs.Ending as ending
-use Rattle.wc_machine.specs.Killing.{fuel_after, kill_below, kill_changes, killed}
+use Rattle.wc_machine.specs.Advances.{Advanced, goes, loops, submits, ends, advance}
+use Rattle.wc_machine.specs.Calls.{advanced}
+use Rattle.wc_machine.specs.Ends as ending
+use Rattle.wc_machine.specs.Kills.{fuel_after, kill_below, kill_changes, killed}
 use Rattle.wc_machine.specs.Machine.{submits as submission, turns, pauses, plays, kills}
 use Rattle.wc_machine.specs.Recorded.{recorded_inputs}
-use Rattle.wc_machine.specs.Turning.{TurnGives, calculates, clones, begins, excepts, gives_up, moves, parses, advances, binds}
+use Rattle.wc_machine.specs.Turns.{TurnGives, calculates, clones, begins, excepts, gives_up, moves, parses, advances, binds}
 use Rattle.wc_soundness.proofs.Replaced.{one_record}
 use Rattle.wc_soundness.proofs.Marks.{marks_kept}
 use Rattle.wc_soundness.specs.ListLaws.{OnlyMarksChangeNothing}

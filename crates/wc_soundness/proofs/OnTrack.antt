@@ -34,17 +34,17 @@ use Rattle.wc_world.specs.Fits.{calls_from}
 use Rattle.wc_world.specs.Records.{find_record, has_ended, is_call_from, library_at}
 use Rattle.wc_world.specs.Trees.{Branch, branches, environment_at, inputs_of, items_of, context_of, recorded_tree}
 use Rattle.wc_world.proofs.FoundRecords.{found_holds}
-use Rattle.wc_machine.specs.Agreeing.{Agrees}
-use Rattle.wc_machine.specs.Calling.{bound, bound_in, fuel_of}
+use Rattle.wc_machine.specs.Agreement.{Agrees}
+use Rattle.wc_machine.specs.Calls.{bound, bound_in, fuel_of}
 use Rattle.wc_machine.specs.Outlines.{blocks, left}
 use Rattle.wc_machine.specs.Paths.{call_links, called_under, cut_after, kills}
-use Rattle.wc_machine.specs.Resting.{FitKills, GivesTree, IsOnTrack, and_planned, as_call, awaited, bound_calls, bound_trees, chain_rest, env_alone, gone_on, levels_of, meant, part_rest, planned_of, progress_of, progress_with, rest, with_stop}
+use Rattle.wc_machine.specs.Rest.{FitKills, GivesTree, IsOnTrack, and_planned, as_call, awaited, bound_calls, bound_trees, chain_rest, env_alone, gone_on, levels_of, meant, part_rest, planned_of, progress_of, progress_with, rest, with_stop}
 use Rattle.wc_machine.specs.Sound.{IsSound}
 use Rattle.wc_machine.proofs.Frames.{branches_by}
 use Rattle.wc_turn_laws.specs.Instead.{GiveOneTree}
 use Rattle.wc_turn_laws.proofs.Blind.{equal_trees_end_alike}
 use Rattle.wc_soundness.proofs.Touched.{called_link}
-use Rattle.wc_soundness.specs.Replacing.{IsSet}
+use Rattle.wc_soundness.specs.Replaced.{IsSet}
 use Rattle.wc_soundness.proofs.Replaced.{after, now, found_now, narrows}
 use Rattle.wc_soundness.proofs.KillChildren.{IsOver}
 use Rattle.wc_soundness.proofs.OthersOnTrack.{bound_call, items_same, kills_below, kills_under, over_same}

@@ -32,16 +32,16 @@ use Rattle.wc_world.specs.Trees.{Branch, branches, outputs_of, recorded_tree, tr
 use Rattle.wc_world.proofs.FoundRecords.{IsDeeper, call_is_deeper, found_holds}
 use Rattle.wc_world.proofs.ReachedGrown.{calls_grow, grows}
 use Rattle.wc_world.proofs.ReachedLists.{all_at, unique}
-use Rattle.wc_machine.specs.Agreeing.{Agrees}
+use Rattle.wc_machine.specs.Agreement.{Agrees}
 use Rattle.wc_machine.specs.Created.{IsGiven, killed, killed_outcome}
 use Rattle.wc_machine.specs.Paths.{cut_after, kills}
 use Rattle.wc_machine.specs.Recorded.{recorded_inputs}
-use Rattle.wc_machine.specs.Resting.{GivesTree, IsOnTrack, is_awaited, levels_of, meant, with_stop}
+use Rattle.wc_machine.specs.Rest.{GivesTree, IsOnTrack, is_awaited, levels_of, meant, with_stop}
 use Rattle.wc_machine.specs.Sound.{CallsAreKept, IsMeant, IsSound, KeepsFew, fuel_in, is_awaited_in}
 use Rattle.wc_machine.proofs.AcceptedEnds.{live_without_output}
 use Rattle.wc_machine.proofs.CreatedOutputs.{without_output}
 use Rattle.wc_machine.proofs.Frames.{branches_by, outputs_untouched}
-use Rattle.wc_soundness.specs.Replacing.{IsSet, SetsWell, set_to}
+use Rattle.wc_soundness.specs.Replaced.{IsSet, SetsWell, set_to}
 use Rattle.wc_soundness.proofs.KillChildren.{IsOver}
 use Rattle.wc_soundness.proofs.OthersOnTrack.{kills_below, over_same}
 use Rattle.wc_soundness.proofs.Replaced.{after, at_it, found_now, narrows, now, one_record, setting}

@@ -16,7 +16,7 @@ use Rattle.wc_world.proofs.FoundRecords.{found_holds}
 use Rattle.wc_world.proofs.ReachedLists.{option_map_some}
 use Rattle.wc_machine.specs.Paths.{kills}
 use Rattle.wc_machine.specs.Recorded.{recorded_inputs}
-use Rattle.wc_machine.specs.Resting.{GivesTree, levels_of, meant}
+use Rattle.wc_machine.specs.Rest.{GivesTree, levels_of, meant}
 use Rattle.wc_machine.specs.Sound.{IsMeant}
 use Rattle.wc_soundness.specs.ResultLaws.{RunAlike, OneMeaning, RecordedIsMeant}
 

@@ -21,7 +21,7 @@ use Rattle.wc_world.proofs.After.{find_at}
 use Rattle.wc_machine.specs.Continues.{Carries}
 use Rattle.wc_machine.specs.Paths.{follow, cut_after, kills}
 use Rattle.wc_machine.specs.Sound.{IsFitting}
-use Rattle.wc_soundness.specs.Touching.{Touches, AddsFor, MayBeTouched}
+use Rattle.wc_soundness.specs.Touches.{Touches, AddsFor, MayBeTouched}
 
 -- the chain runs at this checkpoint, with this amount of fuel
 abbrev pub at_checkpoint : ProcessRecord → ℕ → Checkpoint → SetProcess

@@ -18,10 +18,10 @@ use Rattle.wc_world.proofs.FoundRecords.{found_holds}
 use Rattle.wc_world.proofs.ReachedLists.{at_one_keeps, all_at_apart}
 use Rattle.wc_world.proofs.ReachedSources.{SourceIs, source_told}
 use Rattle.wc_machine.specs.Created.{GivenFor, killed, cached, function, job, no_request, IsGiven}
-use Rattle.wc_machine.specs.Resting.{is_awaited}
+use Rattle.wc_machine.specs.Rest.{is_awaited}
 use Rattle.wc_machine.specs.Sources.{HaveEqualKeys, IsValidSource, IsSourceFor, IsLowestSource, KeepsRule}
 use Rattle.wc_machine.specs.Sound.{TakesItsInputs, IsCaller, CallsAreKept, AwaitsLastCalls, IsEndedCall, HoldsEnded, IsKnownNode, NamesKnown, IsSound}
-use Rattle.wc_soundness.specs.Replacing.{IsSet}
+use Rattle.wc_soundness.specs.Replaced.{IsSet}
 use Rattle.wc_soundness.proofs.Replaced.{one_record, after, now, at_it, setting, found_mapped, found_other, unsourced}
 use Rattle.wc_soundness.proofs.OthersOnTrack.{over_same}
 

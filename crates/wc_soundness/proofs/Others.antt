@@ -18,12 +18,12 @@ use Rattle.wc_world.proofs.FoundRecords.{found_holds, left, right}
 use Rattle.wc_world.proofs.ReachedLists.{AreUnique, found_node, unique}
 use Rattle.wc_machine.specs.Created.{GivenFor, killed, cached, function, job, no_request, IsGiven}
 use Rattle.wc_machine.specs.Recorded.{folder_of, its_definition, recorded_inputs, result_with}
-use Rattle.wc_machine.specs.Resting.{IsOnTrack}
+use Rattle.wc_machine.specs.Rest.{IsOnTrack}
 use Rattle.wc_machine.specs.Sources.{HaveEqualKeys, IsLowestSource, IsSourceFor, IsValidSource, KeepsRule}
 use Rattle.wc_machine.specs.Sound.{AwaitsLastCalls, CallsAreKept, IsFitting, IsPlaced, IsSound, KeepsFew, NamesKnown, fuel_in, is_awaited_in}
 use Rattle.wc_machine.proofs.Upward.{upward_is_acyclic}
 use Rattle.wc_soundness.specs.FramingLaws.{OthersStaySound, TouchedWorldsAreSound}
-use Rattle.wc_soundness.specs.Touching.{Touches, MayBeTouched, EndsLate, HasSoundLists, IsSoundRecord}
+use Rattle.wc_soundness.specs.Touches.{Touches, MayBeTouched, EndsLate, HasSoundLists, IsSoundRecord}
 use Rattle.wc_soundness.proofs.LeftAlone.{awaits_kept, bare_kept, calls_kept, fitting_kept, names_kept, placed_kept}
 use Rattle.wc_soundness.proofs.Standing.{Over, over_found, track_kept}
 use Rattle.wc_soundness.proofs.Touched.{found_kept, inputs_kept, library_kept, no_call, no_output, outputs_kept, over_differs, stands, stays_ended, within}

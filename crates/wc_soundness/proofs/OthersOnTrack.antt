@@ -29,14 +29,14 @@ use Rattle.wc_world.proofs.FoundRecords.{found_holds, left, right}
 use Rattle.wc_world.proofs.ReachedLists.{found_node, at_one_keeps}
 use Rattle.wc_machine.specs.Paths.{called_under, follow, kills, cut_after, call_links}
 use Rattle.wc_machine.specs.Recorded.{its_definition, recorded_inputs}
-use Rattle.wc_machine.specs.Resting.{with_stop, meant, bound_calls, env_alone, set_values, progress_with, bound_trees, progress_of, planned_of, and_planned, awaited, chain_rest, part_rest, rest, is_awaited, has_bound, FitKills, GivesTree, IsOnTrack}
+use Rattle.wc_machine.specs.Rest.{with_stop, meant, bound_calls, env_alone, set_values, progress_with, bound_trees, progress_of, planned_of, and_planned, awaited, chain_rest, part_rest, rest, is_awaited, has_bound, FitKills, GivesTree, IsOnTrack}
 use Rattle.wc_machine.specs.Sound.{IsEndedCall, HoldsEnded, NamesKnown, IsSound}
 use Rattle.wc_machine.proofs.Frames.{branches_by}
 use Rattle.wc_turn_laws.specs.RunLaws.{IsUnderItsLabel}
-use Rattle.wc_soundness.specs.Touching.{StaysEnded}
+use Rattle.wc_soundness.specs.Touches.{StaysEnded}
 use Rattle.wc_turn_laws.proofs.CalledLabels.{calls_under_labels}
 use Rattle.wc_soundness.proofs.Touched.{called_link}
-use Rattle.wc_soundness.specs.Replacing.{IsSet}
+use Rattle.wc_soundness.specs.Replaced.{IsSet}
 use Rattle.wc_soundness.proofs.Replaced.{after, at_it, setting, found_mapped, found_other, stays, narrows, over_differs}
 use Rattle.wc_soundness.proofs.KillChildren.{IsOver, over_if_not_awaited, all_over, bound_over}
 

@@ -35,10 +35,10 @@ use Rattle.wc_expression.specs.Outcomes.{◌>>=◌}
 use Rattle.wc_expression.specs.Val.{val}
 use Rattle.wc_semantics.specs.Meaning.{kinds_of, takes_of}
 use Rattle.wc_semantics.specs.Tables.{Label}
-use Rattle.wc_machine.specs.Advancing.{Advanced, advance, after_step, at_innermost, popped}
+use Rattle.wc_machine.specs.Advances.{Advanced, advance, after_step, at_innermost, popped}
 use Rattle.wc_machine.specs.Outlines.{Blocks, InstrIn, ArmIn, BlockIn, instr_in, arm_in, block_in, blocks}
-use Rattle.wc_machine.specs.Stepping.{Call, Noted, collected, fitting_node, makes, node_in, or_wrong, output, output_node, or_plain, or_stops, planned, statements, values_in, with_call, with_output}
-use Rattle.wc_soundness.specs.Writing.{word}
+use Rattle.wc_machine.specs.Steps.{Call, Noted, collected, fitting_node, makes, node_in, or_wrong, output, output_node, or_plain, or_stops, planned, statements, values_in, with_call, with_output}
+use Rattle.wc_soundness.specs.Words.{word}
 use Rattle.wc_soundness.specs.Library.{calls_with, output_at, fan, go, done, input_a, numeral, one_more, library}
 use Rattle.wc_soundness.specs.FanWorlds as fans
 use Rattle.wc_soundness.proofs.Values.{int_allowed, number_gives, input_gives, binary_gives}

@@ -17,7 +17,7 @@ use Rattle.wc_world.specs.Records.{is_output_of}
 use Rattle.wc_world.specs.Trees.{data_of, value_of}
 use Rattle.wc_world.specs.Linked.{with_plain, plain_after}
 use Rattle.wc_world.proofs.LabelledValues.{plain_outputs}
-use Rattle.wc_machine.specs.Submitting.{AreInputs}
+use Rattle.wc_machine.specs.Submissions.{AreInputs}
 use Rattle.wc_soundness.specs.CachingLaws.{OutputsAreInputs}
 
 abbrev IsLow : List ℕ × Value → Type 0

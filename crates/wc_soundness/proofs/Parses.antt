@@ -33,11 +33,11 @@ use Rattle.wc_world.specs.Consistent.{Stands}
 use Rattle.wc_world.specs.Fits.{is_of_kind, part_fits}
 use Rattle.wc_world.specs.Records.{find_record, has_ended, library_at, same_kind}
 use Rattle.wc_world.proofs.FoundRecords.{found_holds}
-use Rattle.wc_machine.specs.Agreeing.{Agrees}
+use Rattle.wc_machine.specs.Agreement.{Agrees}
 use Rattle.wc_machine.specs.Created.{GivenFor, job}
 use Rattle.wc_machine.specs.Recorded.{Contents, HasResult, own, folder_of, folder_seen, its_definition, recorded_inputs, recorded_outputs, recorded_request, request_by, retrieved_folder}
-use Rattle.wc_machine.specs.Resting.{levels_of, meant}
-use Rattle.wc_machine.specs.Submitting.{AreInputs}
+use Rattle.wc_machine.specs.Rest.{levels_of, meant}
+use Rattle.wc_machine.specs.Submissions.{AreInputs}
 use Rattle.wc_machine.proofs.CalculatedOutputs.{concluded_set, nothing_set, rules_set, set_more}
 use Rattle.wc_machine.proofs.Endings.{applied_ends, end_record, ended_world}
 use Rattle.wc_machine.proofs.EndedWorlds.{found_end, inputs_kept, outputs_of_end}

@@ -30,18 +30,18 @@ use Rattle.wc_world.specs.Records.{find_record, has_ended, is_call_from, kind_of
 use Rattle.wc_world.proofs.FoundRecords.{found_holds}
 use Rattle.wc_world.proofs.ReachedLists.{all_at_apart}
 use Rattle.wc_machine.specs.declared.answer.TaskAnswer.{TaskAnswer}
-use Rattle.wc_machine.specs.Advancing.{Advanced, goes, loops, submits, ends, advance}
-use Rattle.wc_machine.specs.Calling.{Arguments, advanced, argument_links, awaits, bound, called_number, calls_changes, call_changes, call_link, chain_set, judged, kept_outputs, kind_of_callee, plain_data, returns, with_awaits}
-use Rattle.wc_machine.specs.Ending as ending
-use Rattle.wc_machine.specs.Ending.{creations, end_of}
-use Rattle.wc_machine.specs.Killing.{ends_killed, fuel_after, kill_below, killed}
+use Rattle.wc_machine.specs.Advances.{Advanced, goes, loops, submits, ends, advance}
+use Rattle.wc_machine.specs.Calls.{Arguments, advanced, argument_links, awaits, bound, called_number, calls_changes, call_changes, call_link, chain_set, judged, kept_outputs, kind_of_callee, plain_data, returns, with_awaits}
+use Rattle.wc_machine.specs.Ends as ending
+use Rattle.wc_machine.specs.Ends.{creations, end_of}
+use Rattle.wc_machine.specs.Kills.{ends_killed, fuel_after, kill_below, killed}
 use Rattle.wc_machine.specs.Machine as machine
 use Rattle.wc_machine.specs.Machine.{Event, Leads, turns, pauses, plays, kills, after_changes, marked, pause_changes, play_changes, renewed}
 use Rattle.wc_machine.specs.Recorded.{recorded_inputs}
 use Rattle.wc_machine.specs.Sound.{OutputsAscend}
-use Rattle.wc_machine.specs.Stepping.{Call, node, plain}
-use Rattle.wc_machine.specs.Submitting.{data_change, input_link, links_from, submitted_number}
-use Rattle.wc_machine.specs.Turning.{StandsAt, TurnGives, first_task, calculates, clones, begins, excepts, gives_up, moves, parses, advances, binds}
+use Rattle.wc_machine.specs.Steps.{Call, node, plain}
+use Rattle.wc_machine.specs.Submissions.{data_change, input_link, links_from, submitted_number}
+use Rattle.wc_machine.specs.Turns.{StandsAt, TurnGives, first_task, calculates, clones, begins, excepts, gives_up, moves, parses, advances, binds}
 use Rattle.wc_turn_laws.specs.OutlineLaws.{AreOrdered}
 use Rattle.wc_turn_laws.proofs.Ordered.{advances_keep_order, none_ascends}
 use Rattle.wc_soundness.specs.Submitted.{child_of}

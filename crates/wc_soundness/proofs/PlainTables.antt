@@ -12,7 +12,7 @@ use Rattle.wc_state.specs.declared.record.ProcessRecord.{ProcessRecord}
 use Rattle.wc_world.specs.World.{World}
 use Rattle.wc_world.specs.Records.{find_record}
 use Rattle.wc_world.proofs.ReachedLists.{found_node}
-use Rattle.wc_machine.specs.Agreeing.{AgreesWithWorld}
+use Rattle.wc_machine.specs.Agreement.{AgreesWithWorld}
 use Rattle.wc_machine.specs.Recorded.{recorded_request, HasResult}
 use Rattle.wc_machine.specs.Results.{result_of, request_at, asks, rows_among, rows_of, HasResultsByRequest}
 use Rattle.wc_soundness.specs.ResultLaws.{PlainTablesExactly}

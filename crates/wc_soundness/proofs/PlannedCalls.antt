@@ -4,10 +4,10 @@ use Rattle.wc_semantics.specs.Rules.{Values}
 use Rattle.wc_state.specs.declared.record.ProcessRecord.{ProcessRecord}
 use Rattle.wc_world.specs.World.{World}
 use Rattle.wc_world.specs.Records.{find_record}
-use Rattle.wc_machine.specs.Calling.{awaits, called_number}
+use Rattle.wc_machine.specs.Calls.{awaits, called_number}
 use Rattle.wc_machine.specs.Recorded.{recorded_inputs}
-use Rattle.wc_machine.specs.Resting.{and_planned, awaited, planned_of}
-use Rattle.wc_machine.specs.Stepping.{Call, values_in}
+use Rattle.wc_machine.specs.Rest.{and_planned, awaited, planned_of}
+use Rattle.wc_machine.specs.Steps.{Call, values_in}
 use Rattle.wc_turn_laws.specs.OutlineLaws.{as_planned}
 use Rattle.wc_soundness.specs.Submitted.{EachCall, child_record}
 

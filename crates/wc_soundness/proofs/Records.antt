@@ -12,8 +12,8 @@ use Rattle.wc_world.specs.Records.{find_record, at_process}
 use Rattle.wc_world.specs.World.{World}
 use Rattle.wc_world.proofs.After.{find_at}
 use Rattle.wc_world.proofs.ReachedLists.{find_grown, found_has, found_node}
-use Rattle.wc_machine.specs.Calling.{called_number}
-use Rattle.wc_machine.specs.Stepping.{Call}
+use Rattle.wc_machine.specs.Calls.{called_number}
+use Rattle.wc_machine.specs.Steps.{Call}
 use Rattle.wc_machine.proofs.Frames.{find_before, records_below}
 use Rattle.wc_soundness.specs.Submitted.{child_record, calls_records, EachCall, first_free, waits_at, now_waits, submitted}
 

@@ -13,12 +13,12 @@ use Rattle.wc_world.specs.Applied.{set}
 use Rattle.wc_world.specs.Records.{find_record, has_ended}
 use Rattle.wc_world.proofs.FoundRecords.{found_holds}
 use Rattle.wc_world.proofs.ReachedLists.{find_mapped, found_node, at_one, at_one_keeps}
-use Rattle.wc_machine.specs.Agreeing.{Agrees}
+use Rattle.wc_machine.specs.Agreement.{Agrees}
 use Rattle.wc_machine.specs.Continues.{Carries, Continues}
 use Rattle.wc_machine.specs.Sound.{IsFitting, IsSound}
-use Rattle.wc_soundness.specs.Touching.{AddsFor, Touches, MayBeTouched, StaysEnded}
+use Rattle.wc_soundness.specs.Touches.{AddsFor, Touches, MayBeTouched, StaysEnded}
 use Rattle.wc_soundness.proofs.Touched.{tables_narrow, ended_stay, touching_continues}
-use Rattle.wc_soundness.specs.Replacing.{set_to, record_to, world_to, IsSet}
+use Rattle.wc_soundness.specs.Replaced.{set_to, record_to, world_to, IsSet}
 
 pub one_record : (o : Option ProcessRecord) (r q : ProcessRecord) → o ≡ Some r → o ≡ Some q → r ≡ q
 one_record o r q h k = let e : Some r ≡ Some q = sym h ∙ k in cc

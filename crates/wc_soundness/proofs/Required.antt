@@ -23,7 +23,7 @@ use Rattle.wc_semantics.specs.Laws.{arm_block}
 use Rattle.wc_semantics.specs.Run.{instrs}
 use Rattle.wc_semantics.proofs.Induction.{AllOf, Inside, every_block}
 use Rattle.wc_machine.specs.Outlines.{Blocks, blocks, blocks_in}
-use Rattle.wc_machine.specs.Submitting.{IsKeptLibrary}
+use Rattle.wc_machine.specs.Submissions.{IsKeptLibrary}
 use Rattle.wc_turn_laws.proofs.Numbering.{arm_blocks, blocks_are, blocks_in_are, listed, opened_blocks}
 
 -- ---- lists

@@ -18,7 +18,7 @@ use Rattle.wc_world.specs.Records.{find_record, library_at}
 use Rattle.wc_world.specs.Trees.{inputs_of, items_of, context_of, environment_at}
 use Rattle.wc_world.specs.World.{World}
 use Rattle.wc_machine.specs.Recorded.{its_definition}
-use Rattle.wc_machine.specs.Resting.{levels_of, env_alone, set_values, as_call, progress_with, progress_of, bound_trees, awaited, gone_on, chain_rest, part_rest, rest}
+use Rattle.wc_machine.specs.Rest.{levels_of, env_alone, set_values, as_call, progress_with, progress_of, bound_trees, awaited, gone_on, chain_rest, part_rest, rest}
 use Rattle.wc_turn_laws.specs.Instead.{MadeCalls}
 use Rattle.wc_turn_laws.specs.OutlineLaws.{run_on}
 use Rattle.wc_turn_laws.specs.View.{context_in, values_of, env_in, progress_in}

@@ -16,11 +16,11 @@ use Rattle.wc_world.specs.declared.change.Change.{Change}
 use Rattle.wc_world.specs.World.{World}
 use Rattle.wc_world.specs.Applied.{set, changed, begun, applied}
 use Rattle.wc_world.specs.Records.{at_process, calls, is_output_of}
-use Rattle.wc_machine.specs.Calling.{chain_set, kept_outputs, returns}
+use Rattle.wc_machine.specs.Calls.{chain_set, kept_outputs, returns}
 use Rattle.wc_machine.specs.Sound.{GoesUp}
 use Rattle.wc_machine.proofs.Frames.{NoCalls, NoOutput}
-use Rattle.wc_soundness.specs.Touching.{AddsFor}
-use Rattle.wc_soundness.specs.Replacing.{set_to}
+use Rattle.wc_soundness.specs.Touches.{AddsFor}
+use Rattle.wc_soundness.specs.Replaced.{set_to}
 
 -- what an end leaves of the outputs: those of a chain that finished
 abbrev pub kept_of : ProcessState → List (Label × ℕ) → List (Label × ℕ)

@@ -9,10 +9,10 @@ use Rattle.wc_world.specs.Records.{find_record, has_ended, is_calculation, defin
 use Rattle.wc_world.proofs.FoundRecords.{found_holds}
 use Rattle.wc_world.proofs.ReachedLists.{AreUnique, unique, found_node, definition_grown}
 use Rattle.wc_machine.specs.Continues.{Carries, Continues}
-use Rattle.wc_machine.specs.Ending.{TakesSource}
+use Rattle.wc_machine.specs.Ends.{TakesSource}
 use Rattle.wc_machine.specs.Recorded.{its_definition, recorded_inputs}
 use Rattle.wc_machine.specs.Sources.{IsSourceFor, IsLowestSource, KeepsRule, KeepsCacheRule}
-use Rattle.wc_soundness.specs.Starting.{EndsAreLater, StartsByRule, waits, stays, starts}
+use Rattle.wc_soundness.specs.Starts.{EndsAreLater, StartsByRule, waits, stays, starts}
 use Rattle.wc_soundness.specs.CachingLaws.{RuleIsStable}
 
 pub defined_some : (o : Option Definition) (r : ProcessRecord) → is_of_kind r.kind o ≡ true → (d : Definition) × (o ≡ Some d)

@@ -21,7 +21,7 @@ use Rattle.wc_world.specs.Fits.{is_data_node}
 use Rattle.wc_world.specs.Records.{find_record, is_input_of, is_output_of}
 use Rattle.wc_world.specs.Trees.{NamedValues, data_of, value_of, with_value, inputs_after, inputs_of, outputs_after, outputs_of, child_at, and_child, children_at, item_of, and_item, items_of}
 use Rattle.wc_world.specs.World.{World}
-use Rattle.wc_machine.specs.Resting.{and_value, set_values}
+use Rattle.wc_machine.specs.Rest.{and_value, set_values}
 use Rattle.wc_turn_laws.specs.Nodes.{EachNode, InItem, NodesAre}
 use Rattle.wc_turn_laws.specs.View.{View, IsSeenRight, AreSeen, item_in, context_in, values_of, env_in}
 use Rattle.wc_turn_laws.proofs.Passed.{put_keeps}

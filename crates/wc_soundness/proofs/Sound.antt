@@ -16,11 +16,11 @@ use Rattle.wc_world.proofs.ReachedGrown.{Grows, grows, calls_grow, kind_grows, s
 use Rattle.wc_world.proofs.ReachedLists.{AreUnique, unique, all_at_apart, all_found, process_at_one}
 use Rattle.wc_world.proofs.ReachedSources.{KeepsSources, source_kept, source_told, source_from}
 use Rattle.wc_machine.specs.Created.{IsGiven}
-use Rattle.wc_machine.specs.Resting.{IsOnTrack}
+use Rattle.wc_machine.specs.Rest.{IsOnTrack}
 use Rattle.wc_machine.specs.Sound.{IsFitting, IsPlaced, CallsAreKept, AwaitsLastCalls, NamesKnown, IsMeant, IsSound, KeepsFew, fuel_in}
 use Rattle.wc_machine.specs.Sources.{KeepsRule}
 use Rattle.wc_machine.proofs.AcceptedEnds.{live_without_output}
-use Rattle.wc_soundness.specs.Replacing.{set_to, IsSet, SetsWell, SetsKeepSound}
+use Rattle.wc_soundness.specs.Replaced.{set_to, IsSet, SetsWell, SetsKeepSound}
 use Rattle.wc_soundness.proofs.Others.{live_counted}
 use Rattle.wc_soundness.proofs.Replaced.{one_record, after, now, setting, found_now, found_other, stays}
 use Rattle.wc_soundness.proofs.OtherRecords.{live_unended, is_given_stays, rule_stays, rule_now, takes_stays, takes_now, caller_stays, calls_stay, awaits_stay, names_stay}

@@ -27,21 +27,21 @@ use Rattle.wc_world.specs.Trees.{branches, context_of, recorded_tree, tree_with,
 use Rattle.wc_world.proofs.FoundRecords.{found_holds}
 use Rattle.wc_world.proofs.ReachedLists.{all_at, all_found, unique}
 use Rattle.wc_world.proofs.ReachedWorlds.{accepted_is_consistent}
-use Rattle.wc_machine.specs.Agreeing.{Agrees}
+use Rattle.wc_machine.specs.Agreement.{Agrees}
 use Rattle.wc_machine.specs.Continues.{Continues}
 use Rattle.wc_machine.specs.Created.{GivenFor, IsGiven}
-use Rattle.wc_machine.specs.Ending.{ends}
+use Rattle.wc_machine.specs.Ends.{ends}
 use Rattle.wc_machine.specs.Laws.{HasPlaces}
 use Rattle.wc_machine.specs.Paths.{cut_after, kills}
 use Rattle.wc_machine.specs.Recorded.{its_definition, recorded_outputs}
-use Rattle.wc_machine.specs.Resting.{is_awaited}
+use Rattle.wc_machine.specs.Rest.{is_awaited}
 use Rattle.wc_machine.specs.Sound.{CallsAreKept, IsFitting, IsMeant, IsPlaced, IsSound, KeepsFew, TakesItsInputs, fuel_in}
 use Rattle.wc_machine.specs.Sources.{HaveEqualKeys, IsLowestSource, KeepsRule}
 use Rattle.wc_machine.proofs.CreatedOutputs.{creates_no_call}
 use Rattle.wc_machine.proofs.Endings.{applied_ends, creates, data_nodes, end_record, ended_world}
 use Rattle.wc_machine.proofs.EndedWorlds.{found_end, outputs_of_end, upward_after}
 use Rattle.wc_machine.proofs.Frames.{NoCallFrom, branches_before, no_call_from, records_below}
-use Rattle.wc_soundness.specs.Touching.{EndsLate, IsSoundRecord, MayBeTouched, Touches}
+use Rattle.wc_soundness.specs.Touches.{EndsLate, IsSoundRecord, MayBeTouched, Touches}
 use Rattle.wc_soundness.proofs.LeftAlone.{calls_kept, placed_kept, fitting_kept}
 use Rattle.wc_soundness.proofs.Others.{lowest_kept, touched_worlds_are_sound}
 use Rattle.wc_soundness.proofs.Touched.{meant_kept, touching_continues}

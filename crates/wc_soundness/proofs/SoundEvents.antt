@@ -4,7 +4,7 @@ use Rattle.wc_world.specs.declared.change.Change.{Change}
 use Rattle.wc_world.specs.World.{World, empty}
 use Rattle.wc_world.specs.Accepted.{IsReached, nothing, then_changes}
 use Rattle.wc_machine.specs.Machine.{submits, turns, pauses, plays, kills, pause_changes, play_changes, after_changes}
-use Rattle.wc_machine.specs.Killing.{kill_changes}
+use Rattle.wc_machine.specs.Kills.{kill_changes}
 use Rattle.wc_soundness.specs.BindingLaws.{KeepsSound}
 use Rattle.wc_soundness.specs.Sets.{AreSafe}
 use Rattle.wc_soundness.proofs.Marks.{marks_safe}

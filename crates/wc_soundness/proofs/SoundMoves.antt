@@ -30,11 +30,11 @@ use Rattle.wc_world.proofs.ReachedLists.{all_found, unique}
 use Rattle.wc_world.proofs.ReachedWorlds.{accepted_is_consistent}
 use Rattle.wc_machine.specs.Continues.{Continues}
 use Rattle.wc_machine.specs.Recorded.{its_definition}
-use Rattle.wc_machine.specs.Resting.{awaited, chain_rest, is_awaited, meant, part_rest, progress_of, rest, with_stop, FitKills, GivesTree, IsOnTrack}
+use Rattle.wc_machine.specs.Rest.{awaited, chain_rest, is_awaited, meant, part_rest, progress_of, rest, with_stop, FitKills, GivesTree, IsOnTrack}
 use Rattle.wc_machine.specs.Sound.{AllDiffer, AwaitsLastCalls, CallsAreKept, IsFitting, IsPlaced, IsSound, NamesKnown, OutputsAscend, TakesItsInputs, awaited_numbers, fuel_in, is_awaited_in}
 use Rattle.wc_machine.specs.Sources.{HaveEqualKeys, IsLowestSource, KeepsRule}
 use Rattle.wc_machine.proofs.Frames.{NoCallFrom, and_false, records_below}
-use Rattle.wc_soundness.specs.Touching.{EndsLate, IsSoundRecord, MayBeTouched, Touches}
+use Rattle.wc_soundness.specs.Touches.{EndsLate, IsSoundRecord, MayBeTouched, Touches}
 use Rattle.wc_soundness.proofs.LeftAlone.{awaits_kept, calls_kept, fitting_kept, names_kept, placed_kept}
 use Rattle.wc_soundness.proofs.Others.{lowest_kept, touched_worlds_are_sound}
 use Rattle.wc_soundness.proofs.Standing.{track_kept}

@@ -8,15 +8,15 @@ use Rattle.wc_state.specs.declared.record.Checkpoint.{Checkpoint}
 use Rattle.wc_state.specs.declared.record.ProcessRecord.{ProcessRecord}
 use Rattle.wc_world.specs.Records.{find_record, has_ended}
 use Rattle.wc_world.specs.World.{World}
-use Rattle.wc_machine.specs.Advancing.{Advanced, goes, loops, advance}
+use Rattle.wc_machine.specs.Advances.{Advanced, goes, loops, advance}
 use Rattle.wc_machine.specs.Sound.{IsKnownNode, HoldsEnded, OutputsAscend}
-use Rattle.wc_machine.specs.Resting.{IsOnTrack}
+use Rattle.wc_machine.specs.Rest.{IsOnTrack}
 use Rattle.wc_machine.specs.Tasks.{saturated}
 use Rattle.wc_turn_laws.specs.OutlineLaws.{AreOrdered, KeepsCalls}
 use Rattle.wc_turn_laws.specs.Nodes.{NodesAre, Holds, HoldsAfter}
 use Rattle.wc_turn_laws.proofs.Ordered.{none_ascends, advances_keep_order}
 use Rattle.wc_turn_laws.proofs.Passed.{advance_holds}
-use Rattle.wc_soundness.specs.Touching.{Touches}
+use Rattle.wc_soundness.specs.Touches.{Touches}
 use Rattle.wc_soundness.specs.TrackLaws.{IsAtTurn, IsSoundChain, IsSoundTurn, ChainsStaySound}
 use Rattle.wc_soundness.proofs.ChainAdvances.{env_is, its_record, numbered, goes_on_track, loops_on_track}
 use Rattle.wc_soundness.proofs.TrackKept.{fits_now, calls_now, awaits_now, placed_now}

@@ -37,12 +37,12 @@ use Rattle.wc_world.proofs.FoundRecords.{IsDeeper, call_is_deeper, found_holds, 
 use Rattle.wc_world.proofs.ReachedLists.{found_node}
 use Rattle.wc_machine.specs.Paths.{call_links, called_under, cut_after, follow, kills}
 use Rattle.wc_machine.specs.Recorded.{its_definition, recorded_inputs}
-use Rattle.wc_machine.specs.Resting.{and_planned, and_value, awaited, bound_calls, bound_trees, chain_rest, env_alone, has_bound, is_awaited, meant, part_rest, gone_on, levels_of, planned_of, progress_of, progress_with, rest, set_values, with_stop, FitKills, GivesTree, IsOnTrack}
+use Rattle.wc_machine.specs.Rest.{and_planned, and_value, awaited, bound_calls, bound_trees, chain_rest, env_alone, has_bound, is_awaited, meant, part_rest, gone_on, levels_of, planned_of, progress_of, progress_with, rest, set_values, with_stop, FitKills, GivesTree, IsOnTrack}
 use Rattle.wc_machine.specs.Sound.{AreAwaited, AwaitsLastCalls, CallsAreKept, HoldsEnded, IsEndedCall, IsSound, NamesKnown}
 use Rattle.wc_machine.proofs.EndedTrees.{call_is_called}
 use Rattle.wc_machine.proofs.Frames.{NoCallFrom, any_before, branches_before, branches_by, called_before, filter_before, inputs_stay, outputs_stay, value_stays}
 use Rattle.wc_machine.proofs.Untouched.{tree_stays}
-use Rattle.wc_soundness.specs.Touching.{Touches, MayBeTouched}
+use Rattle.wc_soundness.specs.Touches.{Touches, MayBeTouched}
 use Rattle.wc_turn_laws.proofs.CalledLabels.{calls_under_labels, distinct}
 use Rattle.wc_soundness.proofs.Touched.{IsOver, agreed_before, carried_on, kill_kept, library_kept, meant_kept, no_input, no_output, over_differs, stands, untouched, inputs_kept, within as number_within, called_link}
 

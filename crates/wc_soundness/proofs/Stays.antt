@@ -14,7 +14,7 @@ use Rattle.wc_machine.specs.Continues.{Continues}
 use Rattle.wc_machine.specs.Created.{GivenFor, killed, cached, function, job, no_request, IsGiven}
 use Rattle.wc_machine.specs.Recorded.{its_definition, folder_of, result_with}
 use Rattle.wc_machine.specs.Sources.{KeepsRule}
-use Rattle.wc_soundness.specs.Touching.{StaysEnded}
+use Rattle.wc_soundness.specs.Touches.{StaysEnded}
 use Rattle.wc_soundness.proofs.Touched.{ended_stay, touching_continues}
 use Rattle.wc_soundness.specs.CachingLaws.{GivenStays}
 use Rattle.wc_soundness.proofs.Given.{KeepsSources, one_found, source_alike, takes_by_rule}

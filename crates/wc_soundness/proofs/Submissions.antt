@@ -19,7 +19,7 @@ use Rattle.wc_world.proofs.ReachedLists.{found_has, found_node}
 use Rattle.wc_world.proofs.ReachedWorlds.{accepted_is_consistent}
 use Rattle.wc_machine.specs.Recorded.{its_definition, recorded_inputs}
 use Rattle.wc_machine.specs.Sound.{GoesUp, TakesItsInputs, IsFitting, IsSound}
-use Rattle.wc_machine.specs.Submitting.{IsKeptLibrary, Submits, input_link, submitted_number}
+use Rattle.wc_machine.specs.Submissions.{IsKeptLibrary, Submits, input_link, submitted_number}
 use Rattle.wc_machine.proofs.AcceptedEnds.{live_without_output}
 use Rattle.wc_machine.proofs.OneMore.{Addition, added, grown, differs, every, number_within}
 use Rattle.wc_machine.proofs.OneMoreMeaning.{fresh_on_track}
@@ -28,7 +28,7 @@ use Rattle.wc_machine.proofs.Submitted.{at_length, linked, new_nodes, new_links,
 use Rattle.wc_machine.proofs.SubmittedAccepted.{inputs_are}
 use Rattle.wc_machine.proofs.SubmittedAddition.{addition}
 use Rattle.wc_machine.proofs.SubmittedInputs.{inputs_gathered}
-use Rattle.wc_soundness.specs.Touching.{Touches, MayBeTouched, EndsLate, IsSoundRecord}
+use Rattle.wc_soundness.specs.Touches.{Touches, MayBeTouched, EndsLate, IsSoundRecord}
 use Rattle.wc_soundness.proofs.Others.{others_stay_sound, sound_by_records}
 use Rattle.wc_soundness.specs.CachingLaws.{AnySubmissionKeepsSound}
 use Rattle.wc_soundness.proofs.Submitted.{submission_touches}

@@ -33,9 +33,9 @@ use Rattle.wc_world.specs.World.{World, Known}
 use Rattle.wc_world.specs.declared.change.Change.{Change}
 use Rattle.wc_world.specs.declared.change.Change.TheVariants as change
 use Rattle.wc_world.proofs.ReachedLists.{find_grown, node_grown}
-use Rattle.wc_machine.specs.Calling.{Arguments, argument_links, call_changes, call_link, called_number, calls_changes, kind_named, kind_of_callee, plain_data}
-use Rattle.wc_machine.specs.Stepping.{node, plain, Call, values_in}
-use Rattle.wc_machine.specs.Submitting.{input_link}
+use Rattle.wc_machine.specs.Calls.{Arguments, argument_links, call_changes, call_link, called_number, calls_changes, kind_named, kind_of_callee, plain_data}
+use Rattle.wc_machine.specs.Steps.{node, plain, Call, values_in}
+use Rattle.wc_machine.specs.Submissions.{input_link}
 use Rattle.wc_machine.proofs.Frames.{target_is_node, node_number}
 use Rattle.wc_machine.proofs.Submitted.{at_length, with_nodes, with_links}
 use Rattle.wc_machine.proofs.SubmittedAccepted.{apply_append}

@@ -12,10 +12,10 @@ use Rattle.wc_world.specs.Applied.{set}
 use Rattle.wc_world.specs.Records.{at_process, find_record, has_ended, process_node}
 use Rattle.wc_world.specs.World.{World}
 use Rattle.wc_world.proofs.ReachedLists.{all_found, unique}
-use Rattle.wc_machine.specs.Calling.{awaits, called_number, kind_of_callee}
-use Rattle.wc_machine.specs.Resting.{is_awaited}
+use Rattle.wc_machine.specs.Calls.{awaits, called_number, kind_of_callee}
+use Rattle.wc_machine.specs.Rest.{is_awaited}
 use Rattle.wc_machine.specs.Sound.{IsSound, fuel_in, is_awaited_in}
-use Rattle.wc_machine.specs.Stepping.{Call}
+use Rattle.wc_machine.specs.Steps.{Call}
 use Rattle.wc_machine.proofs.Frames.{records_below}
 use Rattle.wc_soundness.specs.Submitted.{call_nodes, calls_nodes, calls_records, data_nodes, first_free, submitted, waits_at}
 

@@ -20,16 +20,16 @@ use Rattle.wc_world.specs.Records.{find_record, is_calculation}
 use Rattle.wc_world.specs.Trees.{data_of, value_of}
 use Rattle.wc_world.specs.World.{World}
 use Rattle.wc_world.proofs.ReachedWorlds.{accepted_is_consistent}
-use Rattle.wc_machine.specs.Advancing.{advance, submits}
-use Rattle.wc_machine.specs.Calling.{Arguments, advanced, call_link, called_number, kind_of_callee, plain_data}
+use Rattle.wc_machine.specs.Advances.{advance, submits}
+use Rattle.wc_machine.specs.Calls.{Arguments, advanced, call_link, called_number, kind_of_callee, plain_data}
 use Rattle.wc_machine.specs.Continues.{Continues}
 use Rattle.wc_machine.specs.Laws.{HasPlaces}
 use Rattle.wc_machine.specs.Sound.{GoesUp, IsSound, is_provenance}
 use Rattle.wc_machine.specs.Sources.{KeepsRule}
-use Rattle.wc_machine.specs.Stepping.{Argument, node, plain, Call}
-use Rattle.wc_machine.specs.Submitting.{input_link}
+use Rattle.wc_machine.specs.Steps.{Argument, node, plain, Call}
+use Rattle.wc_machine.specs.Submissions.{input_link}
 use Rattle.wc_machine.proofs.Frames.{IsNode, node_number}
-use Rattle.wc_soundness.specs.Touching.{HasSoundLists, IsSoundRecord, Touches}
+use Rattle.wc_soundness.specs.Touches.{HasSoundLists, IsSoundRecord, Touches}
 use Rattle.wc_soundness.proofs.Others.{touched_worlds_are_sound}
 use Rattle.wc_soundness.proofs.Touched.{touching_continues}
 use Rattle.wc_turn_laws.specs.Nodes.{InArgument, InCall}

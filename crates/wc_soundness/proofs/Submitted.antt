@@ -20,7 +20,7 @@ use Rattle.wc_world.specs.Consistent.{IsConsistent}
 use Rattle.wc_world.specs.Fits.{names_ascend, is_of_kind, new_fits, calls_from, has_output, is_settled, unsettled}
 use Rattle.wc_world.specs.Records.{kind_of_definition, same_kind, find_record, takes_input}
 use Rattle.wc_machine.specs.Laws.{HasPlaces}
-use Rattle.wc_machine.specs.Submitting.{AreInputs, data_change, input_link, links_from, submitted_number, submission, Submits}
+use Rattle.wc_machine.specs.Submissions.{AreInputs, data_change, input_link, links_from, submitted_number, submission, Submits}
 use Rattle.wc_machine.proofs.Frames.{NoOutput, NoCallFrom, no_call_from, no_output_beyond, no_call_beyond, none_target_beyond, output_before, calls_before, settled_stays, records_below}
 use Rattle.wc_machine.proofs.Submitted.{data_node, with_nodes, new_process, new_record, new_links, with_library, with_process, submitted_world, data_added, process_added, number_is, submission_gives, new_definition, linked}
 use Rattle.wc_machine.proofs.SubmittedLinks.{distinct, LacksLabels, linked_no_output, linked_no_calls}
@@ -29,7 +29,7 @@ use Rattle.wc_machine.specs.Continues.{Continues}
 use Rattle.wc_machine.proofs.ContinuedEnds.{carried_itself}
 use Rattle.wc_machine.proofs.OneMore.{grown, found_again, inputs_kept, number_within, recorded_tree_kept, found_stays}
 use Rattle.wc_machine.proofs.SubmittedAddition.{addition}
-use Rattle.wc_soundness.specs.Touching.{AddsFor, Touches}
+use Rattle.wc_soundness.specs.Touches.{AddsFor, Touches}
 use Rattle.wc_machine.proofs.SubmittedAccepted.{apply_append, data_apply, inputs_are, links_apply, process_is}
 
 -- ---- the process

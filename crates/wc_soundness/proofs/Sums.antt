@@ -11,7 +11,7 @@ use Rattle.wc_state.specs.declared.record.ProcessRecord.{ProcessRecord}
 use Rattle.wc_world.specs.Consistent.{process_of, processes_from}
 use Rattle.wc_world.specs.Records.{find_record, has_ended}
 use Rattle.wc_world.proofs.ReachedLists.{heads}
-use Rattle.wc_machine.specs.Calling.{fuel_at, fuel_of}
+use Rattle.wc_machine.specs.Calls.{fuel_at, fuel_of}
 use Rattle.wc_machine.specs.Sound.{AllDiffer, fuel_in, is_awaited_in}
 
 abbrev pub sum_of : (ProcessRecord → ℕ) → List ProcessRecord → ℕ

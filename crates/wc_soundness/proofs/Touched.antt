@@ -25,18 +25,18 @@ use Rattle.wc_world.specs.Records.{find_record, has_ended, has_called, calls, gi
 use Rattle.wc_world.specs.Trees.{branches, recorded_tree, values_alone, inputs_after, outputs_after}
 use Rattle.wc_world.proofs.FoundRecords.{IsDeeper, call_is_deeper, found_holds, left, right}
 use Rattle.wc_world.proofs.ReachedLists.{AreUnique, found_node, unique}
-use Rattle.wc_machine.specs.Agreeing.{Agrees}
+use Rattle.wc_machine.specs.Agreement.{Agrees}
 use Rattle.wc_machine.specs.Continues.{Carries}
 use Rattle.wc_machine.specs.Paths.{called_under, follow, kills, cut_after}
 use Rattle.wc_machine.specs.Recorded.{recorded_inputs, recorded_outputs, recorded_request, request_by, folder_of, HasResult, own, cached}
-use Rattle.wc_machine.specs.Resting.{GivesTree, levels_of, meant}
+use Rattle.wc_machine.specs.Rest.{GivesTree, levels_of, meant}
 use Rattle.wc_machine.specs.Sound.{CallsAreKept, IsFitting, IsMeant, IsSound}
 use Rattle.wc_machine.proofs.ContinuedEnds.{carried_itself}
 use Rattle.wc_machine.proofs.EndedTrees.{call_is_called}
 use Rattle.wc_machine.proofs.Frames.{NoInput, NoOutput, NoCallFrom, and_false, branches_before, called_before, calls_before, inputs_stay, outputs_stay, library_stays, records_below}
 use Rattle.wc_machine.proofs.Untouched.{AreUntouched, tree_stays}
 use Rattle.wc_soundness.specs.FramingLaws.{TablesNarrow, EndedStay, TouchingContinues}
-use Rattle.wc_soundness.specs.Touching.{AddsFor, Touches, MayBeTouched, StaysEnded}
+use Rattle.wc_soundness.specs.Touches.{AddsFor, Touches, MayBeTouched, StaysEnded}
 
 -- ---- types of links
 

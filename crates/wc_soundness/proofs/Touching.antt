@@ -12,12 +12,12 @@ use Rattle.wc_world.specs.Consistent.{Stands}
 use Rattle.wc_world.specs.Records.{find_record, has_ended}
 use Rattle.wc_world.specs.World.{World}
 use Rattle.wc_world.proofs.FoundRecords.{found_holds}
-use Rattle.wc_machine.specs.Calling.{called_number, kind_of_callee}
+use Rattle.wc_machine.specs.Calls.{called_number, kind_of_callee}
 use Rattle.wc_machine.specs.Continues.{Carries}
 use Rattle.wc_machine.specs.Sound.{IsSound, IsFitting}
-use Rattle.wc_machine.specs.Stepping.{Call}
-use Rattle.wc_machine.specs.Submitting.{input_link}
-use Rattle.wc_soundness.specs.Touching.{AddsFor, EndsLate, MayBeTouched, Touches}
+use Rattle.wc_machine.specs.Steps.{Call}
+use Rattle.wc_machine.specs.Submissions.{input_link}
+use Rattle.wc_soundness.specs.Touches.{AddsFor, EndsLate, MayBeTouched, Touches}
 use Rattle.wc_soundness.specs.Submitted.{child_record, calls_links, calls_nodes, EachCall, first_free, now_waits, submitted}
 use Rattle.wc_soundness.proofs.Links.{call_all, inputs_all, input_takes, its_link_calls, links_all}
 use Rattle.wc_soundness.proofs.Records.{found_new, found_now, found_other}

@@ -18,7 +18,7 @@ use Rattle.wc_world.specs.Consistent.{IsConsistent}
 use Rattle.wc_world.specs.Records.{find_record, has_ended, kind_of_definition, takes_input}
 use Rattle.wc_world.proofs.ReachedLists.{find_mapped, found_node, found_has, at_one, at_one_keeps}
 use Rattle.wc_world.proofs.ReachedWorlds.{reached_is_consistent}
-use Rattle.wc_machine.specs.Submitting.{input_link, submitted_number}
+use Rattle.wc_machine.specs.Submissions.{input_link, submitted_number}
 use Rattle.wc_machine.proofs.ContinuedEnds.{after_end, found_after, carried}
 use Rattle.wc_machine.proofs.Endings.{data_nodes, creates, end_record, ended_world, applied_ends}
 use Rattle.wc_machine.proofs.Frames.{records_below}
@@ -26,7 +26,7 @@ use Rattle.wc_machine.proofs.OneMore.{grown, found_stays}
 use Rattle.wc_machine.proofs.Submitted.{linked, submission_gives}
 use Rattle.wc_machine.proofs.SubmittedAddition.{addition}
 use Rattle.wc_soundness.specs.FramingLaws.{SubmissionsTouch, EndsTouch}
-use Rattle.wc_soundness.specs.Touching.{AddsFor, Touches}
+use Rattle.wc_soundness.specs.Touches.{AddsFor, Touches}
 
 -- ---- submissions
 

@@ -14,7 +14,7 @@ use Rattle.wc_world.specs.World.{World}
 use Rattle.wc_world.proofs.After.{same_number}
 use Rattle.wc_world.proofs.FoundRecords.{found_holds}
 use Rattle.wc_machine.specs.Paths.{call_links}
-use Rattle.wc_machine.specs.Resting.{bound_calls}
+use Rattle.wc_machine.specs.Rest.{bound_calls}
 use Rattle.wc_machine.specs.Sound.{IsSound, IsFitting, IsPlaced, AllDiffer, CallsAreKept, AreAwaited, AwaitsLastCalls}
 use Rattle.wc_turn_laws.specs.OutlineLaws.{KeepsCalls}
 use Rattle.wc_soundness.proofs.OneSet.{went, now_runs, found_other}

@@ -25,10 +25,10 @@ use Rattle.wc_world.specs.Records.{find_record, library_at, has_ended, is_call_f
 use Rattle.wc_world.specs.Trees.{branches, recorded_tree}
 use Rattle.wc_world.specs.World.{World}
 use Rattle.wc_world.proofs.FoundRecords.{found_holds}
-use Rattle.wc_machine.specs.Agreeing.{Agrees}
+use Rattle.wc_machine.specs.Agreement.{Agrees}
 use Rattle.wc_machine.specs.Paths.{call_links, kills}
 use Rattle.wc_machine.specs.Recorded.{its_definition, recorded_inputs}
-use Rattle.wc_machine.specs.Resting.{with_stop, levels_of, meant, bound_calls, as_call, bound_trees, rest, part_rest, is_awaited, has_bound, FitKills, GivesTree, IsOnTrack}
+use Rattle.wc_machine.specs.Rest.{with_stop, levels_of, meant, bound_calls, as_call, bound_trees, rest, part_rest, is_awaited, has_bound, FitKills, GivesTree, IsOnTrack}
 use Rattle.wc_machine.specs.Sound.{IsSound}
 use Rattle.wc_machine.proofs.Frames.{branches_by}
 use Rattle.wc_soundness.proofs.Touched.{tables_narrow}

@@ -38,11 +38,11 @@ use Rattle.wc_world.specs.Fits.{calls_from, counted_calls, has_output, is_of_kin
 use Rattle.wc_world.specs.Records.{find_record, has_ended, is_call_from, same_kind}
 use Rattle.wc_world.specs.Trees.{Branch, branches, data_of, inputs_of, outputs_of, recorded_tree, tree_with, tree_within, values_alone}
 use Rattle.wc_world.proofs.FoundRecords.{found_holds}
-use Rattle.wc_machine.specs.Advancing.{Advanced, ends, advance}
-use Rattle.wc_machine.specs.Agreeing.{Agrees}
-use Rattle.wc_machine.specs.Calling.{judged}
+use Rattle.wc_machine.specs.Advances.{Advanced, ends, advance}
+use Rattle.wc_machine.specs.Agreement.{Agrees}
+use Rattle.wc_machine.specs.Calls.{judged}
 use Rattle.wc_machine.specs.Paths.{call_links, cut_after, kills}
-use Rattle.wc_machine.specs.Resting.{as_call, bound_calls, bound_trees, env_alone, levels_of, meant, part_rest, rest, FitKills, GivesTree, IsOnTrack}
+use Rattle.wc_machine.specs.Rest.{as_call, bound_calls, bound_trees, env_alone, levels_of, meant, part_rest, rest, FitKills, GivesTree, IsOnTrack}
 use Rattle.wc_machine.specs.Sound.{IsMeant, IsSound, OutputsAscend}
 use Rattle.wc_machine.proofs.AcceptedEnds.{live_without_output}
 use Rattle.wc_machine.proofs.Frames.{branches_before, branches_by, no_call_from}

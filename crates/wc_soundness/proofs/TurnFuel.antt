@@ -7,7 +7,7 @@ use Rattle.wc_state.specs.declared.record.ProcessRecord.{ProcessRecord}
 use Rattle.wc_world.specs.World.{World}
 use Rattle.wc_world.specs.Records.{at_process, find_record, has_ended}
 use Rattle.wc_world.proofs.ReachedLists.{all_found, unique}
-use Rattle.wc_machine.specs.Resting.{is_awaited}
+use Rattle.wc_machine.specs.Rest.{is_awaited}
 use Rattle.wc_machine.specs.Sound.{IsSound, fuel_in, is_awaited_in}
 use Rattle.wc_soundness.proofs.Sums.{fuel_is_sum, kept_of, only, only_once, sum_of, sums_below}
 

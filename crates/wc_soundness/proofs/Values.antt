@@ -21,7 +21,7 @@ use Rattle.wc_expression.specs.Operators.{of_one, of_two, operated, prefixed, se
 use Rattle.wc_expression.specs.Outcomes.{◌>>=◌}
 use Rattle.wc_expression.specs.Val as values
 use Rattle.wc_expression.specs.Val.{Meant, is_allowed, sized, val, val_form, limited}
-use Rattle.wc_soundness.specs.Writing.{expr, word, quote, number}
+use Rattle.wc_soundness.specs.Words.{expr, word, quote, number}
 
 -- ---- limits
 

@@ -12,9 +12,9 @@ use Rattle.wc_state.specs.declared.record.ProcessRecord.{ProcessRecord}
 use Rattle.wc_world.specs.World.{World}
 use Rattle.wc_world.specs.Records.{find_record, is_call_from}
 use Rattle.wc_world.proofs.ReachedLists.{unique}
-use Rattle.wc_machine.specs.Calling.{bound, fuel_of}
+use Rattle.wc_machine.specs.Calls.{bound, fuel_of}
 use Rattle.wc_machine.specs.Sound.{IsSound}
-use Rattle.wc_soundness.specs.Replacing.{IsSet, world_to}
+use Rattle.wc_soundness.specs.Replaced.{IsSet, world_to}
 use Rattle.wc_soundness.proofs.KillChildren.{IsOver}
 use Rattle.wc_soundness.proofs.OthersOnTrack.{over_same}
 use Rattle.wc_soundness.proofs.Replaced.{after, at_it, found_now, now, one_record, setting}

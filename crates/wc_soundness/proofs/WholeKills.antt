@@ -18,7 +18,7 @@ use Rattle.wc_machine.specs.Machine.{IsLive}
 use Rattle.wc_machine.specs.Recorded.{recorded_inputs}
 use Rattle.wc_machine.specs.Sound.{IsSound}
 use Rattle.wc_world.specs.Trees.{recorded_tree}
-use Rattle.wc_soundness.specs.Replacing.{world_to}
+use Rattle.wc_soundness.specs.Replaced.{world_to}
 use Rattle.wc_soundness.proofs.Replaced.{continues, one_record}
 use Rattle.wc_soundness.specs.BindingLaws.{KeepsSound}
 use Rattle.wc_soundness.proofs.BindingLaw.{settled_all}

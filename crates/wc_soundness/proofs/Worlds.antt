@@ -15,10 +15,10 @@ use Rattle.wc_world.specs.Applied.{made, set, next_number, after_change, changed
 use Rattle.wc_world.specs.Records.{at_process, process_node}
 use Rattle.wc_world.specs.World.{World}
 use Rattle.wc_world.proofs.After.{changed_append}
-use Rattle.wc_machine.specs.Advancing.{submits}
-use Rattle.wc_machine.specs.Calling.{Arguments, plain_data, argument_links, advanced, calls_changes, call_changes, called_number, kind_of_callee}
-use Rattle.wc_machine.specs.Stepping.{node, plain, Call}
-use Rattle.wc_machine.specs.Submitting.{input_link}
+use Rattle.wc_machine.specs.Advances.{submits}
+use Rattle.wc_machine.specs.Calls.{Arguments, plain_data, argument_links, advanced, calls_changes, call_changes, called_number, kind_of_callee}
+use Rattle.wc_machine.specs.Steps.{node, plain, Call}
+use Rattle.wc_machine.specs.Submissions.{input_link}
 use Rattle.wc_machine.proofs.Submitted.{with_nodes, with_links}
 use Rattle.wc_soundness.specs.Submitted.{data_nodes, input_links, child_of, child_record, call_nodes, its_call_link, call_links, calls_nodes, calls_links, calls_records, waits_at, submitted}
 

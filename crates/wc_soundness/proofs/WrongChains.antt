@@ -10,14 +10,14 @@ use Rattle.wc_semantics.specs.declared.progress.Answer.TheVariants.{Gave, TooLit
 use Rattle.wc_semantics.specs.declared.progress.Replayed.{Replayed}
 use Rattle.wc_world.specs.Trees.{recorded_tree}
 use Rattle.wc_machine.specs.Paths.{kills}
-use Rattle.wc_machine.specs.Resting.{GivesTree, meant}
+use Rattle.wc_machine.specs.Rest.{GivesTree, meant}
 use Rattle.wc_machine.specs.Sound.{IsSound}
 use Rattle.wc_machine.specs.Results.{result_of, table_of}
 use Rattle.wc_soundness.proofs.FoundResults.{its_table_agrees}
 use Rattle.wc_soundness.specs.FanWorlds as fans
 use Rattle.wc_soundness.specs.FanWorlds.{HasBoth}
 use Rattle.wc_soundness.specs.WrongWorlds as wrong
-use Rattle.wc_soundness.specs.Writing.{tree}
+use Rattle.wc_soundness.specs.Words.{tree}
 use Rattle.wc_soundness.proofs.Numbers.{number_at}
 use Rattle.wc_soundness.proofs.Meant.{whole_meant, little_meant}
 

@@ -11,7 +11,7 @@ use Rattle.wc_world.specs.World.{World}
 use Rattle.wc_world.specs.Accepted.{IsAccepted}
 use Rattle.wc_world.specs.Applied.{applied}
 use Rattle.wc_world.specs.Records.{find_record}
-use Rattle.wc_machine.specs.Calling.{bound, chain_set, fuel_of}
+use Rattle.wc_machine.specs.Calls.{bound, chain_set, fuel_of}
 use Rattle.wc_machine.specs.Continues.{Continues}
 use Rattle.wc_machine.specs.Laws.{HasPlaces}
 use Rattle.wc_machine.specs.Readiness.{is_ready}

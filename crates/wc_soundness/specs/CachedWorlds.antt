@@ -15,7 +15,7 @@ use Rattle.wc_state.specs.declared.record.ProcessRecord.{ProcessRecord}
 use Rattle.wc_world.specs.World.{World, Known}
 use Rattle.wc_world.specs.declared.change.Change.{Change}
 use Rattle.wc_world.specs.declared.change.Change.TheVariants as change
-use Rattle.wc_soundness.specs.Writing.{arrow}
+use Rattle.wc_soundness.specs.Words.{arrow}
 use Rattle.wc_soundness.specs.Library.{library}
 use Rattle.wc_soundness.specs.FanWorlds.{printed}
 

@@ -20,17 +20,17 @@ use Rattle.wc_world.specs.Records.{find_record, has_ended}
 use Rattle.wc_machine.specs.declared.answer.TaskAnswer.{TaskAnswer}
 use Rattle.wc_machine.specs.Continues.{Continues}
 use Rattle.wc_machine.specs.Created.{GivenFor, IsGiven}
-use Rattle.wc_machine.specs.Ending.{ends, come_to, TakesSource}
+use Rattle.wc_machine.specs.Ends.{ends, come_to, TakesSource}
 use Rattle.wc_machine.specs.Laws.{HasPlaces, calculated_for}
 use Rattle.wc_machine.specs.Recorded.{its_definition, recorded_inputs, recorded_outputs}
 use Rattle.wc_machine.specs.Sound.{IsSound}
 use Rattle.wc_machine.specs.Sources.{KeepsCacheRule}
-use Rattle.wc_machine.specs.Submitting.{AreInputs, Submits}
-use Rattle.wc_machine.specs.Turning.{TurnGives, first_task, job_set}
+use Rattle.wc_machine.specs.Submissions.{AreInputs, Submits}
+use Rattle.wc_machine.specs.Turns.{TurnGives, first_task, job_set}
 use Rattle.wc_turn_laws.specs.CalculationLaws.{MayStart}
-use Rattle.wc_soundness.specs.Touching.{Touches, MayBeTouched}
-use Rattle.wc_soundness.specs.Coming.{ComesTo}
-use Rattle.wc_soundness.specs.Starting.{EndsAreLater, StartsByRule}
+use Rattle.wc_soundness.specs.Touches.{Touches, MayBeTouched}
+use Rattle.wc_soundness.specs.Courses.{ComesTo}
+use Rattle.wc_soundness.specs.Starts.{EndsAreLater, StartsByRule}
 
 -- ---- the cache rule
 

@@ -7,10 +7,10 @@ use Rattle.wc_state.specs.declared.record.Checkpoint.{Checkpoint}
 use Rattle.wc_state.specs.declared.record.ProcessRecord.{ProcessRecord}
 use Rattle.wc_world.specs.Records.{find_record}
 use Rattle.wc_world.specs.World.{World}
-use Rattle.wc_machine.specs.Advancing.{submits, advance}
-use Rattle.wc_machine.specs.Calling.{advanced}
+use Rattle.wc_machine.specs.Advances.{submits, advance}
+use Rattle.wc_machine.specs.Calls.{advanced}
 use Rattle.wc_machine.specs.Laws.{HasPlaces}
-use Rattle.wc_machine.specs.Stepping.{Call}
+use Rattle.wc_machine.specs.Steps.{Call}
 use Rattle.wc_soundness.specs.BindingLaws.{KeepsSound}
 use Rattle.wc_soundness.specs.TrackLaws.{IsAtTurn, IsSoundChain, after_turn}
 

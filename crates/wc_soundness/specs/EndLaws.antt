@@ -10,8 +10,8 @@ use Rattle.wc_state.specs.declared.record.ProcessRecord.{ProcessRecord}
 use Rattle.wc_semantics.specs.Tables.{Label}
 use Rattle.wc_world.specs.Records.{has_ended}
 use Rattle.wc_world.specs.World.{World}
-use Rattle.wc_machine.specs.Advancing.{Advanced, goes, loops, submits, ends, advance}
-use Rattle.wc_machine.specs.Calling.{advanced}
+use Rattle.wc_machine.specs.Advances.{Advanced, goes, loops, submits, ends, advance}
+use Rattle.wc_machine.specs.Calls.{advanced}
 use Rattle.wc_machine.specs.Laws.{HasPlaces}
 use Rattle.wc_soundness.specs.TrackLaws.{IsAtTurn}
 use Rattle.wc_soundness.specs.BindingLaws.{KeepsSound}

@@ -31,9 +31,9 @@ use Rattle.wc_world.specs.declared.change.Change.{Change}
 use Rattle.wc_world.specs.declared.change.Change.TheVariants as change
 use Rattle.wc_semantics.specs.Rules.{Values}
 use Rattle.wc_semantics.specs.declared.outcomes.Parsed.{Parsed}
-use Rattle.wc_machine.specs.Advancing.{Advanced, goes, submits, ends}
-use Rattle.wc_machine.specs.Stepping.{Call, node, plain}
-use Rattle.wc_soundness.specs.Writing.{arrow, tree}
+use Rattle.wc_machine.specs.Advances.{Advanced, goes, submits, ends}
+use Rattle.wc_machine.specs.Steps.{Call, node, plain}
+use Rattle.wc_soundness.specs.Words.{arrow, tree}
 use Rattle.wc_soundness.specs.Library.{library}
 
 -- ---- texts

@@ -11,12 +11,12 @@ use Rattle.wc_world.specs.Accepted.{IsReached}
 use Rattle.wc_world.specs.Applied.{applied}
 use Rattle.wc_world.specs.Consistent.{IsConsistent}
 use Rattle.wc_world.specs.Records.{find_record, has_ended}
-use Rattle.wc_machine.specs.Agreeing.{Agrees}
+use Rattle.wc_machine.specs.Agreement.{Agrees}
 use Rattle.wc_machine.specs.Continues.{Continues}
-use Rattle.wc_machine.specs.Ending.{ends}
+use Rattle.wc_machine.specs.Ends.{ends}
 use Rattle.wc_machine.specs.Sound.{IsSound}
-use Rattle.wc_machine.specs.Submitting.{Submits, submitted_number}
-use Rattle.wc_soundness.specs.Touching.{Touches, MayBeTouched, StaysEnded, EndsLate, HasSoundLists, IsSoundRecord}
+use Rattle.wc_machine.specs.Submissions.{Submits, submitted_number}
+use Rattle.wc_soundness.specs.Touches.{Touches, MayBeTouched, StaysEnded, EndsLate, HasSoundLists, IsSoundRecord}
 
 -- A table that agrees with a process afterwards agreed with it before.
 abbrev pub TablesNarrow : Type 0

@@ -9,10 +9,10 @@ use Rattle.wc_world.specs.World.{World}
 use Rattle.wc_world.specs.Fits.{names_ascend}
 use Rattle.wc_world.specs.Records.{find_record, has_ended}
 use Rattle.wc_machine.specs.declared.answer.TaskAnswer.{TaskAnswer}
-use Rattle.wc_machine.specs.Asking.{need, fits}
+use Rattle.wc_machine.specs.Questions.{need, fits}
 use Rattle.wc_machine.specs.Machine.{Event, submit, turn, pause, play, kill}
 use Rattle.wc_machine.specs.Readiness.{is_ready}
-use Rattle.wc_machine.specs.Submitting.{AreInputs, IsKeptLibrary}
+use Rattle.wc_machine.specs.Submissions.{AreInputs, IsKeptLibrary}
 
 -- The library is a checked one and has a definition of the name, whose ports take the inputs; the names with caching on ascend; and the inputs
 -- ascend by their ports and are at most 32 deep.

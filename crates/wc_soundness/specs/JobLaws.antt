@@ -17,13 +17,13 @@ use Rattle.wc_world.specs.Applied.{applied}
 use Rattle.wc_world.specs.Consistent.{IsConsistent}
 use Rattle.wc_world.specs.Records.{find_record, has_ended, is_calculation}
 use Rattle.wc_machine.specs.declared.answer.TaskAnswer.{TaskAnswer}
-use Rattle.wc_machine.specs.Ending.{TakesSource, ends}
+use Rattle.wc_machine.specs.Ends.{TakesSource, ends}
 use Rattle.wc_machine.specs.Machine.{IsLive, pause_changes, play_changes}
 use Rattle.wc_machine.specs.Readiness.{is_ready}
 use Rattle.wc_machine.specs.Recorded.{its_definition, recorded_inputs}
 use Rattle.wc_machine.specs.Sound.{IsSound}
 use Rattle.wc_machine.specs.Tasks.{Moved, after}
-use Rattle.wc_machine.specs.Turning.{job_set}
+use Rattle.wc_machine.specs.Turns.{job_set}
 use Rattle.wc_value.specs.declared.process.Reason.{Reason}
 use Rattle.wc_semantics.specs.Outcomes.{excepted, parsed}
 use Rattle.wc_semantics.specs.Rules.{Values, kind_of_port}
@@ -32,8 +32,8 @@ use Rattle.wc_value.specs.declared.process.JobResult.{JobResult}
 use Rattle.wc_value.specs.declared.value.Value.TheVariants as value
 use Rattle.wc_semantics.specs.declared.outcomes.Parsed.{Parsed}
 use Rattle.wc_machine.specs.Laws.{HasPlaces}
-use Rattle.wc_machine.specs.Submitting.{AreInputs}
-use Rattle.wc_soundness.specs.Touching.{Touches}
+use Rattle.wc_machine.specs.Submissions.{AreInputs}
+use Rattle.wc_soundness.specs.Touches.{Touches}
 use Rattle.wc_soundness.specs.Sets.{AreSafe, AreSafeWithin, EndsRightly, IsFittingMove, StaysOnTrack, moved, moves_to}
 
 -- ---- one Set

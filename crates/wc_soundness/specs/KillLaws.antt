@@ -5,13 +5,13 @@ use Rattle.wc_state.specs.declared.record.Part.TheVariants as part
 use Rattle.wc_state.specs.declared.record.ProcessRecord.{ProcessRecord}
 use Rattle.wc_world.specs.World.{World}
 use Rattle.wc_world.specs.Records.{find_record, has_ended, has_called}
-use Rattle.wc_machine.specs.Calling.{fuel_of}
-use Rattle.wc_machine.specs.Killing.{awaits_of, kill_changes}
+use Rattle.wc_machine.specs.Calls.{fuel_of}
+use Rattle.wc_machine.specs.Kills.{awaits_of, kill_changes}
 use Rattle.wc_machine.specs.Laws.{HasPlaces}
 use Rattle.wc_machine.specs.Machine.{IsLive}
 use Rattle.wc_machine.specs.Sound.{IsSound}
 use Rattle.wc_machine.specs.Tasks.{saturated}
-use Rattle.wc_soundness.specs.Replacing.{world_to}
+use Rattle.wc_soundness.specs.Replaced.{world_to}
 use Rattle.wc_soundness.specs.BindingLaws.{KeepsSound}
 
 -- what the process has called has ended

@@ -5,8 +5,8 @@ use Rattle.wc_state.specs.declared.record.ProcessRecord.{ProcessRecord}
 use Rattle.wc_world.specs.declared.change.Change.{Change}
 use Rattle.wc_world.specs.World.{World}
 use Rattle.wc_world.specs.Records.{find_record, has_called}
-use Rattle.wc_machine.specs.Calling.{fuel_of}
-use Rattle.wc_machine.specs.Killing.{awaits_of, fuel_after, kill_changes, killed}
+use Rattle.wc_machine.specs.Calls.{fuel_of}
+use Rattle.wc_machine.specs.Kills.{awaits_of, fuel_after, kill_changes, killed}
 use Rattle.wc_machine.specs.Machine.{IsLive}
 use Rattle.wc_machine.specs.Tasks.{saturated}
 

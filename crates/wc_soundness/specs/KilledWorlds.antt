@@ -8,7 +8,7 @@ use Rattle.wc_state.specs.declared.record.ProcessRecord.{ProcessRecord}
 use Rattle.wc_world.specs.World.{World}
 use Rattle.wc_world.specs.declared.change.Change.{Change}
 use Rattle.wc_world.specs.declared.change.Change.TheVariants as change
-use Rattle.wc_soundness.specs.Writing.{tree}
+use Rattle.wc_soundness.specs.Words.{tree}
 use Rattle.wc_soundness.specs.FanWorlds.{world, half_nodes, half_links, fan_record, first_job, second_job, job_record, over, one, two, job_tree, request}
 
 abbrev pub kills : ℕ → ℕ → Change

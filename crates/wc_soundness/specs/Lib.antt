@@ -1,10 +1,10 @@
-pub mod Touching
+pub mod Touches
 pub mod FramingLaws
 pub mod ResultLaws
-pub mod Starting
-pub mod Coming
+pub mod Starts
+pub mod Courses
 pub mod CachingLaws
-pub mod Writing
+pub mod Words
 pub mod Library
 pub mod FanWorlds
 pub mod CachedWorlds
@@ -14,7 +14,7 @@ pub mod WrongWorlds
 pub mod SmallLaws
 pub mod Sets
 pub mod JobLaws
-pub mod Replacing
+pub mod Replaced
 pub mod Binding
 pub mod BoundAlike
 pub mod BindingLaws

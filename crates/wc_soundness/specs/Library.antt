@@ -19,7 +19,7 @@ use Rattle.wc_syntax.specs.declared.outline.Instr.TheVariants as instr
 use Rattle.wc_syntax.specs.declared.outline.Step.{Step}
 use Rattle.wc_syntax.specs.declared.outline.CallStmt.{CallStmt}
 use Rattle.wc_syntax.specs.declared.outline.Stmt.TheVariants as stmt
-use Rattle.wc_soundness.specs.Writing.{word, quote, number, expr}
+use Rattle.wc_soundness.specs.Words.{word, quote, number, expr}
 
 -- a required port of numbers
 abbrev pub port : List ℕ → Port

@@ -7,13 +7,13 @@ use Rattle.wc_world.specs.Applied.{applied}
 use Rattle.wc_world.specs.Consistent.{IsConsistent}
 use Rattle.wc_world.specs.Records.{find_record}
 use Rattle.wc_machine.specs.declared.answer.TaskAnswer.{TaskAnswer}
-use Rattle.wc_machine.specs.Asking.{need, fits}
-use Rattle.wc_machine.specs.Ending.{TakesSource}
-use Rattle.wc_machine.specs.Killing.{kill_changes}
+use Rattle.wc_machine.specs.Questions.{need, fits}
+use Rattle.wc_machine.specs.Ends.{TakesSource}
+use Rattle.wc_machine.specs.Kills.{kill_changes}
 use Rattle.wc_machine.specs.Machine.{Event, submit, turn, pause, play, kill, IsLive, Leads}
 use Rattle.wc_machine.specs.Readiness.{is_ready}
 use Rattle.wc_machine.specs.Sound.{IsSound}
-use Rattle.wc_machine.specs.Turning.{TurnGives}
+use Rattle.wc_machine.specs.Turns.{TurnGives}
 use Rattle.wc_soundness.specs.Happening.{MayHappen}
 use Rattle.wc_soundness.specs.Killed.{IsAtOrBelow, KillsEach, IsKilledWith}
 

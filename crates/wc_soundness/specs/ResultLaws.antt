@@ -8,11 +8,11 @@ use Rattle.wc_state.specs.declared.record.ProcessRecord.{ProcessRecord}
 use Rattle.wc_world.specs.World.{World}
 use Rattle.wc_world.specs.Records.{find_record, has_ended, library_at}
 use Rattle.wc_world.specs.Trees.{recorded_tree}
-use Rattle.wc_machine.specs.Agreeing.{Agrees, AgreesWithWorld}
+use Rattle.wc_machine.specs.Agreement.{Agrees, AgreesWithWorld}
 use Rattle.wc_machine.specs.Continues.{Continues}
 use Rattle.wc_machine.specs.Paths.{kills}
 use Rattle.wc_machine.specs.Recorded.{recorded_inputs, HasResult}
-use Rattle.wc_machine.specs.Resting.{GivesTree, meant}
+use Rattle.wc_machine.specs.Rest.{GivesTree, meant}
 use Rattle.wc_machine.specs.Sound.{IsSound}
 use Rattle.wc_machine.specs.Results.{result_of, table_of, HasResultsByRequest}
 

@@ -19,17 +19,17 @@ use Rattle.wc_world.specs.Accepted.{IsAccepted}
 use Rattle.wc_world.specs.Applied.{applied, set}
 use Rattle.wc_world.specs.Fits.{counted_calls, set_fits}
 use Rattle.wc_world.specs.Records.{at_process, has_ended, is_calculation}
-use Rattle.wc_machine.specs.Agreeing.{Agrees}
+use Rattle.wc_machine.specs.Agreement.{Agrees}
 use Rattle.wc_machine.specs.Continues.{Continues}
 use Rattle.wc_machine.specs.Created.{GivenFor}
-use Rattle.wc_machine.specs.Ending.{ends}
+use Rattle.wc_machine.specs.Ends.{ends}
 use Rattle.wc_machine.specs.Laws.{HasPlaces}
 use Rattle.wc_machine.specs.Machine.{after_changes}
 use Rattle.wc_machine.specs.Recorded.{recorded_request}
-use Rattle.wc_machine.specs.Resting.{meant}
+use Rattle.wc_machine.specs.Rest.{meant}
 use Rattle.wc_machine.specs.Sound.{IsSound, is_job_part}
 use Rattle.wc_machine.specs.Sources.{IsLowestSource}
-use Rattle.wc_machine.specs.Submitting.{AreInputs}
+use Rattle.wc_machine.specs.Submissions.{AreInputs}
 
 -- a process is set to this state and part, with this mark and fuel, and to no source and no code
 abbrev pub moved : ProcessRecord → ProcessState → Bool → ℕ → Part → SetProcess

@@ -10,13 +10,13 @@ use Rattle.wc_world.specs.Trees.{recorded_tree}
 use Rattle.wc_machine.specs.Machine.{Leads, turn, play, kill}
 use Rattle.wc_machine.specs.Paths.{kills}
 use Rattle.wc_machine.specs.Readiness.{ready_at}
-use Rattle.wc_machine.specs.Resting.{meant}
+use Rattle.wc_machine.specs.Rest.{meant}
 use Rattle.wc_machine.specs.Sound.{IsSound, IsPlaced, AwaitsLastCalls}
 use Rattle.wc_machine.specs.Sources.{KeepsCacheRule}
 use Rattle.wc_machine.specs.Created.{IsCreatedByInputs}
-use Rattle.wc_machine.specs.Submitting.{submission}
+use Rattle.wc_machine.specs.Submissions.{submission}
 use Rattle.wc_machine.specs.declared.answer.TaskAnswer.TheVariants as answer
-use Rattle.wc_soundness.specs.Writing.{Makes}
+use Rattle.wc_soundness.specs.Words.{Makes}
 use Rattle.wc_soundness.specs.Library as library
 use Rattle.wc_soundness.specs.FanWorlds as fan
 use Rattle.wc_soundness.specs.FanWorlds.{HasBoth}

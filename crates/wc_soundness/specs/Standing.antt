@@ -8,8 +8,8 @@ use Rattle.wc_state.specs.declared.context.CtxRef.TheVariants as held
 use Rattle.wc_state.specs.declared.record.Checkpoint.{Checkpoint}
 use Rattle.wc_world.specs.Blocks.{block_lengths}
 use Rattle.wc_world.specs.Fits.{is_nil, frame_fits}
-use Rattle.wc_machine.specs.Advancing.{Advanced, goes, loops, submits, ends}
-use Rattle.wc_machine.specs.Stepping.{Argument, node, plain, Call}
+use Rattle.wc_machine.specs.Advances.{Advanced, goes, loops, submits, ends}
+use Rattle.wc_machine.specs.Steps.{Argument, node, plain, Call}
 
 -- there is a frame, and each is in the outline
 abbrev pub StandsIn : Chain → Checkpoint → Type 0

@@ -11,13 +11,13 @@ use Rattle.wc_world.specs.Applied.{applied}
 use Rattle.wc_world.specs.Consistent.{IsConsistent}
 use Rattle.wc_world.specs.Records.{find_record}
 use Rattle.wc_world.specs.World.{World}
-use Rattle.wc_machine.specs.Advancing.{advance, submits}
-use Rattle.wc_machine.specs.Calling.{advanced, called_number}
+use Rattle.wc_machine.specs.Advances.{advance, submits}
+use Rattle.wc_machine.specs.Calls.{advanced, called_number}
 use Rattle.wc_machine.specs.Laws.{HasPlaces}
 use Rattle.wc_machine.specs.Recorded.{recorded_inputs}
 use Rattle.wc_machine.specs.Sound.{IsCaller}
-use Rattle.wc_machine.specs.Stepping.{Call, values_in}
-use Rattle.wc_soundness.specs.Touching.{IsSoundRecord, Touches}
+use Rattle.wc_machine.specs.Steps.{Call, values_in}
+use Rattle.wc_soundness.specs.Touches.{IsSoundRecord, Touches}
 use Rattle.wc_soundness.specs.BindingLaws.{KeepsSound}
 use Rattle.wc_soundness.specs.TrackLaws.{IsAtTurn, IsSoundChain, after_turn}
 use Rattle.wc_soundness.specs.Submitted.{EachCall, child_record, first_free, now_waits, submitted}

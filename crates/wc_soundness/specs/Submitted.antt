@@ -14,9 +14,9 @@ use Rattle.wc_records.specs.declared.change.SetProcess.{SetProcess}
 use Rattle.wc_world.specs.Applied.{made, set}
 use Rattle.wc_world.specs.Records.{at_process, process_node}
 use Rattle.wc_world.specs.World.{World}
-use Rattle.wc_machine.specs.Calling.{Arguments, awaits, called_number, call_link, caching_in, kind_of_callee, with_awaits}
-use Rattle.wc_machine.specs.Stepping.{node, plain, Call}
-use Rattle.wc_machine.specs.Submitting.{input_link}
+use Rattle.wc_machine.specs.Calls.{Arguments, awaits, called_number, call_link, caching_in, kind_of_callee, with_awaits}
+use Rattle.wc_machine.specs.Steps.{node, plain, Call}
+use Rattle.wc_machine.specs.Submissions.{input_link}
 
 -- ---- arguments
 

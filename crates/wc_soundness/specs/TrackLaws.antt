@@ -10,13 +10,13 @@ use Rattle.wc_world.specs.Applied.{applied}
 use Rattle.wc_world.specs.Records.{find_record, library_at}
 use Rattle.wc_world.specs.Trees.{environment_at}
 use Rattle.wc_world.specs.World.{World}
-use Rattle.wc_machine.specs.Advancing.{Advanced, goes, loops, advance}
-use Rattle.wc_machine.specs.Calling.{advanced}
+use Rattle.wc_machine.specs.Advances.{Advanced, goes, loops, advance}
+use Rattle.wc_machine.specs.Calls.{advanced}
 use Rattle.wc_machine.specs.Recorded.{its_definition}
-use Rattle.wc_machine.specs.Resting.{IsOnTrack}
+use Rattle.wc_machine.specs.Rest.{IsOnTrack}
 use Rattle.wc_machine.specs.Sound.{IsSound, IsFitting, IsPlaced, CallsAreKept, AwaitsLastCalls, NamesKnown}
-use Rattle.wc_machine.specs.Turning.{StandsAt}
-use Rattle.wc_soundness.specs.Touching.{Touches}
+use Rattle.wc_machine.specs.Turns.{StandsAt}
+use Rattle.wc_soundness.specs.Touches.{Touches}
 
 -- A work chain of a sound world that is created or runs, with what its advance is evaluated in.
 pub record IsAtTurn (w : World) (r : ProcessRecord) (k : Chain) (library : List Definition) (c : Checkpoint) (env : Env) : Type 0 where

@@ -9,7 +9,7 @@ use Rattle.wc_graph.specs.declared.node.NodeKind.TheVariants as kept
 use Rattle.wc_state.specs.declared.record.Part.TheVariants as part
 use Rattle.wc_state.specs.declared.record.ProcessRecord.{ProcessRecord}
 use Rattle.wc_world.specs.World.{World}
-use Rattle.wc_soundness.specs.Writing.{arrow}
+use Rattle.wc_soundness.specs.Words.{arrow}
 use Rattle.wc_soundness.specs.FanWorlds as fan
 use Rattle.wc_soundness.specs.CachedWorlds as cached
 

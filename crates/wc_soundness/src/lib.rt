@@ -11,7 +11,6 @@ mod bindings;
 mod caching;
 mod ends;
 mod events;
-mod framing;
 mod going_on;
 mod jobs;
 mod kills;
@@ -20,6 +19,7 @@ mod results;
 mod sets;
 mod small_worlds;
 mod submits;
+mod touches;
 mod tracks;
 mod waits;
 
@@ -35,10 +35,6 @@ pub use ends::{advances_end_alive, ends_of_chains_keep_sound};
 pub use events::{
     all_events_keep_sound, events_keep_sound, what_may_happen_keeps_sound,
     whatever_happens_is_sound,
-};
-pub use framing::{
-    ended_stay, ends_touch, others_stay_sound, submissions_touch, tables_narrow,
-    touched_worlds_are_sound, touching_continues,
 };
 pub use going_on::{advances_stay_inside, advances_stay_low, turns_of_chains_keep_sound};
 pub use jobs::{
@@ -62,6 +58,10 @@ pub use small_worlds::{
 pub use submits::{
     called_are_sound, called_have_their_inputs, calls_make_these_worlds, chain_calls_are_accepted,
     chain_calls_touch, submitting_chains_keep_sound,
+};
+pub use touches::{
+    ended_stay, ends_touch, others_stay_sound, submissions_touch, tables_narrow,
+    touched_worlds_are_sound, touching_continues,
 };
 pub use tracks::{chains_stay_on_track, chains_stay_sound, loops_stay_on_track};
 pub use waits::{calling_chains_stay_sound, calls_of_chains_keep_sound};

@@ -31,9 +31,9 @@ use Rattle.wc_semantics.specs.Statements as run
 use Rattle.wc_semantics.specs.Statements.{names_data, keyed, with_key}
 use Rattle.wc_semantics.specs.Tables.{Label}
 use Rattle.wc_world.specs.Trees.{NamedValues}
-use Rattle.wc_machine.specs.Resting.{item_alone, env_alone}
-use Rattle.wc_machine.specs.Stepping.{Argument, value_of, values_in, named_node, or_plain, output, arguments, Noted, stops, makes, or_stops, exits, with_plain, with_output, with_call, planned, collected, statements, Call}
-use Rattle.wc_machine.specs.Stepping as machine
+use Rattle.wc_machine.specs.Rest.{item_alone, env_alone}
+use Rattle.wc_machine.specs.Steps.{Argument, value_of, values_in, named_node, or_plain, output, arguments, Noted, stops, makes, or_stops, exits, with_plain, with_output, with_call, planned, collected, statements, Call}
+use Rattle.wc_machine.specs.Steps as machine
 use Rattle.wc_turn_laws.proofs.Unnumbered.{val_forgets}
 use Rattle.wc_turn_laws.specs.OutlineLaws.{as_planned}
 use Rattle.wc_turn_laws.specs.View.{View, IsSeenRight, item_in, context_in, values_of, env_in}

@@ -14,7 +14,7 @@ use Rattle.wc_expression.specs.Outcomes.{◌>>=◌, mapped}
 use Rattle.wc_expression.specs.Val.{holds}
 use Rattle.wc_semantics.specs.Laws.{arm_block, condition, arm_list, else_list}
 use Rattle.wc_semantics.specs.Run.{picked, instrs}
-use Rattle.wc_machine.specs.Advancing.{is_done, popped, numbered_arms, after_arms, other_number}
+use Rattle.wc_machine.specs.Advances.{is_done, popped, numbered_arms, after_arms, other_number}
 use Rattle.wc_machine.specs.Outlines.{Blocks, blocks, block_of, left_in, left}
 use Rattle.wc_turn_laws.proofs.Numbering.{arm_blocks, other_blocks, blocks_are, get_behind, get_front}
 

@@ -19,7 +19,7 @@ use Rattle.wc_world.proofs.FoundRecords.{left, right}
 use Rattle.wc_world.proofs.ReachedLists.{option_map_some}
 use Rattle.wc_machine.specs.Recorded.{its_definition}
 use Rattle.wc_machine.specs.Sources.{HaveEqualKeys}
-use Rattle.wc_machine.specs.Submitting.{IsKeptLibrary}
+use Rattle.wc_machine.specs.Submissions.{IsKeptLibrary}
 use Rattle.wc_turn_laws.specs.CalculationLaws.{EqualKeysRunAlike}
 
 -- ---- a kept definition is a bare one

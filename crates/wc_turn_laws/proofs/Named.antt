@@ -33,8 +33,8 @@ use Rattle.wc_semantics.specs.Rules.{fits_port, fitting}
 use Rattle.wc_semantics.specs.Run.{picked}
 use Rattle.wc_semantics.specs.Statements.{names_data, datum, argument, output as run_output}
 use Rattle.wc_world.specs.Trees.{NamedValues}
-use Rattle.wc_machine.specs.Resting.{env_alone}
-use Rattle.wc_machine.specs.Stepping.{node, plain, value_of, node_in, named_node, or_wrong, or_plain, output_node, fitting_node, output}
+use Rattle.wc_machine.specs.Rest.{env_alone}
+use Rattle.wc_machine.specs.Steps.{node, plain, value_of, node_in, named_node, or_wrong, or_plain, output_node, fitting_node, output}
 use Rattle.wc_turn_laws.specs.Nodes.{EachNode, InItem, NodesAre, InArgument}
 use Rattle.wc_turn_laws.specs.View.{View, IsSeenRight, item_in, env_in}
 use Rattle.wc_turn_laws.proofs.Unnumbered.{Forgets, form_forgets, expr_forgets, val_forgets}

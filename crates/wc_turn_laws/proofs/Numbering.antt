@@ -9,7 +9,7 @@ use Rattle.wc_syntax.specs.declared.outline.Instr.TheOpen.{Instr-F}
 use Rattle.wc_semantics.specs.Laws.{arm_block}
 use Rattle.wc_semantics.specs.Run.{instrs}
 use Rattle.wc_semantics.proofs.Induction.{AllOf, OptionOf, Inside, every_block}
-use Rattle.wc_machine.specs.Advancing.{block_count}
+use Rattle.wc_machine.specs.Advances.{block_count}
 use Rattle.wc_machine.specs.Outlines.{Blocks, InstrIn, ArmIn, BlockIn, instr_in, arm_in, block_in, blocks_in, blocks}
 
 abbrev one : Instr → InstrIn

@@ -29,12 +29,12 @@ use Rattle.wc_world.specs.Trees.{environment_at}
 use Rattle.wc_world.proofs.FoundRecords.{found_holds}
 use Rattle.wc_machine.specs.declared.answer.TaskAnswer.{TaskAnswer}
 use Rattle.wc_machine.specs.declared.answer.TaskAnswer.TheVariants as answer
-use Rattle.wc_machine.specs.Advancing.{advance}
-use Rattle.wc_machine.specs.Calling.{advanced, chain_set, bound, fuel_of}
-use Rattle.wc_machine.specs.Ending.{ends, come_to, TakesSource}
+use Rattle.wc_machine.specs.Advances.{advance}
+use Rattle.wc_machine.specs.Calls.{advanced, chain_set, bound, fuel_of}
+use Rattle.wc_machine.specs.Ends.{ends, come_to, TakesSource}
 use Rattle.wc_machine.specs.Recorded.{its_definition, recorded_inputs}
 use Rattle.wc_machine.specs.Tasks.{Moved, after, saturated}
-use Rattle.wc_machine.specs.Turning.{TurnGives, StandsAt, job_set, first_task, calculates, clones, begins, excepts, gives_up, moves, parses, advances, binds}
+use Rattle.wc_machine.specs.Turns.{TurnGives, StandsAt, job_set, first_task, calculates, clones, begins, excepts, gives_up, moves, parses, advances, binds}
 use Rattle.wc_turn_laws.specs.TurnLaws.{OneListOfChanges}
 use Rattle.wc_turn_laws.proofs.Sources.{one_source}
 

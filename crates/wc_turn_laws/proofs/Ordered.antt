@@ -25,9 +25,9 @@ use Rattle.wc_expression.specs.Val.{val, holds}
 use Rattle.wc_semantics.specs.Rules.{Values, is_taken, status_of}
 use Rattle.wc_semantics.specs.Meaning.{takes_of, kinds_of}
 use Rattle.wc_semantics.specs.Run.{picked}
-use Rattle.wc_machine.specs.Advancing.{popped, past, at_head, first_block, numbered_arms, after_arms, other_number, chosen, turned, after_step, done, does, at_innermost}
+use Rattle.wc_machine.specs.Advances.{popped, past, at_head, first_block, numbered_arms, after_arms, other_number, chosen, turned, after_step, done, does, at_innermost}
 use Rattle.wc_machine.specs.Outlines.{Blocks, blocks, block_of}
-use Rattle.wc_machine.specs.Stepping.{Argument, arguments, named_node, or_plain, values_in, Noted, Stepped, stops, makes, or_stops, exits, with_plain, with_output, with_call, output, planned, collected, statements, Call}
+use Rattle.wc_machine.specs.Steps.{Argument, arguments, named_node, or_plain, values_in, Noted, Stepped, stops, makes, or_stops, exits, with_plain, with_output, with_call, output, planned, collected, statements, Call}
 use Rattle.wc_syntax.specs.declared.outline.CallArg.{CallArg}
 use Rattle.wc_turn_laws.proofs.Named.{HasNode, then_has}
 use Rattle.wc_turn_laws.specs.OutlineLaws.{AreOrdered, AdvancesKeepOrder}

@@ -7,7 +7,7 @@ use Rattle.wc_world.specs.World.{World}
 use Rattle.wc_world.specs.Records.{find_record}
 use Rattle.wc_world.proofs.FoundRecords.{found_holds}
 use Rattle.wc_world.proofs.ReachedLists.{found_node}
-use Rattle.wc_machine.specs.Ending.{TakesSource}
+use Rattle.wc_machine.specs.Ends.{TakesSource}
 use Rattle.wc_machine.specs.Sources.{IsSourceFor, IsLowestSource}
 use Rattle.wc_turn_laws.specs.TurnLaws.{OneSource}
 

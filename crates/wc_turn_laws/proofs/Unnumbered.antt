@@ -27,7 +27,7 @@ use Rattle.wc_expression.specs.Environment.{input, is_given, plain, plain_of, ch
 use Rattle.wc_expression.specs.Operators.{operated, settles, prefixed, of_one, of_two}
 use Rattle.wc_expression.specs.Outcomes.{◌>>=◌, mapped, found}
 use Rattle.wc_expression.specs.Val.{Meant, all_of, form, limited, sized, val, val_form}
-use Rattle.wc_machine.specs.Resting.{child_alone, item_alone, env_alone}
+use Rattle.wc_machine.specs.Rest.{child_alone, item_alone, env_alone}
 use Rattle.wc_turn_laws.specs.RunLaws.{ValuesForgetNumbers}
 
 -- ---- what is read

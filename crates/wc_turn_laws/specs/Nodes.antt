@@ -7,8 +7,8 @@ use Rattle.wc_state.specs.declared.environment.Item.TheVariants as item
 use Rattle.wc_state.specs.declared.environment.NodeValue.{NodeValue}
 use Rattle.wc_state.specs.declared.record.Checkpoint.{Checkpoint}
 use Rattle.wc_world.specs.Trees.{NamedValues}
-use Rattle.wc_machine.specs.Advancing.{Advanced, goes, loops, submits, ends}
-use Rattle.wc_machine.specs.Stepping.{Argument, node, plain, Call}
+use Rattle.wc_machine.specs.Advances.{Advanced, goes, loops, submits, ends}
+use Rattle.wc_machine.specs.Steps.{Argument, node, plain, Call}
 
 abbrev pub EachNode : (NodeValue → Type 0) → NamedValues → Type 0
 EachNode P es = All (λ e. P e.1) es

@@ -11,10 +11,10 @@ use Rattle.wc_semantics.specs.declared.progress.Planned.{Planned}
 use Rattle.wc_semantics.specs.Meaning.{ended, around, within}
 use Rattle.wc_semantics.specs.Run.{Around, ◌>->◌, spend, run, make_calls, label}
 use Rattle.wc_semantics.specs.Tables.{Table, Kills}
-use Rattle.wc_machine.specs.Advancing.{Advanced, goes, loops, submits, ends, advance}
+use Rattle.wc_machine.specs.Advances.{Advanced, goes, loops, submits, ends, advance}
 use Rattle.wc_machine.specs.Outlines.{blocks, left}
-use Rattle.wc_machine.specs.Resting.{env_alone}
-use Rattle.wc_machine.specs.Stepping.{Call, values_in}
+use Rattle.wc_machine.specs.Rest.{env_alone}
+use Rattle.wc_machine.specs.Steps.{Call, values_in}
 use Rattle.wc_world.specs.Trees.{NamedValues}
 use Rattle.wc_turn_laws.specs.Instead.{MadeCalls}
 use Rattle.wc_turn_laws.specs.View.{View, IsSeenRight, env_in, values_of, progress_in}

@@ -14,9 +14,9 @@ use Rattle.wc_semantics.specs.Run.{Around, run, make_calls, ◌>->◌}
 use Rattle.wc_semantics.specs.Tables.{Path, Table, under}
 use Rattle.wc_world.specs.World.{World}
 use Rattle.wc_world.specs.Records.{find_record, is_call_from}
-use Rattle.wc_machine.specs.Agreeing.{Agrees}
+use Rattle.wc_machine.specs.Agreement.{Agrees}
 use Rattle.wc_machine.specs.Paths.{called_under, kills}
-use Rattle.wc_machine.specs.Resting.{env_alone}
+use Rattle.wc_machine.specs.Rest.{env_alone}
 use Rattle.wc_machine.specs.Sound.{IsSound}
 use Rattle.wc_turn_laws.specs.Instead.{flow_instead, GiveOneTree}
 

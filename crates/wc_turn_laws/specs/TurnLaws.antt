@@ -6,8 +6,8 @@ use Rattle.wc_world.specs.World.{World}
 use Rattle.wc_world.specs.Consistent.{IsConsistent}
 use Rattle.wc_world.specs.Records.{find_record}
 use Rattle.wc_machine.specs.declared.answer.TaskAnswer.{TaskAnswer}
-use Rattle.wc_machine.specs.Ending.{TakesSource}
-use Rattle.wc_machine.specs.Turning.{TurnGives}
+use Rattle.wc_machine.specs.Ends.{TakesSource}
+use Rattle.wc_machine.specs.Turns.{TurnGives}
 
 -- A calculation takes one source, or none.
 abbrev pub OneSource : Type 0

@@ -13,7 +13,7 @@ use Rattle.wc_semantics.specs.Rules.{Values}
 use Rattle.wc_semantics.specs.declared.progress.Progress.{Progress}
 use Rattle.wc_semantics.specs.Tables.{Label}
 use Rattle.wc_world.specs.Trees.{NamedValues}
-use Rattle.wc_machine.specs.Resting.{env_alone}
+use Rattle.wc_machine.specs.Rest.{env_alone}
 use Rattle.wc_turn_laws.specs.Instead.{MadeCalls}
 
 -- the value of each data node, and what is seen of each called process

@@ -4,7 +4,7 @@ ghost use Rattle.std.specs.Prelude.{◌≡◌, ℕ, ◌+◌, ◌<◌, length, sl
 ghost use Rattle.wc_semantics.specs.Meaning.{is_killed};
 ghost use Rattle.wc_verify.specs.Givers.{AreLastGivers, giver, giver_at, if_job, keeps_code, number_or, result_giver};
 
-use crate::following::lasts_of;
+use crate::ends::lasts_of;
 use std::alloc::{AllocError, Global};
 use wc_state::{ProcessKind, ProcessRecord};
 use wc_value::ProcessState;

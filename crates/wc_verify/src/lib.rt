@@ -4,8 +4,8 @@
 
 mod cycle;
 mod disagreement;
+mod ends;
 mod firsts;
-mod following;
 mod givers;
 mod laws;
 mod recorded;

@@ -1,6 +1,6 @@
 -- Entries where the digests may not be made.
 use Rattle.std.proofs.Common.{◌≡◌, ℕ, Bool, true, false, List, Option}
-use Rattle.wc_keys.specs.declared.marking.Sealed.{Sealed}
+use Rattle.wc_keys.specs.declared.entries.Sealed.{Sealed}
 use Rattle.wc_keys.specs.Order.{AreSealsOf}
 use Rattle.wc_keys.proofs.Exact.{exact_same}
 use Rattle.wc_world.specs.Digested.{AreMadeOf}

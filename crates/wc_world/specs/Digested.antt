@@ -1,6 +1,6 @@
 -- The digests of a world, which may not be made.
 use Rattle.std.specs.Prelude.{ℕ, Bool, true, false, List, Option}
-use Rattle.wc_keys.specs.declared.marking.Sealed.{Sealed}
+use Rattle.wc_keys.specs.declared.entries.Sealed.{Sealed}
 use Rattle.wc_keys.specs.Order.{AreSealsOf}
 use Rattle.wc_world.specs.World.{World}
 use Rattle.wc_world.specs.Keys.{digest_at}

@@ -8,11 +8,9 @@ ghost use Rattle.wc_world.specs.Accepted.{Setting, Fits, Refuses};
 ghost use Rattle.wc_world.specs.Called.{AwaitsCalled, SetFits, SetsFitting};
 ghost use Rattle.wc_world.specs.Drafts.{drafted, Ascends, FitsBy, RefusesBy, touched_by};
 
-use crate::applying::set_process;
 use crate::change::Change;
-use crate::checking::{
-    check_count, check_data, check_kept, check_library, check_process, check_set,
-};
+use crate::checks::{check_count, check_data, check_kept, check_library, check_process, check_set};
+use crate::effects::set_process;
 use crate::error::WorldError;
 use crate::terms::Terms;
 use crate::world::Libraries;

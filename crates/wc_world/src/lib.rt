@@ -4,18 +4,18 @@
 //! its batches, and the numbers of further items that take no memory.
 #![tactic(auto)]
 
-mod applying;
 mod batches;
 mod change;
-mod checking;
+mod checks;
 mod copies;
 mod draft;
+mod effects;
 mod error;
 mod laws;
+mod play;
 mod played;
-mod playing;
 mod readiness;
-mod settling;
+mod settlement;
 mod slots;
 mod snapshots;
 mod terms;

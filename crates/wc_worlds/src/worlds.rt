@@ -84,7 +84,7 @@ fn worst(alloc: Global, changes: Changes) -> Changes {
     listed(alloc, last)
 }
 
-/// Tells whether a world takes the last change that bytes spell, made one that no bytes spell, or why not.
+/// Tells whether a world takes the last change that bytes spell once it is spoiled, so that no bytes spell it, or why not.
 pub fn worse(alloc: Global, world: &World, bytes: &[u8], told: &mut Told) {
     match changes_of(alloc, bytes) {
         Ok(changes) => {

@@ -28,23 +28,23 @@ returns-in_err-reply-clause-kept g c =
 
 -- ---- nothing is stored
 
-pub returns-in-Told-clause-does : goal.returns-in-Told-clause-does
-returns-in-Told-clause-does g c =
+pub returns-in-Reply-clause-does : goal.returns-in-Reply-clause-does
+returns-in-Reply-clause-does g c =
     let s = c.args.store.now in
     let w : c.world.result.now.world ≡ s.world.world = λ i. (c.world.ensures i).world in
-    visit_as (visit g.D.Disk c.args.one.now c.args.two.now c.args.one.now c.args.two.now) (AreStill s) (DoneOn (event_row c.args.asked) s.world.world c.in-Told.reply)
-    (stays_alone c.args.asked s c.in-Told.reply
-    (subst (λ (v : World). TellsAlone c.args.asked v c.in-Told.reply) w (subst (IsEntryOf c.args.asked c.world.result.now.world) c.in-Told.is c.in_ok-reply.ensures)))
+    visit_as (visit g.D.Disk c.args.one.now c.args.two.now c.args.one.now c.args.two.now) (AreStill s) (DoneOn (event_row c.args.asked) s.world.world c.in-Reply.reply)
+    (stays_alone c.args.asked s c.in-Reply.reply
+    (subst (λ (v : World). TellsAlone c.args.asked v c.in-Reply.reply) w (subst (IsEntryOf c.args.asked c.world.result.now.world) c.in-Reply.is c.in_ok-reply.ensures)))
     (are_still g.D.Disk c.args.one.now c.args.two.now c.args.one.now c.args.two.now s c.requires.stands c.requires.images refl refl)
 
-pub returns-in-Told-clause-kept : goal.returns-in-Told-clause-kept
-returns-in-Told-clause-kept g c =
+pub returns-in-Reply-clause-kept : goal.returns-in-Reply-clause-kept
+returns-in-Reply-clause-kept g c =
     λ told told_too.
     standing g.D.Disk g.met.D.Disk.only_now c.worlds_are_kept.ensures.reached c.worlds_are_kept.ensures.same c.args.store.now c.args.one.now c.args.two.now (c.requires.stands told told_too)
     (MayHappen c.args.asked) (λ images. inl refl)
 
-pub returns-in-Told-clause-durable : goal.returns-in-Told-clause-durable
-returns-in-Told-clause-durable g c = λ told told_too. let s = c.requires.stands told told_too in record { durable_one = s.durable_one; durable_two = s.durable_two }
+pub returns-in-Reply-clause-durable : goal.returns-in-Reply-clause-durable
+returns-in-Reply-clause-durable g c = λ told told_too. let s = c.requires.stands told told_too in record { durable_one = s.durable_one; durable_two = s.durable_two }
 
 -- ---- changes are stored
 

@@ -1,7 +1,7 @@
 use Rattle.std.proofs.Common.{ap, sym, ◌∙◌}
 use Rattle.std.specs.Option.{option_copied}
 use Rattle.wc_machine.specs.Recorded.{its_definition}
-use Rattle.wc_cache.specs.Finding.{is_unmarked, is_unmarked_by}
+use Rattle.wc_cache.specs.Sources.{is_unmarked, is_unmarked_by}
 use Rattle.wc_cache.proofs.Valid.{unmarked_bare}
 use Rattle.wc_cache.proofs.sources.is_unmarked.Goals as goal
 

@@ -1,6 +1,6 @@
 use Rattle.std.proofs.Common.{◌≡◌, ◌+◌, List, [], ◌∷◌, ◌++◌, append_assoc, ap, ◌∙◌}
 use Rattle.wc_world.specs.declared.change.Change.{Change}
-use Rattle.wc_machine.specs.Submitting.{input_link}
+use Rattle.wc_machine.specs.Submissions.{input_link}
 use Rattle.wc_changes.specs.Called.{data_of, links_of}
 use Rattle.wc_changes.proofs.children.put_call.Goals as goal
 

@@ -1,5 +1,5 @@
 use Rattle.std.proofs.Common.{sym, ap, ◌∙◌, rules}
-use Rattle.wc_machine.specs.Killing.{awaits_of}
+use Rattle.wc_machine.specs.Kills.{awaits_of}
 use Rattle.wc_core.proofs.KillParts.{fuel_alone, fuel_with, none_awaited, sum_done}
 use Rattle.wc_core.proofs.fuel.+fuel.Goals as goal
 

@@ -1,5 +1,5 @@
 use Rattle.std.proofs.Common.{◌≡◌, ◌+◌, ◌*◌, ◌<◌, ◌^◌, drop}
-use Rattle.wc_machine.specs.Killing.{awaited_fuel}
+use Rattle.wc_machine.specs.Kills.{awaited_fuel}
 use Rattle.wc_machine.specs.Tasks.{saturated}
 use Rattle.wc_core.proofs.KillParts.{fuel_by}
 use Rattle.wc_core.proofs.fuel.+fuel.Given as goal

@@ -3,7 +3,7 @@ use Rattle.std.specs.Prelude.{◌≢◌}
 use Rattle.wc_world.specs.declared.change.Change.{Change}
 use Rattle.wc_world.specs.Accepted.{IsAccepted}
 use Rattle.wc_machine.specs.Continues.{Continues}
-use Rattle.wc_machine.specs.Killing.{kill_changes}
+use Rattle.wc_machine.specs.Kills.{kill_changes}
 use Rattle.wc_machine.specs.Machine.{after_changes, kill}
 use Rattle.wc_machine.specs.Sound.{IsSound}
 use Rattle.wc_machine.specs.Refusals.{FullOfBatches, NoneHolds}

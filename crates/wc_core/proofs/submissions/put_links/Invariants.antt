@@ -1,5 +1,5 @@
 use Rattle.std.proofs.Common.{◌≡◌, ◌+◌, ◌++◌, drop}
-use Rattle.wc_machine.specs.Submitting.{links_from}
+use Rattle.wc_machine.specs.Submissions.{links_from}
 use Rattle.wc_core.proofs.submissions.put_links.Given as goal
 
 abbrev pub invariant-loop-port : goal.invariant-loop-port

@@ -1,5 +1,5 @@
 use Rattle.std.proofs.Common.{◌≡◌, ◌++◌, map, drop}
-use Rattle.wc_machine.specs.Submitting.{data_change}
+use Rattle.wc_machine.specs.Submissions.{data_change}
 use Rattle.wc_core.proofs.submissions.put_values.Given as goal
 
 abbrev pub invariant-loop-value : goal.invariant-loop-value

@@ -2,7 +2,7 @@ use Rattle.std.proofs.Common.{◌≡◌, ℕ, ◌+◌, length, rules, refl, sym,
 use Rattle.std.specs.Prelude.{List}
 use Rattle.wc_world.specs.declared.change.Change.{Change}
 use Rattle.wc_world.specs.Applied.{applied}
-use Rattle.wc_machine.specs.Submitting.{Submits, submission}
+use Rattle.wc_machine.specs.Submissions.{Submits, submission}
 use Rattle.wc_machine.specs.Refusals.{AreFew, HasRoom, RefusesCounts}
 use Rattle.wc_core.proofs.Refused.{refuses_submission, submission_fits}
 use Rattle.wc_core.proofs.Allowed.{submission_allowed}

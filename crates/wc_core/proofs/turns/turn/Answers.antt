@@ -7,7 +7,7 @@ use Rattle.wc_machine.specs.Continues.{Continues}
 use Rattle.wc_machine.specs.Machine.{turn}
 use Rattle.wc_machine.specs.Readiness.{is_ready}
 use Rattle.wc_machine.specs.Sound.{IsSound}
-use Rattle.wc_machine.specs.Turning.{TurnGives}
+use Rattle.wc_machine.specs.Turns.{TurnGives}
 use Rattle.wc_soundness.specs.ListLaws.{AreItsChanges}
 use Rattle.wc_machine.specs.Refusals.{FullOf, HasRoom, NoneHolds}
 use Rattle.wc_core.specs.Refusals.{RefusesTurn}

@@ -2,7 +2,7 @@ use Rattle.std.proofs.Common.{◌≡◌, ℕ, List, sym, subst}
 use Rattle.wc_world.specs.declared.change.Change.{Change}
 use Rattle.wc_machine.specs.declared.answer.TaskAnswer.{TaskAnswer}
 use Rattle.wc_machine.specs.declared.answer.TaskAnswer.TheVariants.{Nothing}
-use Rattle.wc_machine.specs.Turning.{TurnGives}
+use Rattle.wc_machine.specs.Turns.{TurnGives}
 use Rattle.wc_machine.specs.Refusals.{FullOf}
 use Rattle.wc_machine.specs.declared.error.TurnError.{TurnError}
 use Rattle.wc_core.proofs.Asking.{chain_answer}

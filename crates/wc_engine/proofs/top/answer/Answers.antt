@@ -36,41 +36,41 @@ returns-in_err-reply-clause-asked g c = asked_none g.T.Transport (turns_of (comm
 
 -- ---- a reply is told
 
-pub returns-in-Told-clause-owed : goal.returns-in-Told-clause-owed
-returns-in-Told-clause-owed g c = (
-  plan.Told c.in-Told.reply,
-  subst (λ (p : Plan). Plans (g.R.Shelf.contents c.args.shelf.now) (command_of c.args.words.now) p) c.in-Told.is c.in_ok-reply.ensures.plans,
+pub returns-in-Reply-clause-owed : goal.returns-in-Reply-clause-owed
+returns-in-Reply-clause-owed g c = (
+  plan.Reply c.in-Reply.reply,
+  subst (λ (p : Plan). Plans (g.R.Shelf.contents c.args.shelf.now) (command_of c.args.words.now) p) c.in-Reply.is c.in_ok-reply.ensures.plans,
   (refl, refl),
 )
 
-pub returns-in-Told-clause-unasked : goal.returns-in-Told-clause-unasked
-returns-in-Told-clause-unasked g c =
+pub returns-in-Reply-clause-unasked : goal.returns-in-Reply-clause-unasked
+returns-in-Reply-clause-unasked g c =
     λ none. (
       refl,
       refl,
-      told_no_fault (g.R.Shelf.contents c.args.shelf.now) c.args.words.now c.in-Told.reply
-          (subst (λ (p : Plan). Plans (g.R.Shelf.contents c.args.shelf.now) (command_of c.args.words.now) p) c.in-Told.is c.in_ok-reply.ensures.plans),
+      told_no_fault (g.R.Shelf.contents c.args.shelf.now) c.args.words.now c.in-Reply.reply
+          (subst (λ (p : Plan). Plans (g.R.Shelf.contents c.args.shelf.now) (command_of c.args.words.now) p) c.in-Reply.is c.in_ok-reply.ensures.plans),
     )
 
-pub returns-in-Told-clause-undone : goal.returns-in-Told-clause-undone
-returns-in-Told-clause-undone g c = λ ends told told_too. none_asked g.D.Disk g.met.D.Disk.only_now c.args.one.now c.args.two.now
+pub returns-in-Reply-clause-undone : goal.returns-in-Reply-clause-undone
+returns-in-Reply-clause-undone g c = λ ends told told_too. none_asked g.D.Disk g.met.D.Disk.only_now c.args.one.now c.args.two.now
 
-pub returns-in-Told-clause-made : goal.returns-in-Told-clause-made
-returns-in-Told-clause-made g c =
+pub returns-in-Reply-clause-made : goal.returns-in-Reply-clause-made
+returns-in-Reply-clause-made g c =
     λ told told_too. made_unasked g.D.Disk g.met.D.Disk.only_now g.met.D.Disk.counts_now (g.R.Shelf.contents c.args.shelf.now) c.args.words.now c.args.one.now c.args.two.now
 
-pub returns-in-Told-clause-durable : goal.returns-in-Told-clause-durable
-returns-in-Told-clause-durable g c =
+pub returns-in-Reply-clause-durable : goal.returns-in-Reply-clause-durable
+returns-in-Reply-clause-durable g c =
     λ needs done told told_too.
-    absurd (needs c.in-Told.reply (subst (λ (p : Plan). Plans (g.R.Shelf.contents c.args.shelf.now) (command_of c.args.words.now) p) c.in-Told.is c.in_ok-reply.ensures.plans) done)
+    absurd (needs c.in-Reply.reply (subst (λ (p : Plan). Plans (g.R.Shelf.contents c.args.shelf.now) (command_of c.args.words.now) p) c.in-Reply.is c.in_ok-reply.ensures.plans) done)
 
-pub returns-in-Told-clause-asked : goal.returns-in-Told-clause-asked
-returns-in-Told-clause-asked g c = asked_none g.T.Transport (turns_of (command_of c.args.words.now)) c.args.transport.now
+pub returns-in-Reply-clause-asked : goal.returns-in-Reply-clause-asked
+returns-in-Reply-clause-asked g c = asked_none g.T.Transport (turns_of (command_of c.args.words.now)) c.args.transport.now
 
-pub returns-in-Told-clause-outside : goal.returns-in-Told-clause-outside
-returns-in-Told-clause-outside g c =
+pub returns-in-Reply-clause-outside : goal.returns-in-Reply-clause-outside
+returns-in-Reply-clause-outside g c =
     λ needs done told told_too.
-    absurd (needs c.in-Told.reply (subst (λ (p : Plan). Plans (g.R.Shelf.contents c.args.shelf.now) (command_of c.args.words.now) p) c.in-Told.is c.in_ok-reply.ensures.plans) done)
+    absurd (needs c.in-Reply.reply (subst (λ (p : Plan). Plans (g.R.Shelf.contents c.args.shelf.now) (command_of c.args.words.now) p) c.in-Reply.is c.in_ok-reply.ensures.plans) done)
 
 -- ---- a deed has no reply
 

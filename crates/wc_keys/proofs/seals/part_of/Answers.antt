@@ -1,7 +1,7 @@
 use Rattle.std.proofs.Common.{List, sym, subst}
 use Rattle.std.proofs.lemmas.List.{take_rest}
 use Rattle.wc_records.specs.Marked.{IsSorted}
-use Rattle.wc_keys.specs.declared.marking.Sealed.{Sealed}
+use Rattle.wc_keys.specs.declared.entries.Sealed.{Sealed}
 use Rattle.wc_keys.specs.Order.{earlier, IsDigestPlace}
 use Rattle.wc_keys.proofs.Parts.{place_dropped, part_is_filter}
 use Rattle.wc_keys.proofs.Sorting.{sorted_drop}

@@ -1,7 +1,7 @@
 use Rattle.std.proofs.Common.{rules, of_calls, arith}
 use Rattle.std.proofs.lemmas.Fn.{always_returns_same}
 use Rattle.wc_value.specs.Ascending.{before}
-use Rattle.wc_keys.specs.declared.marking.Sealed.{Sealed}
+use Rattle.wc_keys.specs.declared.entries.Sealed.{Sealed}
 use Rattle.wc_keys.specs.Order.{earlier}
 use Rattle.wc_keys.proofs.Orders.{in_order, before_stays}
 use Rattle.wc_keys.proofs.Sorting.{parted}

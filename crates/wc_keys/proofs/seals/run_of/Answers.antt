@@ -1,7 +1,7 @@
 use Rattle.std.proofs.Common.{rules, of_calls, arith}
 use Rattle.std.specs.Str.{bytes_eq}
 use Rattle.std.proofs.lemmas.Fn.{always_returns_same}
-use Rattle.wc_keys.specs.declared.marking.Sealed.{Sealed}
+use Rattle.wc_keys.specs.declared.entries.Sealed.{Sealed}
 use Rattle.wc_keys.proofs.Parts.{run_parted}
 use Rattle.wc_keys.proofs.seals.run_of.Goals as goal
 

@@ -1,6 +1,6 @@
 use Rattle.std.proofs.Common.{◌≡◌, ◌≤◌, length, take}
 use Rattle.std.specs.Prelude.{reverse}
-use Rattle.wc_machine.specs.Advancing.{popped}
+use Rattle.wc_machine.specs.Advances.{popped}
 use Rattle.wc_outline.specs.Places.{behind}
 use Rattle.wc_outline.proofs.frames.kept.Given as goal
 

@@ -3,9 +3,9 @@ use Rattle.std.specs.Prelude.{reverse}
 use Rattle.wc_syntax.specs.declared.outline.Instr.{out-Instr}
 use Rattle.wc_state.specs.declared.record.Await.{Await}
 use Rattle.wc_state.specs.declared.record.Checkpoint.{Checkpoint}
-use Rattle.wc_machine.specs.Advancing.{past, done}
+use Rattle.wc_machine.specs.Advances.{past, done}
 use Rattle.wc_machine.specs.Outlines.{Blocks}
-use Rattle.wc_outline.specs.declared.answering.Next.{Next}
+use Rattle.wc_outline.specs.declared.answer.Next.{Next}
 use Rattle.wc_outline.specs.Places.{first_number, front_of}
 use Rattle.wc_outline.specs.Shown.{shown}
 use Rattle.wc_outline.specs.Statements.{IsUnnoted, answered, came_to, statements_in}

@@ -1,7 +1,7 @@
 use Rattle.std.proofs.Common.{◌≡◌, ℕ, suc, ◌+◌, List, length, ap, ◌∙◌, arith}
 use Rattle.std.specs.Borrow.{Bor}
 use Rattle.wc_syntax.specs.declared.outline.Instr.{Instr}
-use Rattle.wc_machine.specs.Advancing.{block_count}
+use Rattle.wc_machine.specs.Advances.{block_count}
 use Rattle.wc_outline.proofs.Picked.{passed_in}
 use Rattle.wc_outline.proofs.instructions.inner_number.Goals as goal
 

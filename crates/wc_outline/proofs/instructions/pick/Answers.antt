@@ -1,7 +1,7 @@
 use Rattle.std.proofs.Common.{◌≡◌, ℕ, suc, ◌+◌, List, ◌∷◌, length, drop, sym, ap, subst, ◌∙◌, arith}
 use Rattle.wc_syntax.specs.declared.outline.Arm.{Arm, out-Arm}
 use Rattle.wc_expression.specs.declared.outcome.Outcome.TheVariants.{Gives}
-use Rattle.wc_machine.specs.Advancing.{block_count}
+use Rattle.wc_machine.specs.Advances.{block_count}
 use Rattle.wc_machine.specs.Outlines.{blocks}
 use Rattle.wc_outline.specs.Places.{picked_from, if_blocks, Fit}
 use Rattle.wc_outline.proofs.Gathered.{next}

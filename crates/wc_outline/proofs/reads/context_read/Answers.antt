@@ -4,7 +4,7 @@ use Rattle.wc_syntax.specs.Bare.{bare_chain, bare_library}
 use Rattle.wc_syntax.specs.Findings.{definition_named}
 use Rattle.wc_syntax.specs.declared.definition.Definition.{Definition}
 use Rattle.wc_state.specs.Context.{Pairs}
-use Rattle.wc_machine.specs.Advancing.{advance}
+use Rattle.wc_machine.specs.Advances.{advance}
 use Rattle.wc_outline.specs.Places.{chain_of}
 use Rattle.wc_outline.specs.Reads.{context_read, IsRead}
 use Rattle.wc_outline.proofs.Advances.{advance_alike}

@@ -4,7 +4,7 @@ use Rattle.std.specs.Prelude.{reverse}
 use Rattle.wc_syntax.specs.Mentions.{Mention}
 use Rattle.wc_syntax.specs.declared.outline.Instr.{Instr}
 use Rattle.wc_state.specs.Context.{Pairs}
-use Rattle.wc_machine.specs.Advancing.{popped}
+use Rattle.wc_machine.specs.Advances.{popped}
 use Rattle.wc_machine.specs.Outlines.{blocks}
 use Rattle.wc_outline.specs.Keys.{instr_mentions}
 use Rattle.wc_outline.specs.Places.{behind, seen, standing}

@@ -3,7 +3,7 @@ use Rattle.std.specs.Prelude.{ℕ, IfOk}
 use Rattle.wc_state.specs.declared.record.Limits.{Limits}
 use Rattle.wc_state.specs.declared.record.Task.{Task}
 use Rattle.wc_state.specs.declared.record.Task.TheVariants as task
-use Rattle.wc_machine.specs.Asking.{fits_task, performs}
+use Rattle.wc_machine.specs.Questions.{fits_task, performs}
 use Rattle.wc_transport.specs.Outside.{task_reply, update_reply, retrieve_reply}
 use Rattle.wc_runner.specs.Asked.{IsAsked, PlacesFor}
 use Rattle.wc_runner.specs.Outside.{IsGiven, IsReply, in_turn}

@@ -1,6 +1,6 @@
 use Rattle.std.proofs.Common.{◌≡◌, ◌<◌, ◌-◌, ℕ, true, false, Result, Err, subst, arith, rules}
 use Rattle.wc_world.specs.Room.{Holding}
-use Rattle.wc_machine.specs.Asking.{need}
+use Rattle.wc_machine.specs.Questions.{need}
 use Rattle.wc_core.specs.Next.{ComesNext}
 use Rattle.wc_core.specs.Order.{IsChosen}
 use Rattle.wc_core.specs.Ready.{is_ready_at}

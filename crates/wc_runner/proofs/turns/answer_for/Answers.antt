@@ -5,7 +5,7 @@ use Rattle.wc_state.specs.declared.record.ProcessRecord.{ProcessRecord}
 use Rattle.wc_state.specs.declared.record.Task.TheVariants as task
 use Rattle.wc_machine.specs.declared.answer.TaskAnswer.{TaskAnswer}
 use Rattle.wc_machine.specs.declared.answer.TaskAnswer.TheVariants as answer
-use Rattle.wc_machine.specs.Asking.{fits, fits_task, need, nothing, performs}
+use Rattle.wc_machine.specs.Questions.{fits, fits_task, need, nothing, performs}
 use Rattle.wc_runner.specs.Asked.{AsksOnce, IsAsked, WhatItNeeds}
 use Rattle.wc_runner.specs.Outside.{Answers, AnswersNeed, IsGiven, in_turn}
 use Rattle.wc_runner.proofs.Answered.{ok_map}

@@ -1,7 +1,7 @@
 use Rattle.std.proofs.Common.{inl, inr, Bool, Ok, Err, refl, sym, subst, ⊎_elim}
 use Rattle.std.specs.Prelude.{IsSome}
 use Rattle.wc_world.specs.Room.{Holding}
-use Rattle.wc_machine.specs.Asking.{need}
+use Rattle.wc_machine.specs.Questions.{need}
 use Rattle.wc_store.specs.Stepped.{InGeneration, IsCommitted, IsOrCommitted, Stepped, of_world}
 use Rattle.wc_store.proofs.Stepping.{not_stepped, stands_leaves, weaker_leaves, weaker_step}
 use Rattle.wc_runner.specs.Asked.{AreOfProcesses, AsksOnce, IsAsked, WhatItNeeds}

@@ -1,6 +1,6 @@
 use Rattle.std.proofs.Common.{List, [], ◌∙◌, vec_capacity, refl, sym, ap, subst, arith}
 use Rattle.wc_records.specs.Marked.{IsSorted}
-use Rattle.wc_keys.specs.declared.marking.Sealed.{Sealed}
+use Rattle.wc_keys.specs.declared.entries.Sealed.{Sealed}
 use Rattle.wc_keys.specs.Order.{earlier, is_in, joined}
 use Rattle.wc_keys.proofs.Exact.{sorted_made, same_entries}
 use Rattle.wc_keys.proofs.TwoLists.{alone_two, two_as}

@@ -1,6 +1,6 @@
 use Rattle.std.proofs.Common.{List, ℕ, ◌<◌, length, vec_capacity, ap, sym, subst, ◌∙◌}
 use Rattle.wc_records.specs.Marked.{IsSorted}
-use Rattle.wc_keys.specs.declared.marking.Sealed.{Sealed}
+use Rattle.wc_keys.specs.declared.entries.Sealed.{Sealed}
 use Rattle.wc_keys.specs.Order.{earlier, with_digest}
 use Rattle.wc_keys.proofs.Joined.{sorted_joined}
 use Rattle.wc_keys.proofs.TwoLists.{is_none, is_some, part_short, part_long}

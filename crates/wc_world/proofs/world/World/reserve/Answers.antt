@@ -1,6 +1,6 @@
 use Rattle.std.proofs.Common.{◌≡◌, ℕ, ◌≤◌, Bool, List, length, refl, sym, ap, ◌∙◌, subst, arith}
 use Rattle.wc_graph.specs.Provenance.{Provenance}
-use Rattle.wc_keys.specs.declared.marking.Sealed.{Sealed}
+use Rattle.wc_keys.specs.declared.entries.Sealed.{Sealed}
 use Rattle.wc_world.specs.World.{World}
 use Rattle.wc_world.specs.Accepted.{IsReached}
 use Rattle.wc_world.specs.Applying.{world_of, RoomyRecords, RoomyLibraries}

@@ -1,5 +1,0 @@
-use Rattle.wc_cost.proofs.KillsKept.{kills_stay}
-use Rattle.wc_cost.proofs.framing.kills_stay.Goals as goal
-
-pub returns : goal.returns
-returns c = kills_stay

@@ -1,5 +1,0 @@
-use Rattle.wc_cost.proofs.ChainsLowered.{advances_lower}
-use Rattle.wc_cost.proofs.lowering.advances_lower.Goals as goal
-
-pub returns : goal.returns
-returns c = advances_lower

@@ -1,5 +1,0 @@
-use Rattle.wc_cost.proofs.Bound.{bindings_lower}
-use Rattle.wc_cost.proofs.lowering.bindings_lower.Goals as goal
-
-pub returns : goal.returns
-returns c = bindings_lower

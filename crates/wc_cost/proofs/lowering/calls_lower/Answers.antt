@@ -1,5 +1,0 @@
-use Rattle.wc_cost.proofs.CallsLowered.{calls_lower}
-use Rattle.wc_cost.proofs.lowering.calls_lower.Goals as goal
-
-pub returns : goal.returns
-returns c = calls_lower

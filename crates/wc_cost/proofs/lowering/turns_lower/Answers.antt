@@ -1,5 +1,0 @@
-use Rattle.wc_cost.proofs.TurnsLowered.{turns_lower}
-use Rattle.wc_cost.proofs.lowering.turns_lower.Goals as goal
-
-pub returns : goal.returns
-returns c = turns_lower

@@ -1,5 +1,0 @@
-use Rattle.wc_soundness.proofs.TouchingEvents.{ends_touch}
-use Rattle.wc_soundness.proofs.framing.ends_touch.Goals as goal
-
-pub returns : goal.returns
-returns c = ends_touch

@@ -1,5 +1,0 @@
-use Rattle.wc_soundness.proofs.TouchingEvents.{submissions_touch}
-use Rattle.wc_soundness.proofs.framing.submissions_touch.Goals as goal
-
-pub returns : goal.returns
-returns c = submissions_touch

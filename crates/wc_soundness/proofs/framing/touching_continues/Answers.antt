@@ -1,5 +1,0 @@
-use Rattle.wc_soundness.proofs.Touched.{touching_continues}
-use Rattle.wc_soundness.proofs.framing.touching_continues.Goals as goal
-
-pub returns : goal.returns
-returns c = touching_continues

@@ -5,10 +5,9 @@ use Rattle.wc_record.specs.declared.error.RecordError.{RecordError}
 use Rattle.wc_record.specs.Reading.{whole}
 use Rattle.wc_world.specs.World.{World, empty}
 use Rattle.wc_world.specs.Applied.{applied}
-use Rattle.wc_world.specs.Accepted.{IsAccepted, IsRefused}
+use Rattle.wc_world.specs.Accepted.{IsAccepted}
 use Rattle.wc_world.specs.declared.change.Change.{Change}
 use Rattle.wc_world.specs.declared.change.Change.TheVariants as change
-use Rattle.wc_world.specs.declared.error.WorldError.{WorldError}
 use Rattle.wc_store.specs.declared.error.StoreError.{StoreError}
 use Rattle.wc_store.specs.declared.error.StoreError.TheVariants as store
 use Rattle.wc_store.specs.declared.replay.Unplayed.{Unplayed}

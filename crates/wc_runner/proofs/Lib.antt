@@ -3,16 +3,16 @@ pub mod Continuing
 pub mod Widened
 pub mod Journals
 pub mod ManyTurns
-mod Answered
+pub mod Answered
 pub mod Sets
 pub mod Marked
 pub mod Taken
-mod Needed
-mod Accepted
+pub mod Needed
+pub mod Accepted
 pub mod Led
 pub mod Placed
 pub mod Codes
-mod Known
+pub mod Known
 mod Trailed
 mod TrailLaws
 mod Gone

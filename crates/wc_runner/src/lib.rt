@@ -13,5 +13,5 @@ pub use laws::{
     turns_keep_sound, worlds_continue_themselves,
 };
 pub use runs::{RunEnd, run};
-pub use turns::{commit_changes, turn_one};
+pub use turns::{answer_for, changes_of, commit_changes, turn_one};
 pub use wc_core::{TurnError, kill_changes, pause_changes, play_changes, submit_changes};

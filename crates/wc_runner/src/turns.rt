@@ -53,7 +53,7 @@ fn of_store(error: StoreError) -> RunError
 }
 
 /// What the outside answers to what a ready process needs. The transport is asked at most once.
-fn answer_for<T: Transport>(
+pub fn answer_for<T: Transport>(
     alloc: Global,
     world: &World,
     transport: &mut T,
@@ -82,7 +82,7 @@ fn answer_for<T: Transport>(
 }
 
 /// The changes of the turn of a ready process with an answer that fits what it needs.
-fn changes_of(
+pub fn changes_of(
     alloc: Global,
     world: &World,
     limits: &Limits,

@@ -13,5 +13,5 @@ pub mod BareBlocks
 pub mod Bare
 pub mod Mentions
 pub mod Agreement
-pub mod Advances
+pub mod Alike
 pub mod Entries

@@ -7,7 +7,7 @@ use Rattle.wc_state.specs.Context.{Pairs}
 use Rattle.wc_machine.specs.Advances.{advance}
 use Rattle.wc_outline.specs.Places.{chain_of}
 use Rattle.wc_outline.specs.Reads.{context_read, IsRead}
-use Rattle.wc_outline.proofs.Advances.{advance_alike}
+use Rattle.wc_outline.proofs.Alike.{advance_alike}
 use Rattle.wc_outline.proofs.Bare.{advance_bare, chain_bare, is_chain_bare}
 use Rattle.wc_outline.proofs.Gathered.{if_ok}
 use Rattle.wc_outline.proofs.reads.context_read.Goals as goal

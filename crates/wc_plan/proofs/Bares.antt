@@ -27,7 +27,7 @@ ill_bare (p ∷ ps) given file =
     λ i. if is_ill p (times_given p.name.text given) (is_in p.name.text file) then p.name.text ∷ ill_bare ps given file i else ill_bare ps given file i
 
 pub bad_given_bare : (ps : List Port) (given : List (List ℕ × List ℕ)) (file : List (List ℕ × Value)) → bad_given (map bare_port ps) given file ≡ bad_given ps given file
-bad_given_bare ps given file = λ i. least (unread_bare ps given i ++ ill_bare ps given file i)
+bad_given_bare ps given file = λ i. least (ill_bare ps given file i ++ unread_bare ps given i)
 
 pub fields_bare : (ps : List Port) (given : List (List ℕ × List ℕ)) (fs : List (List ℕ × Value))
     → fields_of (map bare_port ps) given fs ≡ fields_of ps given fs

@@ -9,3 +9,4 @@ pub mod Configured
 pub mod Once
 pub mod Planned
 pub mod Replied
+mod GivenBadly

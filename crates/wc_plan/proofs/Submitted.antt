@@ -284,9 +284,9 @@ two_empty (x ∷ xs) ys h = absurd (cc)
 pub given_fits : (ports : List Port) (given : List (List ℕ × List ℕ)) (file : List (List ℕ × Value)) → Holds ports file → bad_given ports given file ≡ None
     → bad_input ports (fields_of ports given file) ≡ None
 given_fits ports given file filed h =
-    let e = two_empty (unread ports given) (ill_given ports given file) (no_least (unread ports given ++ ill_given ports given file) h) in
+    let e = two_empty (ill_given ports given file) (unread ports given) (no_least (ill_given ports given file ++ unread ports given) h) in
     let held = fields_hold ports given file filed in
-    (λ i. least (none_wrong ports (fields_of ports given file) held.0 i ++ none_missing ports ports given file e.0 e.1 i))
+    (λ i. least (none_wrong ports (fields_of ports given file) held.0 i ++ none_missing ports ports given file e.1 e.0 i))
 
 -- the inputs of a file, if one is named
 filed_taken : (told : Option (List ℕ → Option (List ℕ))) (inputs : Option (List ℕ)) (ports : List Port) (file : List (List ℕ × Value)) → InputsFrom told inputs ports (Ok file) → Holds ports file

@@ -1,5 +1,5 @@
 -- Inputs that are given in words and in a file, and the least port that is given badly.
-use Rattle.std.specs.Prelude.{ℕ, suc, ◌==◌, nat_lt, Bool, true, false, not, ◌&&◌, ◌||◌, is_none, if◌then◌else◌, List, [], ◌∷◌, ◌++◌, Option, Some, None, option_map, codes}
+use Rattle.std.specs.Prelude.{◌≡◌, ℕ, suc, ◌==◌, nat_lt, Bool, true, false, not, ◌&&◌, ◌||◌, is_none, if◌then◌else◌, List, [], ◌∷◌, ◌++◌, Option, Some, None, option_map, Result, Ok, Err, codes}
 use Rattle.std.specs.Str.{bytes_eq}
 use Rattle.wc_value.specs.Ascending.{lookup, put}
 use Rattle.wc_value.specs.declared.value.Kind.{Kind}
@@ -61,7 +61,7 @@ ill_given (p ∷ ps) given file =
 
 -- the least port that is given badly in words, beside what a file gives
 abbrev pub bad_given : List Port → List (List ℕ × List ℕ) → List (List ℕ × Value) → Option (List ℕ)
-bad_given ports given file = least (unread ports given ++ ill_given ports given file)
+bad_given ports given file = least (ill_given ports given file ++ unread ports given)
 
 abbrev pub with_field : List ℕ → Option Value → List (List ℕ × Value) → List (List ℕ × Value)
 with_field name None fields = fields
@@ -71,3 +71,8 @@ with_field name (Some v) fields = put name v fields
 abbrev pub fields_of : List Port → List (List ℕ × List ℕ) → List (List ℕ × Value) → List (List ℕ × Value)
 fields_of ports [] fields = fields
 fields_of ports (g ∷ gs) fields = fields_of ports gs (with_field g.0 (given_value ports g) fields)
+
+-- the words give these inputs beside a file's, where no port is given badly, and else the least port that is
+abbrev pub IsGiven : List Port → List (List ℕ × List ℕ) → List (List ℕ × Value) → Result (List (List ℕ × Value)) (List ℕ) → Type 0
+IsGiven ports given file (Ok fields) = (bad_given ports given file ≡ None) × (fields ≡ fields_of ports given file)
+IsGiven ports given file (Err port) = bad_given ports given file ≡ Some port

@@ -2,9 +2,9 @@
 
 ghost use Rattle.std.specs.Prelude.{◌≡◌, IfOk};
 ghost use Rattle.std.specs.Option.{option_copied};
-ghost use Rattle.wc_meaning.specs.Inputs.{least_after};
+ghost use Rattle.wc_meaning.specs.Inputs.{least, least_after};
 ghost use Rattle.wc_expression.specs.Val.{is_allowed};
-ghost use Rattle.wc_plan.specs.Given.{bool_in_words, value_in_words, allowed, given_value, times_given, unread, ill_given, bad_given, fields_of};
+ghost use Rattle.wc_plan.specs.Given.{bool_in_words, value_in_words, allowed, given_value, times_given, unread, ill_given, fields_of, IsGiven};
 
 use std::alloc::AllocError;
 use wc_cli::Given;
@@ -82,19 +82,6 @@ fn value_given(ports: &[Port], given: &Given) -> Result<Option<Value>, AllocErro
     }
 }
 
-/// The least of the names that are given and have no value so.
-fn least_unread<'a>(ports: &[Port], given: &'a [Given]) -> Result<Option<&'a Text>, AllocError>
-    ensures { IfOk result (λ best. option_copied best ≡ least_after None (unread ports.now given.entry.now)) }
-{
-    let mut best = None;
-    for one in given {
-        if value_given(ports, one)?.is_none() {
-            best = lesser_name(best, &one.0);
-        }
-    }
-    Ok(best)
-}
-
 /// How often a name is given.
 fn count_given(given: &[Given], name: &[u8]) -> usize
     ensures { result ≡ times_given name.now given.now }
@@ -108,16 +95,11 @@ fn count_given(given: &[Given], name: &[u8]) -> usize
     count
 }
 
-/// The least of a name and the ports that are given more than once, in words or in words and a file, or are required and not given.
-fn least_ill_given<'a>(
-    best: Option<&'a Text>,
-    ports: &'a [Port],
-    given: &[Given],
-    file: &Fields,
-) -> Option<&'a Text>
-    ensures { option_copied result ≡ least_after (option_copied best.entry) (ill_given ports.entry.now given.now file.now) }
+/// The least of the ports that are given more than once, in words or in words and a file, or are required and not given.
+fn least_ill_given<'a>(ports: &'a [Port], given: &[Given], file: &Fields) -> Option<&'a Text>
+    ensures { option_copied result ≡ least (ill_given ports.entry.now given.now file.now) }
 {
-    let mut best = best;
+    let mut best = None;
     for port in ports {
         let count = count_given(given, port.name.text.bytes());
         let filed = file.find(port.name.text.bytes()).is_some();
@@ -128,28 +110,42 @@ fn least_ill_given<'a>(
     best
 }
 
-/// The least port, by the bytes of its name, that is given badly: it isn't there, is given twice, in words or in words and the file, isn't
-/// given a value of its kind, or is required and not given. None where all is well.
-pub fn find_bad_given<'a>(
-    ports: &'a [Port],
+/// The inputs that the words give, by port, beside those of a file, and the least of a name and those that are given and have no value so.
+fn take_given<'a>(
+    ports: &[Port],
     given: &'a [Given],
-    file: &Fields,
-) -> Result<Option<&'a Text>, AllocError>
-    ensures { IfOk result (λ bad. option_copied bad ≡ bad_given ports.entry.now given.entry.now file.now) }
-{
-    let unread = least_unread(ports, given)?;
-    Ok(least_ill_given(unread, ports, given, file))
-}
-
-/// The inputs that the words give, by port, beside those of a file.
-pub fn read_given(ports: &[Port], given: &[Given], file: Fields) -> Result<Fields, AllocError>
-    ensures { IfOk result (λ fields. fields ≡ fields_of ports.now given.now file) }
+    file: Fields,
+    bad: Option<&'a Text>,
+) -> Result<(Fields, Option<&'a Text>), AllocError>
+    ensures fields { IfOk result (λ r. r.0 ≡ fields_of ports.now given.entry.now file) }
+    ensures bad { IfOk result (λ r. option_copied r.1 ≡ least_after (option_copied bad.entry) (unread ports.now given.entry.now)) }
 {
     let mut fields = file;
+    let mut bad = bad;
     for one in given {
-        if let Some(value) = value_given(ports, one)? {
-            fields.set(one.0.copy()?, value)?;
+        match value_given(ports, one)? {
+            Some(value) => fields.set(one.0.copy()?, value)?,
+            None => bad = lesser_name(bad, &one.0),
         }
     }
-    Ok(fields)
+    Ok((fields, bad))
+}
+
+/// The inputs that the words give, by port, beside those of a file, or else the least port, by the bytes of its name, that is given badly: it
+/// isn't there, is given twice, in words or in words and the file, isn't given a value of its kind, or is required and not given. Each word
+/// is read once.
+#[tactic(auto, using(crate::proofs::GivenBadly::bad_is))]
+pub fn read_given(
+    ports: &[Port],
+    given: &[Given],
+    file: Fields,
+) -> Result<Result<Fields, Text>, AllocError>
+    ensures { IfOk result (IsGiven ports.now given.now file) }
+{
+    let ill = least_ill_given(ports, given, &file);
+    let (fields, bad) = take_given(ports, given, file, ill)?;
+    match bad {
+        Some(port) => Ok(Err(port.copy()?)),
+        None => Ok(Ok(fields)),
+    }
 }

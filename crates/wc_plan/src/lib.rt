@@ -18,7 +18,7 @@ mod text;
 pub use commands::Trial;
 pub use deed::{Asked, Begin, Deed, Plan, RunOptions, Work};
 pub use error::PlanError;
-pub use given::{find_bad_given, read_given};
+pub use given::read_given;
 pub use laws::{files_are_read_as_one_thing, names_on_are_as_settings_say};
 pub use libraries::{Read, read_content};
 pub use plans::plan;

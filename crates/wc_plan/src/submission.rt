@@ -9,7 +9,7 @@ ghost use Rattle.wc_plan.specs.Submits.{inputs_of, inputs_beside, prepared_with,
 
 use crate::error::PlanError;
 use crate::further::inputs_from;
-use crate::given::{find_bad_given, read_given};
+use crate::given::read_given;
 use crate::libraries::{Read, read_from};
 use crate::status::Cause;
 use std::alloc::{AllocError, Global};
@@ -62,9 +62,9 @@ fn inputs_of(
 ) -> Result<Result<Fields, Cause>, AllocError>
     ensures { IfOk result (λ inputs. inputs ≡ inputs_of (bad_given ports.now given.now file) ports.now given.now file) }
 {
-    match find_bad_given(ports, given, &file)? {
-        Some(port) => Ok(Err(Cause::BadInput(port.copy()?))),
-        None => Ok(Ok(read_given(ports, given, file)?)),
+    match read_given(ports, given, file)? {
+        Ok(fields) => Ok(Ok(fields)),
+        Err(port) => Ok(Err(Cause::BadInput(port))),
     }
 }
 

@@ -3,7 +3,7 @@
 ghost use Rattle.std.specs.Prelude.{◌≡◌, ◌++◌, IfOk, IsSome};
 ghost use Rattle.wc_syntax.specs.Findings.{definition_named};
 ghost use Rattle.wc_plan.specs.Counts.{CountsShelf};
-ghost use Rattle.wc_plan.specs.Given.{bad_given, fields_of};
+ghost use Rattle.wc_plan.specs.Given.{bad_given};
 ghost use Rattle.wc_plan.specs.Naming.{given_file, AsksFirst};
 ghost use Rattle.wc_plan.specs.Dry.{owed_answer, owed_inputs, owed_rows, OwesDefinition, OwesDry, OwesRows};
 ghost use Rattle.wc_semantics.specs.Tables.{plain, no_kills};
@@ -12,7 +12,7 @@ ghost use Rattle.wc_semantics.specs.Meaning.{meaning};
 
 use crate::error::PlanError;
 use crate::further::{inputs_from, table_from};
-use crate::given::{find_bad_given, read_given};
+use crate::given::read_given;
 use crate::libraries::Read;
 use crate::reply::{Reply, print, refuse};
 use crate::status::Cause;
@@ -92,22 +92,6 @@ fn reply_for_inputs(
     reply_for_answer(alloc, answer)
 }
 
-/// The reply of `dry` for these ports, where nothing is given badly in words beside what a file gives.
-fn reply_for_given(
-    alloc: Global,
-    library: &Library,
-    ports: &[Port],
-    trial: &Trial,
-    file: Fields,
-    table: &Table,
-) -> Result<Reply, AllocError>
-    requires named { IsSome (definition_named trial.now.name library.now) }
-    ensures { IfOk result (λ r. r ≡ owed_answer (meaning 15 library.now (plain table.now) no_kills trial.now.fuel trial.now.name (fields_of ports.now trial.now.given file))) }
-{
-    let inputs = read_given(ports, trial.given.as_slice(), file)?;
-    reply_for_inputs(alloc, library, trial, &inputs, table)
-}
-
 /// The reply of `dry` for a definition with these ports, where a file gives these inputs, with this table.
 fn reply_for_table(
     alloc: Global,
@@ -120,9 +104,9 @@ fn reply_for_table(
     requires named { IsSome (definition_named trial.now.name library.now) }
     ensures { IfOk result (λ r. r ≡ owed_inputs (bad_given ports.now trial.now.given file) ports.now library.now trial.now.name trial.now.given file table.now trial.now.fuel) }
 {
-    match find_bad_given(ports, trial.given.as_slice(), &file)? {
-        Some(port) => refuse(alloc, Cause::BadInput(port.copy()?)),
-        None => reply_for_given(alloc, library, ports, trial, file, table),
+    match read_given(ports, trial.given.as_slice(), file)? {
+        Ok(inputs) => reply_for_inputs(alloc, library, trial, &inputs, table),
+        Err(port) => refuse(alloc, Cause::BadInput(port)),
     }
 }
 

@@ -19,13 +19,13 @@ _maroonclamp() {
   first=1 command=$name
   if [ "$name" = maroonclamp ]; then
     if [ "$COMP_CWORD" -eq 1 ]; then
-      _maroonclamp_words "check dry init submit run list tree show graph pause play kill verify pack drill"
+      _maroonclamp_words "check dry init submit run list tree show graph pause play kill verify pack drill query"
       return
     fi
     command=${COMP_WORDS[1]} first=2
   elif [ "$name" = peek ]; then
     if [ "$COMP_CWORD" -eq 1 ]; then
-      _maroonclamp_words "list show tree graph verify --at"
+      _maroonclamp_words "list show tree graph query verify --at"
       return
     fi
     command=${COMP_WORDS[1]} first=2

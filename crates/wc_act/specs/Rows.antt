@@ -10,7 +10,7 @@ use Rattle.wc_plan.specs.declared.deed.Begin.{Begin}
 use Rattle.wc_plan.specs.declared.deed.Begin.TheVariants as begin
 use Rattle.wc_plan.specs.declared.deed.Deed.{Deed}
 use Rattle.wc_plan.specs.declared.deed.Deed.TheVariants as deed
-use Rattle.wc_cli.specs.declared.command.View.{View}
+use Rattle.wc_plan.specs.declared.deed.Shown.{Shown}
 use Rattle.wc_plan.specs.declared.deed.RunOptions.{RunOptions}
 use Rattle.wc_plan.specs.declared.deed.Work.{Work}
 use Rattle.wc_plan.specs.declared.deed.Work.TheVariants as work
@@ -43,7 +43,7 @@ pub record WorkRow : Type 1 where
 abbrev pub Stays : World → World → Images → Type 0
 Stays w v images = v ≡ w
 
-abbrev pub view_row : View → WorkRow
+abbrev pub view_row : Shown → WorkRow
 view_row v = record {
   makes = Stays;
   does = ShowsStill v;

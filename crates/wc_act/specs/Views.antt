@@ -1,5 +1,5 @@
 -- What a view of a world replies.
-use Rattle.std.specs.Prelude.{◌≡◌, ◌⊎◌, ℕ, List, length, Option, Some, None}
+use Rattle.std.specs.Prelude.{◌≡◌, ◌⊎◌, ◌↔◌, ℕ, Bool, true, List, length, Option, Some, None}
 use Rattle.wc_value.specs.declared.process.Tree.{Tree}
 use Rattle.wc_world.specs.World.{World}
 use Rattle.wc_world.specs.Records.{find_record}
@@ -11,8 +11,14 @@ use Rattle.wc_report.specs.Lines.{cycle_text, wrong_value_text, verified_text}
 use Rattle.wc_report.specs.Lists.{list_text}
 use Rattle.wc_report.specs.Trees.{tree_text}
 use Rattle.wc_report.specs.Shows.{show_text, graph_text}
+use Rattle.wc_matches.specs.Query.{Query}
+use Rattle.wc_matches.specs.First.{AreFirst, HasMore}
+use Rattle.wc_matches.specs.Matches.{IsMatch}
+use Rattle.wc_matches.specs.Texts.{rows_text}
 use Rattle.wc_cli.specs.declared.command.View.{View}
 use Rattle.wc_cli.specs.declared.command.View.TheVariants as view
+use Rattle.wc_plan.specs.declared.deed.Shown.{Shown}
+use Rattle.wc_plan.specs.declared.deed.Shown.TheVariants as shown
 use Rattle.wc_plan.specs.declared.reply.Reply.{Reply}
 use Rattle.wc_plan.specs.declared.status.Cause.TheVariants as cause
 use Rattle.wc_plan.specs.declared.status.Fault.{Fault}
@@ -52,13 +58,22 @@ pub data Verifies (w : World) : Reply → Type 0 where
 
 -- each process has its line; a process has its tree; a node has its lines; each node and each link has its line; the world is
 -- checked
-abbrev pub Shows : View → World → Reply → Type 0
-Shows view.List w r = r ≡ prints (list_text w.records)
-Shows (view.Tree pid) w r = ShowsTree pid w r
-Shows (view.Show node) w r = r ≡ node_reply node (show_text w node)
-Shows view.Graph w r = r ≡ prints (graph_text w)
-Shows view.Verify w r = Verifies w r
+abbrev pub ShowsView : View → World → Reply → Type 0
+ShowsView view.List w r = r ≡ prints (list_text w.records)
+ShowsView (view.Tree pid) w r = ShowsTree pid w r
+ShowsView (view.Show node) w r = r ≡ node_reply node (show_text w node)
+ShowsView view.Graph w r = r ≡ prints (graph_text w)
+ShowsView view.Verify w r = Verifies w r
+
+-- the first rows that match are listed, at most so many, and whether there are further ones
+abbrev pub ShowsRows : Query → ℕ → World → Reply → Type 0
+ShowsRows query limit w r = (rows : List (List ℕ)) × (more : Bool) × AreFirst (IsMatch w query) limit rows × ((more ≡ true) ↔ HasMore (IsMatch w query) rows)
+    × (r ≡ prints (rows_text rows more))
+
+abbrev pub Shows : Shown → World → Reply → Type 0
+Shows (shown.View v) w r = ShowsView v w r
+Shows (shown.Query query limit) w r = ShowsRows query limit w r
 
 -- the disks read as before
-abbrev pub ShowsStill : View → Images → World → Images → Reply → Type 0
+abbrev pub ShowsStill : Shown → Images → World → Images → Reply → Type 0
 ShowsStill v before w after r = (after ≡ before) × Shows v w r

@@ -3,12 +3,13 @@
 ghost use Rattle.std.specs.Prelude.{◌≡◌, IfOk};
 ghost use Rattle.wc_graph.specs.Walks.{IsAcyclic};
 ghost use Rattle.wc_machine.specs.Created.{IsCreatedByInputs};
-ghost use Rattle.wc_act.specs.Views.{Shows, ShowsTree, Verifies, finds, node_reply};
+ghost use Rattle.wc_act.specs.Views.{Shows, ShowsRows, ShowsTree, ShowsView, Verifies, finds, node_reply};
 ghost use Rattle.wc_report.specs.Shows.{show_text};
 
 use std::alloc::{AllocError, Global};
 use wc_cli::View;
-use wc_plan::{Cause, Fault, Reply, Status, print, refuse};
+use wc_matches::{Query, answers, rows_text};
+use wc_plan::{Cause, Fault, Reply, Shown, Status, print, refuse};
 use wc_report::{
     cycle_text, graph_text, list_text, show_text, tree_lines, verified_text, wrong_value_text,
 };
@@ -90,9 +91,17 @@ fn verified(alloc: Global, world: &World) -> Result<Reply, AllocError>
     }
 }
 
+/// The rows that match a query, at most so many.
+fn rows_shown(alloc: Global, world: &World, query: &Query, limit: u32) -> Result<Reply, AllocError>
+    ensures { IfOk result (λ r. ShowsRows query.now limit world.now.world r) }
+{
+    let found = answers(alloc, world, query, limit)?;
+    Ok(print(rows_text(alloc, &found)?))
+}
+
 /// What a view replies.
-pub(crate) fn view_reply(alloc: Global, world: &World, view: View) -> Result<Reply, AllocError>
-    ensures { IfOk result (λ r. Shows view world.now.world r) }
+fn view_shown(alloc: Global, world: &World, view: View) -> Result<Reply, AllocError>
+    ensures { IfOk result (λ r. ShowsView view world.now.world r) }
 {
     match view {
         View::List => Ok(print(list_text(alloc, world)?)),
@@ -100,5 +109,15 @@ pub(crate) fn view_reply(alloc: Global, world: &World, view: View) -> Result<Rep
         View::Show { node } => node_shown(alloc, world, node),
         View::Graph => Ok(print(graph_text(alloc, world)?)),
         View::Verify => verified(alloc, world),
+    }
+}
+
+/// What of a world is shown.
+pub(crate) fn view_reply(alloc: Global, world: &World, shown: Shown) -> Result<Reply, AllocError>
+    ensures { IfOk result (λ r. Shows shown world.now.world r) }
+{
+    match shown {
+        Shown::View(view) => view_shown(alloc, world, view),
+        Shown::Query(query, limit) => rows_shown(alloc, world, &query, limit),
     }
 }

@@ -5,7 +5,7 @@ use Rattle.wc_cli.specs.declared.table.Bounds.{Bounds}
 use Rattle.wc_cli.specs.declared.table.Choice.{Choice as Taken}
 use Rattle.wc_cli.specs.declared.table.Choice.TheVariants as taken
 use Rattle.wc_cli.specs.declared.table.Form.{Form}
-use Rattle.wc_cli.specs.declared.table.Form.TheVariants.{Dry, Check, Submit, Run, Alone, Numbered, Drill}
+use Rattle.wc_cli.specs.declared.table.Form.TheVariants.{Dry, Check, Submit, Run, Alone, Numbered, Drill, Query}
 use Rattle.wc_cli.specs.declared.table.Lone.TheVariants.{Init, List as Processes, Graph, Verify, Pack}
 use Rattle.wc_cli.specs.declared.table.Numbered.TheVariants.{Tree, Show, Pause, Play, Kill}
 use Rattle.wc_cli.specs.declared.table.Entry.{Entry as Written}
@@ -28,6 +28,10 @@ turn_counts = record { least = 0; most = 1000000000 }
 abbrev pub chain_counts : Bounds
 chain_counts = record { least = 0; most = 10000 }
 
+-- how many rows a query may list
+abbrev pub row_counts : Bounds
+row_counts = record { least = 1; most = 1000000 }
+
 -- an option that takes a number: its name, the numbers that it takes, and the number where it isn't there
 pub record Amount : Type 0 where
   pub name : List ℕ
@@ -42,6 +46,9 @@ for_turns = record { name = codes "turns"; bounds = turn_counts; usual = 1000000
 
 abbrev pub for_seed : Amount
 for_seed = record { name = codes "seed"; bounds = seeds; usual = 0 }
+
+abbrev pub for_limit : Amount
+for_limit = record { name = codes "limit"; bounds = row_counts; usual = 10000 }
 
 -- the options that take a text
 abbrev pub for_inputs : List ℕ
@@ -74,7 +81,7 @@ abbrev entry : List ℕ → Form → List Choice → Entry
 entry word form options = record { word = word; form = form; options = options }
 
 -- The commands. `Dry` and `Submit` take `FILE NAME [PORT=VALUE]...`, `Check` takes `FILE`, `Run` and `Alone` take no operands,
--- `Numbered` takes one number within its bounds, and `Drill` two.
+-- `Numbered` takes one number within its bounds, `Drill` two, and `Query` any number of operands.
 unfoldable pub table : List Entry
 table =
     entry (codes "dry") Dry (text for_inputs ∷ text for_results ∷ number for_fuel ∷ [])
@@ -92,6 +99,7 @@ table =
     ∷ entry (codes "kill") (Numbered nodes Kill) []
     ∷ entry (codes "pack") (Alone Pack) []
     ∷ entry (codes "drill") (Drill seeds chain_counts) []
+    ∷ entry (codes "query") Query (number for_limit ∷ [])
     ∷ []
 
 -- ---- what the table says of a word

@@ -5,7 +5,7 @@ use Rattle.std.specs.List.{position_or_len, before_first, after_first, list_all,
 use Rattle.std.specs.Str.{bytes_eq}
 use Rattle.std.specs.Str.Parse.{digits_value}
 use Rattle.wc_cli.specs.declared.command.Command.{Command}
-use Rattle.wc_cli.specs.declared.command.Command.TheVariants.{Check, Dry, Init, Submit, Run, View, Pause, Play, Kill, Pack, Drill}
+use Rattle.wc_cli.specs.declared.command.Command.TheVariants.{Check, Dry, Init, Submit, Run, View, Pause, Play, Kill, Pack, Drill, Query}
 use Rattle.wc_cli.specs.declared.command.View.TheVariants as view
 use Rattle.wc_cli.specs.declared.table.Bounds.{Bounds}
 use Rattle.wc_cli.specs.declared.table.Form.{Form}
@@ -14,7 +14,7 @@ use Rattle.wc_cli.specs.declared.table.Lone.{Lone}
 use Rattle.wc_cli.specs.declared.table.Lone.TheVariants as lone
 use Rattle.wc_cli.specs.declared.table.Numbered.{Numbered}
 use Rattle.wc_cli.specs.declared.table.Numbered.TheVariants as numbered
-use Rattle.wc_cli.specs.Table.{Amount, for_inputs, for_results, for_settings, for_fuel, for_turns, for_seed, form_of, options_of}
+use Rattle.wc_cli.specs.Table.{Amount, for_inputs, for_results, for_settings, for_fuel, for_turns, for_seed, for_limit, form_of, options_of}
 
 -- ---- a word PORT=VALUE
 
@@ -176,6 +176,14 @@ abbrev pub drill_of : Bounds → Bounds → List (List ℕ) → Option Command
 drill_of seeds counts (seed ∷ count ∷ []) = drill_with (number_in seeds seed) (number_in counts count)
 drill_of seeds counts _ = None
 
+abbrev pub query_with : List (List ℕ) → Option ℕ → Option Command
+query_with words (Some limit) = Some (Query words limit)
+query_with words None = None
+
+-- any number of operands
+abbrev pub query_of : List (List ℕ) → Values → Option Command
+query_of words value = query_with words (amount_of for_limit value)
+
 -- a command that takes no operands
 abbrev pub alone : Command → List (List ℕ) → Option Command
 alone c [] = Some c
@@ -204,6 +212,7 @@ formed form.Run operands value = run_of operands value
 formed (form.Alone which) operands value = alone (lone_command which) operands
 formed (form.Numbered bounds which) operands value = option_map (with_number which) (one_number bounds operands)
 formed (form.Drill seeds counts) operands value = drill_of seeds counts operands
+formed form.Query operands value = query_of operands value
 
 -- ---- all words
 

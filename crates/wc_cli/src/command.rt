@@ -5,11 +5,12 @@ ghost use Rattle.std.specs.List.{list_all};
 ghost use Rattle.std.specs.Str.{is_utf8};
 ghost use Rattle.clap.specs.Words.{all_of, found_of, rows_of, subcommand_rows_of};
 ghost use Rattle.wc_cli.specs.Line.{operand_id, operands_in, values_in, command_met};
-ghost use Rattle.wc_cli.specs.Words.{cut_word, cut_all, digits_of, within, number_in, number_or, dry_of, check_of, submit_of, run_of, drill_of, one_number, alone, lone_command, with_number, formed, named_command, command_of};
+ghost use Rattle.wc_cli.specs.Words.{cut_word, cut_all, digits_of, within, number_in, number_or, dry_of, check_of, submit_of, run_of, drill_of, query_of, one_number, alone, lone_command, with_number, formed, named_command, command_of};
 
 use crate::line::{OPERAND, matches_of};
 use crate::table::{
-    Amount, Bounds, FUEL, Form, INPUTS, Lone, Numbered, RESULTS, SEED, SETTINGS, TURNS, form_of,
+    Amount, Bounds, FUEL, Form, INPUTS, LIMIT, Lone, Numbered, RESULTS, SEED, SETTINGS, TURNS,
+    form_of,
 };
 use clap::ArgMatches;
 use std::alloc::{AllocError, Global};
@@ -115,6 +116,13 @@ pub enum Command {
         seed: u32,
         /// How many chains.
         count: u32,
+    },
+    /// `query NODE [LINK NODE]... [--limit N]`: the rows of nodes that match.
+    Query {
+        /// The words of the query.
+        words: Words,
+        /// How many rows are listed at most.
+        limit: u32,
     },
 }
 
@@ -323,6 +331,19 @@ fn drill_command(seeds: Bounds, counts: Bounds, operands: &[Text]) -> Option<Com
     }
 }
 
+/// The command `query` with these operands and options.
+fn query_command(words: &Words, matches: &ArgMatches) -> Result<Option<Command>, AllocError>
+    ensures { IfOk result (λ c. c ≡ query_of words.now (values_in (rows_of (found_of matches.now)))) }
+{
+    match amount_of(LIMIT, matches) {
+        Some(limit) => Ok(Some(Command::Query {
+            words: words.copy()?,
+            limit,
+        })),
+        None => Ok(None),
+    }
+}
+
 /// The number that is the one operand.
 fn numbered(bounds: Bounds, operands: &[Text]) -> Option<u32>
     ensures { result ≡ one_number bounds operands.now }
@@ -394,6 +415,7 @@ fn formed(alloc: Global, form: Form, matches: &ArgMatches) -> Result<Option<Comm
         Form::Alone(which) => Ok(alone(lone_command(which), operands)),
         Form::Numbered(bounds, which) => Ok(numbered_command(bounds, which, operands)),
         Form::Drill(seeds, counts) => Ok(drill_command(seeds, counts, operands)),
+        Form::Query => query_command(&words, matches),
     }
 }
 

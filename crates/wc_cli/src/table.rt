@@ -80,6 +80,8 @@ pub enum Form {
     Numbered(Bounds, Numbered),
     /// `drill SEED N`: two numbers within these bounds.
     Drill(Bounds, Bounds),
+    /// `query NODE [LINK NODE]...`: any number of operands.
+    Query,
 }
 
 /// A command of the command line.
@@ -116,6 +118,12 @@ const CHAINS: Bounds = Bounds {
     most: 10_000,
 };
 
+/// How many rows a query may list.
+const ROW_COUNTS: Bounds = Bounds {
+    least: 1,
+    most: 1_000_000,
+};
+
 /// The option for a file with further inputs.
 pub const INPUTS: &str = "inputs";
 
@@ -146,8 +154,15 @@ pub const SEED: Amount = Amount {
     usual: 0,
 };
 
+/// The option for the rows that are listed at most.
+pub const LIMIT: Amount = Amount {
+    name: "limit",
+    bounds: ROW_COUNTS,
+    usual: 10_000,
+};
+
 /// The commands. The command line is built of this table, and the reader takes words and ranges of it.
-static COMMANDS: [Entry; 15] = [
+static COMMANDS: [Entry; 16] = [
     Entry {
         word: "dry",
         form: Form::Dry,
@@ -230,6 +245,11 @@ static COMMANDS: [Entry; 15] = [
         word: "drill",
         form: Form::Drill(SEEDS, CHAINS),
         options: &[],
+    },
+    Entry {
+        word: "query",
+        form: Form::Query,
+        options: &[Choice::Number(LIMIT)],
     },
 ];
 

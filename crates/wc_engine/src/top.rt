@@ -63,13 +63,13 @@ fn answer<R: Shelf, D: Disk, T: Transport, P: Pacer>(
 /// to the sink.
 ///
 /// What comes first of these is the status, where the shelf and the disks tell and neither memory runs out nor a file, a disk or
-/// the sink fails: the words are no command; the settings file isn't there or gives no settings; the file isn't there, isn't UTF-8, stands
-/// for no library, or its library breaks a rule; the library doesn't define the name; the file of inputs isn't there or
-/// gives none; for `dry`: the table file isn't there or has no table; a port is given badly, of
-/// which the least is named; for `dry`: the table has no result of a job, or the fuel doesn't suffice; for a command of a store: a disk
-/// is damaged; there is no store, or for `init` and `drill` there is one; there is no such process or node; it has
-/// ended; the store would be too full. Else the text of the command is written, also where `run` took as many turns as it may, or where each
-/// live process rests.
+/// the sink fails: the words are no command, or those behind `query` no query; the settings file isn't there or gives no settings;
+/// the file isn't there, isn't UTF-8, stands for no library, or its library breaks a rule; the library doesn't define the name; the
+/// file of inputs isn't there or gives none; for `dry`: the table file isn't there or has no table; a port is given badly, of which
+/// the least is named; for `dry`: the table has no result of a job, or the fuel doesn't suffice; for a command of a store: a disk
+/// is damaged; there is no store, or for `init` and `drill` there is one; there is no such process or node; it has ended; the store
+/// would be too full. Else the text of the command is written, also where `run` took as many turns as it may, or where each live
+/// process rests.
 pub fn serve<R: Shelf, W: Sink, D: Disk, T: Transport, P: Pacer>(
     alloc: Global,
     words: &Words,
@@ -110,8 +110,8 @@ pub fn serve<R: Shelf, W: Sink, D: Disk, T: Transport, P: Pacer>(
     // with Refused, Damaged or ReadFault; by events and `pack` that end with Full; nor by `init` and events that end with OutOfMemory. Then
     // each image at any moment of the call is one that a crash at entry might have left, and the disks read as before.
     ensures undone { LeaveUndone (R.contents shelf.old) words.now result → IsTrue (D.tells one.old) → IsTrue (D.tells two.old) → LeavesUnwritten D.Disk one.old two.old one.new two.new }
-    // The disks are as they were, and none of them failed, for words that plan no deed: `check`, `dry`, words that are no command, and a `submit` or
-    // `run` that is refused for its words or its files, where the shelf tells its contents.
+    // The disks are as they were, and none of them failed, for words that plan no deed: `check`, `dry`, words that are no command, and a `submit`,
+    // `run` or `query` that is refused for its words or its files, where the shelf tells its contents.
     ensures files { AskNoDisk (R.contents shelf.old) words.now → (one.new ≡ one.old) × (two.new ≡ two.old) × (result ≡ Status.DiskFault → ⊥) }
     // They also are where the cause of a refusal is none of a deed's, whether the shelf tells its contents or not.
     ensures early { (c : ACause) → result ≡ Status.Refused c → IsNoDeeds (R.contents shelf.old) words.now c → (one.new ≡ one.old) × (two.new ≡ two.old) }

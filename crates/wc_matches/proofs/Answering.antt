@@ -1,18 +1,18 @@
 -- The sets of a query, and its rows level by level.
-use Rattle.std.proofs.Common.{◌≡◌, ℕ, suc, ◌+◌, ◌<◌, ◌≤◌, Bool, true, false, List, [], ◌∷◌, ◌++◌, length, min, get_or, ◌&&◌, ⊎_elim, sym, ap, ◌∙◌, subst, arith, ◌↔◌}
+use Rattle.std.proofs.Common.{◌≡◌, ℕ, suc, ◌+◌, ◌<◌, ◌≤◌, Bool, true, false, List, [], ◌∷◌, ◌++◌, length, min, get_or, ◌&&◌, ◌⊎◌, ⊎_elim, sym, ap, ◌∙◌, subst, arith, ◌↔◌}
 use Rattle.std.specs.Prelude.{take, drop, nat_lt, replicate}
 use Rattle.std.proofs.lemmas.Bool.{cases_lt}
 use Rattle.std.proofs.lemmas.List.{drop_more, drop_all, take_more, take_all, take-append-le, length-take, same_from_push, length_push, get_or_append_left, get_or_push, get_or_past, get_or-replicate, length-replicate}
-use Rattle.wc_fits.specs.World.{World}
+use Rattle.wc_world.specs.World.{World}
 use Rattle.wc_query.specs.declared.query.LinkTest.{LinkTest}
 use Rattle.wc_query.specs.declared.query.NodeTest.{NodeTest}
 use Rattle.wc_query.specs.declared.query.Query.{Query}
 use Rattle.wc_matches.specs.First.{AreFirst, HasMore}
 use Rattle.wc_matches.specs.Found.{AreBlank}
-use Rattle.wc_matches.specs.Levels.{IsBegun, GoOnTo}
+use Rattle.wc_matches.specs.Levels.{IsBegun, GoOnTo, joined}
 use Rattle.wc_matches.specs.Matches.{IsMatch}
 use Rattle.wc_matches.specs.Sets.{LeadsInto, AreWithin, IsSet, AreSets, LeadsToMarked}
-use Rattle.wc_matches.proofs.Begun.{one_level, last_level}
+use Rattle.wc_matches.proofs.Begun.{some_level, last_level}
 use Rattle.wc_matches.proofs.Cutting.{first_less, more_is}
 use Rattle.wc_matches.proofs.Placing.{each_goes_to, within_is}
 
@@ -59,9 +59,13 @@ begun_more w q i most join set rows out lt is s f on =
     let done : take i q.more ++ join ∷ [] ≡ take (i + 1) q.more = ap (λ (j : LinkTest × NodeTest). take i q.more ++ j ∷ []) is ∙ sym (take_more q.more i join lt) in
     let first : AreFirst (IsBegun w q.first (take i q.more) (join ∷ left)) most rows
     = subst (λ (js : Joins). AreFirst (IsBegun w q.first (take i q.more) js) most rows) here f in
-    let next = one_level w q (take i q.more) left join most rows on.0 first (each_goes_to w join left set most rows on.0 s on.1) in
+    let k : ℕ = on.0 in
+    let each : List (List (List ℕ)) = on.1.0 in
+    let same : out ≡ joined most each = on.1.2 in
+    let enough : (length rows ≤ k) ⊎ (length (joined most each) ≡ most) = subst (λ (xs : List (List ℕ)). (length rows ≤ k) ⊎ (length xs ≡ most)) same on.2 in
+    let next = some_level w q (take i q.more) left join most k rows each first (each_goes_to w join left set most (take k rows) each s on.1.1) enough in
     subst (λ (js : Joins). AreFirst (IsBegun w q.first js left) most out) done
-    (subst (λ (xs : List (List ℕ)). AreFirst (IsBegun w q.first (take i q.more ++ join ∷ []) left) most xs) (sym on.2) next)
+    (subst (λ (xs : List (List ℕ)). AreFirst (IsBegun w q.first (take i q.more ++ join ∷ []) left) most xs) (sym same) next)
 
 pub all_begun : (w : World) (q : Query) (i most : ℕ) (rows : List (List ℕ)) → length q.more ≤ i → AreFirst (IsBegun w q.first (take i q.more) (drop i q.more)) most rows
     → AreFirst (IsBegun w q.first q.more []) most rows

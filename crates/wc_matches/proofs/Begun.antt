@@ -1,7 +1,7 @@
 -- Rows that begin a match grow by one node.
-use Rattle.std.proofs.Common.{◌≡◌, ℕ, List, [], ◌∷◌, ◌++◌, true, refl, sym, ap, subst}
+use Rattle.std.proofs.Common.{◌≡◌, ◌⊎◌, ◌≤◌, ℕ, List, [], ◌∷◌, ◌++◌, length, take, true, refl, sym, ap, subst}
 use Rattle.std.specs.List.{AllByRecursion}
-use Rattle.wc_fits.specs.World.{World}
+use Rattle.wc_world.specs.World.{World}
 use Rattle.wc_query.specs.declared.query.LinkTest.{LinkTest}
 use Rattle.wc_query.specs.declared.query.NodeTest.{NodeTest}
 use Rattle.wc_query.specs.declared.query.Query.{Query}
@@ -10,7 +10,7 @@ use Rattle.wc_matches.specs.Levels.{AreEach, joined, GoesOnFrom, GoesOn, Begins,
 use Rattle.wc_matches.specs.Joins.{IsJoined}
 use Rattle.wc_matches.specs.Matches.{Follows, IsMatch}
 use Rattle.wc_matches.specs.Meets.{meets}
-use Rattle.wc_matches.proofs.Levels.{level}
+use Rattle.wc_matches.proofs.Levels.{level, level_some}
 
 abbrev Joins : Type 0
 Joins = List (LinkTest × NodeTest)
@@ -95,6 +95,14 @@ one_level w q done left join most rows each f e =
     first_same (GoesOnFrom (IsBegun w q.first done (join ∷ left)) (GoesTo w join left)) (IsBegun w q.first (done ++ join ∷ []) left) most (joined most each)
     (from_begun w q.first done left join) (to_begun w q.first done left join)
     (level (IsBegun w q.first done (join ∷ left)) (GoesTo w join left) most rows each f (goes_on w q.first done left join) e)
+
+pub some_level : (w : World) (q : Query) (done left : Joins) (join : LinkTest × NodeTest) (most k : ℕ) (rows : List (List ℕ)) (each : List (List (List ℕ)))
+    → AreFirst (IsBegun w q.first done (join ∷ left)) most rows → AreEach (GoesTo w join left) most (take k rows) each → (length rows ≤ k) ⊎ (length (joined most each) ≡ most)
+    → AreFirst (IsBegun w q.first (done ++ join ∷ []) left) most (joined most each)
+some_level w q done left join most k rows each f e enough =
+    first_same (GoesOnFrom (IsBegun w q.first done (join ∷ left)) (GoesTo w join left)) (IsBegun w q.first (done ++ join ∷ []) left) most (joined most each)
+    (from_begun w q.first done left join) (to_begun w q.first done left join)
+    (level_some (IsBegun w q.first done (join ∷ left)) (GoesTo w join left) most k rows each f (goes_on w q.first done left join) e enough)
 
 -- ---- the last level
 

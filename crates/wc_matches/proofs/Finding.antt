@@ -10,7 +10,7 @@ use Rattle.wc_graph.specs.Walks.{Walks, Reaches}
 use Rattle.wc_graph.specs.declared.link.Link.{Link}
 use Rattle.wc_graph.specs.declared.link.LinkType.{LinkType}
 use Rattle.wc_graph.proofs.JoinedWalks.{reaches_step, reaches_then, reaches_after}
-use Rattle.wc_matches.specs.Joins.{Steps, IsJoinedBy}
+use Rattle.wc_matches.specs.Joins.{OpenSteps, IsJoinedPast}
 use Rattle.wc_matches.specs.Found.{has, Finds, start_of, end_of, LeadsFrom, LeadsBehind, FromSome, IsClosed}
 
 -- ---- numbers of a list
@@ -69,65 +69,65 @@ finds_as P Q marks after before found f to from = record {
 
 -- ---- down the links of a node
 
-module _ (forward : Bool) (types : List LinkType) (links : List Link) (node : ℕ) where
+module _ (forward : Bool) (types : List LinkType) (barred : List Bool) (links : List Link) (node : ℕ) where
   -- the link in front of those behind, and what is skipped
   module _ (at next : ℕ) (l : Link) (some : 0 < at) (read : slice_get links (at - 1) ≡ Some l) (s : Skips (start_of forward) links node (at - 1) next) where
-    pub behind_still : (m : ℕ) → LeadsBehind forward types links node at m → LeadsBehind forward types links node next m
+    pub behind_still : (m : ℕ) → LeadsBehind forward types barred links node at m → LeadsBehind forward types barred links node next m
     behind_still m h = (h.0, h.1, h.2, omega (arith, s.within, h.3), h.4, h.5)
 
-    pub behind_here : LeadsFrom forward types node l → (m : ℕ) → m ≡ end_of forward l → LeadsBehind forward types links node next m
+    pub behind_here : LeadsFrom forward types barred node l → (m : ℕ) → m ≡ end_of forward l → LeadsBehind forward types barred links node next m
     behind_here leads m e = (at - 1, l, read, s.within, leads, sym e)
 
     same_link : (k : ℕ) (x : Link) → slice_get links k ≡ Some x → k ≡ at - 1 → x ≡ l
     same_link k x here e = let there : slice_get links k ≡ Some l = ap (slice_get links) e ∙ read in cc
 
-    pub behind_split : (m : ℕ) → LeadsBehind forward types links node next m → LeadsBehind forward types links node at m ⊎ (LeadsFrom forward types node l × (m ≡ end_of forward l))
+    pub behind_split : (m : ℕ) → LeadsBehind forward types barred links node next m → LeadsBehind forward types barred links node at m ⊎ (LeadsFrom forward types barred node l × (m ≡ end_of forward l))
     behind_split m h = ⊎_elim
         (λ (same : h.0 ≡ at - 1).
         let e : h.1 ≡ l = same_link h.0 h.1 h.2 same in
-        inr (subst (λ (x : Link). LeadsFrom forward types node x) e h.4, sym h.5 ∙ ap (end_of forward) e))
+        inr (subst (λ (x : Link). LeadsFrom forward types barred node x) e h.4, sym h.5 ∙ ap (end_of forward) e))
         (λ apart. ⊎_elim
         (λ (below : h.0 < at - 1). absurd (s.others h.0 h.1 h.2 h.3 below h.4.1))
         (λ (above : at - 1 < h.0). inl (h.0, h.1, h.2, omega (arith, above), h.4, h.5)) apart)
         (cases_order h.0 (at - 1))
 
 -- a link anywhere
-pub steps_behind : (forward : Bool) (types : List LinkType) (links : List Link) (node at m : ℕ) → at ≡ 0 → Steps forward types links node m
-    → LeadsBehind forward types links node at m
-steps_behind true types links node at m none (k, l, lt, is, (c, from, to)) =
-    (k, l, slice_get-get_or links k l lt ∙ ap (λ (x : Link). Some x) is, omega (arith, none), (c, from), to)
-steps_behind false types links node at m none (k, l, lt, is, (c, from, to)) =
-    (k, l, slice_get-get_or links k l lt ∙ ap (λ (x : Link). Some x) is, omega (arith, none), (c, to), from)
+pub steps_behind : (forward : Bool) (types : List LinkType) (barred : List Bool) (links : List Link) (node at m : ℕ) → at ≡ 0 → OpenSteps forward types barred links node m
+    → LeadsBehind forward types barred links node at m
+steps_behind true types barred links node at m none ((k, l, lt, is, (c, from, to)), free) =
+    (k, l, slice_get-get_or links k l lt ∙ ap (λ (x : Link). Some x) is, omega (arith, none), (c, from, ap (λ (x : ℕ). get_or barred x false) to ∙ free), to)
+steps_behind false types barred links node at m none ((k, l, lt, is, (c, from, to)), free) =
+    (k, l, slice_get-get_or links k l lt ∙ ap (λ (x : Link). Some x) is, omega (arith, none), (c, to, ap (λ (x : ℕ). get_or barred x false) from ∙ free), from)
 
-pub behind_steps : (forward : Bool) (types : List LinkType) (links : List Link) (node at m : ℕ) → LeadsBehind forward types links node at m
-    → Steps forward types links node m
-behind_steps true types links node at m (k, l, is, le, leads, e) =
-    (k, l, slice_get_within links k l is, get_or_from_slice_get links k l l is, (leads.0, leads.1, e))
-behind_steps false types links node at m (k, l, is, le, leads, e) =
-    (k, l, slice_get_within links k l is, get_or_from_slice_get links k l l is, (leads.0, e, leads.1))
+pub behind_steps : (forward : Bool) (types : List LinkType) (barred : List Bool) (links : List Link) (node at m : ℕ) → LeadsBehind forward types barred links node at m
+    → OpenSteps forward types barred links node m
+behind_steps true types barred links node at m (k, l, is, le, leads, e) =
+    ((k, l, slice_get_within links k l is, get_or_from_slice_get links k l l is, (leads.0, leads.1, e)), ap (λ (x : ℕ). get_or barred x false) (sym e) ∙ leads.2)
+behind_steps false types barred links node at m (k, l, is, le, leads, e) =
+    ((k, l, slice_get_within links k l is, get_or_from_slice_get links k l l is, (leads.0, e, leads.1)), ap (λ (x : ℕ). get_or barred x false) (sym e) ∙ leads.2)
 
 -- one link further
-pub spread_on : (forward : Bool) (types : List LinkType) (links : List Link) (node at next : ℕ) (l : Link) (marks middle after : List Bool) (before between found : List ℕ) (e : ℕ)
+pub spread_on : (forward : Bool) (types : List LinkType) (barred : List Bool) (links : List Link) (node at next : ℕ) (l : Link) (marks middle after : List Bool) (before between found : List ℕ) (e : ℕ)
     → 0 < at → slice_get links (at - 1) ≡ Some l → Skips (start_of forward) links node (at - 1) next
-    → Finds (LeadsBehind forward types links node at) marks middle before between → LeadsFrom forward types node l → e ≡ end_of forward l
-    → Finds (λ m. m ≡ e) middle after between found → Finds (LeadsBehind forward types links node next) marks after before found
-spread_on forward types links node at next l marks middle after before between found e some read s f leads is g =
-    finds_then (LeadsBehind forward types links node at) (λ m. m ≡ e) (LeadsBehind forward types links node next) marks middle after before between found f g
-    (λ m h. ⊎_elim (λ (a : LeadsBehind forward types links node at m). inl a) (λ (b : LeadsFrom forward types node l × (m ≡ end_of forward l)). inr (b.1 ∙ sym is))
-    (behind_split forward types links node at next l some read s m h))
-    (behind_still forward types links node at next l some read s)
-    (λ m h. behind_here forward types links node at next l some read s leads m (h ∙ is))
+    → Finds (LeadsBehind forward types barred links node at) marks middle before between → LeadsFrom forward types barred node l → e ≡ end_of forward l
+    → Finds (λ m. m ≡ e) middle after between found → Finds (LeadsBehind forward types barred links node next) marks after before found
+spread_on forward types barred links node at next l marks middle after before between found e some read s f leads is g =
+    finds_then (LeadsBehind forward types barred links node at) (λ m. m ≡ e) (LeadsBehind forward types barred links node next) marks middle after before between found f g
+    (λ m h. ⊎_elim (λ (a : LeadsBehind forward types barred links node at m). inl a) (λ (b : LeadsFrom forward types barred node l × (m ≡ end_of forward l)). inr (b.1 ∙ sym is))
+    (behind_split forward types barred links node at next l some read s m h))
+    (behind_still forward types barred links node at next l some read s)
+    (λ m h. behind_here forward types barred links node at next l some read s leads m (h ∙ is))
 
 -- a link that leads elsewhere
-pub spread_past : (forward : Bool) (types : List LinkType) (links : List Link) (node at next : ℕ) (l : Link) (marks after : List Bool) (before found : List ℕ)
+pub spread_past : (forward : Bool) (types : List LinkType) (barred : List Bool) (links : List Link) (node at next : ℕ) (l : Link) (marks after : List Bool) (before found : List ℕ)
     → 0 < at → slice_get links (at - 1) ≡ Some l → Skips (start_of forward) links node (at - 1) next
-    → Finds (LeadsBehind forward types links node at) marks after before found → (LeadsFrom forward types node l → ⊥)
-    → Finds (LeadsBehind forward types links node next) marks after before found
-spread_past forward types links node at next l marks after before found some read s f never =
-    finds_as (LeadsBehind forward types links node at) (LeadsBehind forward types links node next) marks after before found f
-    (λ m h. ⊎_elim (λ (a : LeadsBehind forward types links node at m). a) (λ (b : LeadsFrom forward types node l × (m ≡ end_of forward l)). absurd (never b.0))
-    (behind_split forward types links node at next l some read s m h))
-    (behind_still forward types links node at next l some read s)
+    → Finds (LeadsBehind forward types barred links node at) marks after before found → (LeadsFrom forward types barred node l → ⊥)
+    → Finds (LeadsBehind forward types barred links node next) marks after before found
+spread_past forward types barred links node at next l marks after before found some read s f never =
+    finds_as (LeadsBehind forward types barred links node at) (LeadsBehind forward types barred links node next) marks after before found f
+    (λ m h. ⊎_elim (λ (a : LeadsBehind forward types barred links node at m). a) (λ (b : LeadsFrom forward types barred node l × (m ≡ end_of forward l)). absurd (never b.0))
+    (behind_split forward types barred links node at next l some read s m h))
+    (behind_still forward types barred links node at next l some read s)
 
 pub finds_is : (P : ℕ → Type 0) (marks after after' : List Bool) (before found found' : List ℕ) → after' ≡ after → found' ≡ found → Finds P marks after before found
     → Finds P marks after' before found'
@@ -212,16 +212,16 @@ module _ (step : ℕ → ℕ → Type 0) (froms : List ℕ) (marks after : List 
     λ s. by_walk s.0 m s.1 s.2.0 s.2.1,
   )
 
-pub joined_by_links : (walk forward : Bool) (types : List LinkType) (links : List Link) (froms : List ℕ) (marks after : List Bool) (none found : List ℕ) → walk ≡ false → none ≡ []
-    → Finds (FromSome (Steps forward types links) froms) marks after none found → (m : ℕ) → (has found m ≡ true) ↔ FromSome (IsJoinedBy walk forward types links) froms m
-joined_by_links true forward types links froms marks after none found w e f m = absurd (true≢false w)
-joined_by_links false forward types links froms marks after none found w e f m = links_only (Steps forward types links) froms marks after none found e f m
+pub joined_by_links : (walk forward : Bool) (types : List LinkType) (barred : List Bool) (links : List Link) (froms : List ℕ) (marks after : List Bool) (none found : List ℕ) → walk ≡ false → none ≡ []
+    → Finds (FromSome (OpenSteps forward types barred links) froms) marks after none found → (m : ℕ) → (has found m ≡ true) ↔ FromSome (IsJoinedPast walk forward types barred links) froms m
+joined_by_links true forward types barred links froms marks after none found w e f m = absurd (true≢false w)
+joined_by_links false forward types barred links froms marks after none found w e f m = links_only (OpenSteps forward types barred links) froms marks after none found e f m
 
-pub joined_by_walks : (walk forward : Bool) (types : List LinkType) (links : List Link) (froms : List ℕ) (marks after : List Bool) (none first found : List ℕ) → walk ≡ true → none ≡ []
-    → Finds (FromSome (Steps forward types links) froms) marks after none first → IsClosed (Steps forward types links) first found (length found)
-    → (m : ℕ) → (has found m ≡ true) ↔ FromSome (IsJoinedBy walk forward types links) froms m
-joined_by_walks true forward types links froms marks after none first found w e f c m = walks_too (Steps forward types links) froms marks after none first found e f c m
-joined_by_walks false forward types links froms marks after none first found w e f c m = absurd (true≢false (sym w))
+pub joined_by_walks : (walk forward : Bool) (types : List LinkType) (barred : List Bool) (links : List Link) (froms : List ℕ) (marks after : List Bool) (none first found : List ℕ) → walk ≡ true → none ≡ []
+    → Finds (FromSome (OpenSteps forward types barred links) froms) marks after none first → IsClosed (OpenSteps forward types barred links) first found (length found)
+    → (m : ℕ) → (has found m ≡ true) ↔ FromSome (IsJoinedPast walk forward types barred links) froms m
+joined_by_walks true forward types barred links froms marks after none first found w e f c m = walks_too (OpenSteps forward types barred links) froms marks after none first found e f c m
+joined_by_walks false forward types barred links froms marks after none first found w e f c m = absurd (true≢false (sym w))
 
 -- ---- taking marks back
 

@@ -6,7 +6,7 @@ use Rattle.std.proofs.lemmas.Bool.{or_cases, or_left, or_right, eqb-true}
 use Rattle.std.proofs.lemmas.List.{append-nil, append_assoc, take-take, take_at, take_all, take_more, drop_more, drop_all}
 use Rattle.wc_matches.specs.First.{ComesBefore, Ascend, IsAmong, AreFirst}
 use Rattle.wc_matches.specs.Found.{has}
-use Rattle.wc_matches.specs.Levels.{Goes, AreEach, joined, GoOnTo}
+use Rattle.wc_matches.specs.Levels.{Goes, AreEach, joined, AllGoOnTo, GoOnTo}
 use Rattle.wc_graph.specs.declared.link.Link.{Link}
 use Rattle.wc_query.specs.declared.query.LinkTest.{LinkTest}
 use Rattle.wc_matches.specs.Joins.{IsJoined}
@@ -103,11 +103,11 @@ each_push R n [] (e ∷ es) row firsts h f = absurd h
 each_push R n (r ∷ rs) [] row firsts h f = absurd h
 each_push R n (r ∷ rs) (e ∷ es) row firsts h f = (h.0, each_push R n rs es row firsts h.1 f)
 
-pub on_none : (R : List ℕ → ℕ → Type 0) (most : ℕ) → GoOnTo R most [] []
+pub on_none : (R : List ℕ → ℕ → Type 0) (most : ℕ) → AllGoOnTo R most [] []
 on_none R most = ([], tt, refl)
 
-pub on_more : (R : List ℕ → ℕ → Type 0) (most : ℕ) (rows out out' : List (List ℕ)) (row ns : List ℕ) → GoOnTo R most rows out → AreNumbers (R row) ns
-    → out' ≡ take most (out ++ with_each row ns) → GoOnTo R most (rows ++ row ∷ []) out'
+pub on_more : (R : List ℕ → ℕ → Type 0) (most : ℕ) (rows out out' : List (List ℕ)) (row ns : List ℕ) → AllGoOnTo R most rows out → AreNumbers (R row) ns
+    → out' ≡ take most (out ++ with_each row ns) → AllGoOnTo R most (rows ++ row ∷ []) out'
 on_more R most rows out out' row ns g h is =
     let firsts : List (List ℕ) = take most (with_each row ns) in (
       g.0 ++ firsts ∷ [],
@@ -118,20 +118,25 @@ on_more R most rows out out' row ns g h is =
     )
 
 pub on_next : (R : List ℕ → ℕ → Type 0) (most : ℕ) (rows out more : List (List ℕ)) (i : ℕ) (row ns : List ℕ) → i < length rows → row ≡ get_or rows i row
-    → GoOnTo R most (take i rows) out → AreNumbers (R row) ns → more ≡ take most (out ++ with_each row ns) → GoOnTo R most (take (i + 1) rows) more
+    → AllGoOnTo R most (take i rows) out → AreNumbers (R row) ns → more ≡ take most (out ++ with_each row ns) → AllGoOnTo R most (take (i + 1) rows) more
 on_next R most rows out more i row ns lt is g h e =
-    subst (λ (xs : List (List ℕ)). GoOnTo R most xs more) (ap (λ (r : List ℕ). take i rows ++ r ∷ []) is ∙ sym (take_more rows i row lt))
+    subst (λ (xs : List (List ℕ)). AllGoOnTo R most xs more) (ap (λ (r : List ℕ). take i rows ++ r ∷ []) is ∙ sym (take_more rows i row lt))
     (on_more R most (take i rows) out more row ns g h e)
 
-pub on_all : (R : List ℕ → ℕ → Type 0) (most : ℕ) (rows out : List (List ℕ)) (i : ℕ) → length rows ≤ i → GoOnTo R most (take i rows) out → GoOnTo R most rows out
-on_all R most rows out i all g = subst (λ (xs : List (List ℕ)). GoOnTo R most xs out) (take_all i rows all) g
+pub on_all : (R : List ℕ → ℕ → Type 0) (most : ℕ) (rows out : List (List ℕ)) (i : ℕ) → length rows ≤ i → AllGoOnTo R most (take i rows) out → GoOnTo R most rows out
+on_all R most rows out i all g = (i, g, inl all)
 
-pub few_on : (R : List ℕ → ℕ → Type 0) (most : ℕ) (rows out : List (List ℕ)) → GoOnTo R most rows out → length out ≤ most
+pub few_on : (R : List ℕ → ℕ → Type 0) (most : ℕ) (rows out : List (List ℕ)) → AllGoOnTo R most rows out → length out ≤ most
 few_on R most rows out ([], h, is) = let e : length out ≡ 0 = ap length is in omega (arith, e)
 few_on R most rows out (f ∷ fs, h, is) =
     let e : length out ≡ length (take most (f ++ joined most fs)) = ap length is in
     let few : length (take most (f ++ joined most fs)) ≤ most = few_taken most (f ++ joined most fs) in
     omega (arith, e, few)
+
+pub on_full : (R : List ℕ → ℕ → Type 0) (most : ℕ) (rows out : List (List ℕ)) (i : ℕ) → most ≤ length out → AllGoOnTo R most (take i rows) out → GoOnTo R most rows out
+on_full R most rows out i full g =
+    let few : length out ≤ most = few_on R most (take i rows) out g in
+    (i, g, inr (omega (arith, full, few)))
 
 -- ---- what a row goes on to by its last number
 

@@ -1,10 +1,11 @@
 -- One level of rows: the first so many, each with what it goes on to, give the first so many of the longer rows.
-use Rattle.std.proofs.Common.{◌≡◌, inl, inr, ⊎_elim, ◌≤◌, ◌+◌, ℕ, zero, suc, min, List, [], ◌∷◌, ◌++◌, length, refl, sym, subst, arith, length-append}
+use Rattle.std.proofs.Common.{◌≡◌, inl, inr, ⊎_elim, ◌≤◌, ◌+◌, ℕ, zero, suc, min, List, [], ◌∷◌, ◌++◌, length, refl, sym, subst, ◌⊎◌, arith, length-append}
 use Rattle.std.specs.Prelude.{take}
 use Rattle.std.specs.List.{AllByRecursion}
+use Rattle.std.proofs.lemmas.List.{take_all}
 use Rattle.wc_matches.specs.First.{ComesBefore, Ascend, IsAmong, AreFirst}
 use Rattle.wc_matches.specs.Levels.{Goes, SomeGoes, AreEach, joined, GoesOnFrom}
-use Rattle.wc_matches.proofs.Firsts.{first_of_both}
+use Rattle.wc_matches.proofs.Firsts.{first_of_both, all_taken, ascend_taken, taken_or_behind}
 
 -- longer rows keep the order of their beginnings
 pub longer_before : (r s a b : List ℕ) → ComesBefore r s → ComesBefore (r ++ a) (s ++ b)
@@ -96,3 +97,31 @@ level P R n rows each f on e =
           ))
           (f.others g.0 g.1);
     }
+
+-- where as many are there as may be, the rows behind add none
+level_full : (P : List ℕ → Type 0) (R : List ℕ → ℕ → Type 0) (n k : ℕ) (rows : List (List ℕ)) (each : List (List (List ℕ)))
+    → AreFirst P n rows → AreEach R n (take k rows) each → length (joined n each) ≡ n → AreFirst (GoesOnFrom P R) n (joined n each)
+level_full P R n k rows each f e full =
+    let front : List (List ℕ) = take k rows in
+    let here : AreFirst (SomeGoes R front) n (joined n each) = first_joined R n front each (ascend_taken k rows f.ascend) e in
+    record {
+      ascend = here.ascend;
+      each = all_map (SomeGoes R front) (GoesOnFrom P R) (joined n each) (λ longer g. from_some P R front longer (all_taken P k rows f.each) g) here.each;
+      few = here.few;
+      others = λ longer g.
+          let last : AllByRecursion (λ r. ComesBefore r g.0) front → (length (joined n each) ≡ n) × AllByRecursion (λ r. ComesBefore r longer) (joined n each)
+          = λ h. (full, all_map (SomeGoes R front) (λ r. ComesBefore r longer) (joined n each) (λ x s. all_in_front R g.0 longer front h g.2 x s) here.each) in
+          ⊎_elim
+          (λ (among : IsAmong rows g.0). ⊎_elim
+          (λ (taken : IsAmong front g.0). here.others longer (among_goes R front g.0 longer taken g.2))
+          (λ later. inr (last later.1))
+          (taken_or_behind k rows g.0 f.ascend among))
+          (λ all. inr (last (all_taken (λ r. ComesBefore r g.0) k rows all.1)))
+          (f.others g.0 g.1);
+    }
+
+pub level_some : (P : List ℕ → Type 0) (R : List ℕ → ℕ → Type 0) (n k : ℕ) (rows : List (List ℕ)) (each : List (List (List ℕ)))
+    → AreFirst P n rows → ((row : List ℕ) → P row → (m : ℕ) × R row m) → AreEach R n (take k rows) each → (length rows ≤ k) ⊎ (length (joined n each) ≡ n)
+    → AreFirst (GoesOnFrom P R) n (joined n each)
+level_some P R n k rows each f on e (inl all) = level P R n rows each f on (subst (λ (xs : List (List ℕ)). AreEach R n xs each) (take_all k rows all) e)
+level_some P R n k rows each f on e (inr full) = level_full P R n k rows each f e full

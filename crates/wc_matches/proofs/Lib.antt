@@ -9,3 +9,4 @@ pub mod Placing
 pub mod Answering
 pub mod Rows
 pub mod Names
+pub mod Ends

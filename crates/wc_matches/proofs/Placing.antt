@@ -1,24 +1,25 @@
 -- The sets of nodes that may stand at each place of a row.
-use Rattle.std.proofs.Common.{◌≡◌, ⊎_elim, ℕ, zero, suc, ◌+◌, ◌<◌, ◌≤◌, ◌&&◌, Bool, true, false, not, List, [], ◌∷◌, length, get_or, Option, refl, sym, ap, ◌∙◌, subst, arith, ◌↔◌}
+use Rattle.std.proofs.Common.{◌≡◌, ◌⊎◌, inl, inr, ⊎_elim, ℕ, zero, suc, ◌+◌, ◌<◌, ◌≤◌, ◌==◌, ◌&&◌, Bool, true, false, not, List, [], ◌∷◌, length, get_or, Option, refl, sym, ap, ◌∙◌, subst, arith, ◌↔◌, eq-eqb}
 use Rattle.std.specs.List.{list_all}
 use Rattle.std.specs.Option.{option_map_or}
-use Rattle.std.proofs.lemmas.Bool.{and_parts, and_from, cases_lt, true≢false}
+use Rattle.std.proofs.lemmas.Bool.{and_parts, and_from, or_cases, or_left, eqb-true, cases_lt, true≢false}
 use Rattle.std.proofs.lemmas.Option.{slice_get_past}
-use Rattle.wc_fits.specs.World.{World}
+use Rattle.wc_world.specs.World.{World}
 use Rattle.wc_graph.specs.Rules.{node_of}
+use Rattle.wc_graph.specs.Walks.{Walks, Reaches}
 use Rattle.wc_graph.specs.declared.link.Link.{Link}
 use Rattle.wc_graph.specs.declared.link.LinkType.{LinkType}
 use Rattle.wc_graph.specs.declared.node.NodeKind.{NodeKind}
-use Rattle.wc_graph.proofs.JoinedWalks.{reaches_back}
+use Rattle.wc_graph.proofs.JoinedWalks.{reaches_as, reaches_back}
 use Rattle.wc_query.specs.declared.query.LinkTest.{LinkTest}
 use Rattle.wc_query.specs.declared.query.NodeTest.{NodeTest}
 use Rattle.wc_matches.specs.First.{AreFirst}
 use Rattle.wc_matches.specs.Found.{has, AreMarked, FromSome}
-use Rattle.wc_matches.specs.Joins.{Steps, IsJoinedBy}
+use Rattle.wc_matches.specs.Joins.{Steps, OpenSteps, IsJoined, IsJoinedBy, IsJoinedPast}
 use Rattle.wc_matches.specs.Levels.{Goes, AreEach, IsBegun, GoesTo}
 use Rattle.wc_matches.specs.Meets.{meets, is_of_kind, passes}
-use Rattle.wc_matches.specs.Numbers.{AreNumbers}
-use Rattle.wc_matches.specs.Sets.{LeadsToMarked, LeadsInto, AreWithin, IsSet}
+use Rattle.wc_matches.specs.Numbers.{Ascends, AreNumbers}
+use Rattle.wc_matches.specs.Sets.{LeadsToMarked, LeadsToSome, LeadsInto, AreOpen, AreWithin, IsSet}
 use Rattle.wc_matches.proofs.Begun.{next_of, first_same}
 
 abbrev Joins : Type 0
@@ -38,14 +39,71 @@ turned false false types links n m h = h
 turned true true types links n m h = reaches_back (Steps true types links) (Steps false types links) (λ x y s. s) n m h
 turned true false types links n m h = reaches_back (Steps false types links) (Steps true types links) (λ x y s. s) n m h
 
--- what is joined the other way with the marked nodes leads to them
-pub leads_where : (links : List Link) (join : LinkTest) (set marks : List Bool) (ends found : List ℕ) → AreNumbers (λ m. get_or set m false ≡ true) ends
-    → ((n : ℕ) → (has found n ≡ true) ↔ FromSome (IsJoinedBy join.walk (not join.forward) join.types links) ends n) → AreMarked marks found
-    → (n : ℕ) → (get_or marks n false ≡ true) ↔ LeadsToMarked links join set n
-leads_where links join set marks ends found numbers joined marked n = (
-  λ h. let s = (joined n).0 (sym (marked n) ∙ h) in (s.0, back join.walk join.forward join.types links n s.0 s.2, (numbers.each s.0).0 s.1),
-  λ h. marked n ∙ (joined n).1 (h.0, (numbers.each h.0).1 h.2, turned join.walk join.forward join.types links n h.0 h.1),
+-- where nothing is barred, these are all joins
+all_open : (walk forward : Bool) (types : List LinkType) (links : List Link) (n m : ℕ) → IsJoinedPast walk forward types [] links n m → IsJoinedBy walk forward types links n m
+all_open false forward types links n m h = h.0
+all_open true forward types links n m h = reaches_as (OpenSteps forward types [] links) (Steps forward types links) (λ x y s. s.0) n m h
+
+none_barred : (walk forward : Bool) (types : List LinkType) (links : List Link) (n m : ℕ) → IsJoinedBy walk forward types links n m → IsJoinedPast walk forward types [] links n m
+none_barred false forward types links n m h = (h, refl)
+none_barred true forward types links n m h = reaches_as (Steps forward types links) (OpenSteps forward types [] links) (λ x y s. (s, refl)) n m h
+
+-- what is joined the other way with some nodes leads to them
+pub leads_where : (links : List Link) (join : LinkTest) (marks : List Bool) (ends found : List ℕ)
+    → ((n : ℕ) → (has found n ≡ true) ↔ FromSome (IsJoinedPast join.walk (not join.forward) join.types [] links) ends n) → AreMarked marks found
+    → (n : ℕ) → (get_or marks n false ≡ true) ↔ LeadsToSome links join ends n
+leads_where links join marks ends found joined marked n = (
+  λ h. let s = (joined n).0 (sym (marked n) ∙ h) in
+      (s.0, back join.walk join.forward join.types links n s.0 (all_open join.walk (not join.forward) join.types links s.0 n s.2), s.1),
+  λ h. marked n ∙ (joined n).1 (h.0, h.2, none_barred join.walk (not join.forward) join.types links h.0 n (turned join.walk join.forward join.types links n h.0 h.1)),
 )
+
+-- those of a set are the marked ones
+pub leads_marked : (links : List Link) (join : LinkTest) (set marks : List Bool) (ends : List ℕ) → AreNumbers (λ m. get_or set m false ≡ true) ends
+    → ((n : ℕ) → (get_or marks n false ≡ true) ↔ LeadsToSome links join ends n) → (n : ℕ) → (get_or marks n false ≡ true) ↔ LeadsToMarked links join set n
+leads_marked links join set marks ends numbers leads n = (
+  λ h. let s = (leads n).0 h in (s.0, s.1, (numbers.each s.0).0 s.2),
+  λ h. (leads n).1 (h.0, h.1, (numbers.each h.0).1 h.2),
+)
+
+-- ---- what a search finds that comes to no barred node
+
+open_walk : (S T : ℕ → ℕ → Type 0) (B : ℕ → Type 0) (m : ℕ) → ((x y : ℕ) → S x y → B y → T x y) → B m → ((x : ℕ) → Reaches S x m → B x)
+    → (n : ℕ) (through : List ℕ) → Walks S n through m → Walks T n through m
+open_walk S T B m both last on n [] w = both n m w last
+open_walk S T B m both last on n (x ∷ rest) w = (both n x w.0 (on x (rest, w.1)), open_walk S T B m both last on x rest w.1)
+
+-- a join of a node with a marked one comes to none that is barred, where those are open that lead to marked ones
+past_of : (walk forward : Bool) (types : List LinkType) (links : List Link) (set barred : List Bool)
+    → ((x : ℕ) → (get_or set x false ≡ true) ⊎ ((m : ℕ) × IsJoinedBy walk forward types links x m × (get_or set m false ≡ true)) → get_or barred x false ≡ false)
+    → (n m : ℕ) → get_or set m false ≡ true → IsJoinedBy walk forward types links n m → IsJoinedPast walk forward types barred links n m
+past_of false forward types links set barred free n m marked h = (h, free m (inl marked))
+past_of true forward types links set barred free n m marked h = (
+  h.0,
+  open_walk (Steps forward types links) (OpenSteps forward types barred links) (λ x. get_or barred x false ≡ false) m (λ x y s b. (s, b))
+      (free m (inl marked)) (λ x r. free x (inr (m, r, marked))) n h.0 h.1,
+)
+
+joined_past : (walk forward : Bool) (types : List LinkType) (barred : List Bool) (links : List Link) (n m : ℕ) → IsJoinedPast walk forward types barred links n m → IsJoinedBy walk forward types links n m
+joined_past false forward types barred links n m h = h.0
+joined_past true forward types barred links n m h = reaches_as (OpenSteps forward types barred links) (Steps forward types links) (λ x y s. s.0) n m h
+
+-- the marked ones that were found, in order
+pub numbers_found : (links : List Link) (join : LinkTest) (set barred : List Bool) (node : ℕ) (found kept ids : List ℕ) → AreOpen links join set barred
+    → ((m : ℕ) → (has found m ≡ true) ↔ FromSome (IsJoinedPast join.walk join.forward join.types barred links) (node ∷ []) m)
+    → ((m : ℕ) → has kept m ≡ (has found m && get_or set m false)) → Ascends ids → ((m : ℕ) → has ids m ≡ has kept m)
+    → AreNumbers (λ m. IsJoined links join node m × (get_or set m false ≡ true)) ids
+numbers_found links join set barred node found kept ids free exactly both ascend same = record {
+  ascend = ascend;
+  each = λ m. (
+    λ h. let p = and_parts (has found m) (get_or set m false) (sym (same m ∙ both m) ∙ h) in
+        let s = (exactly m).0 p.0 in
+        let from : node ≡ s.0 = ⊎_elim (λ (k : (node == s.0) ≡ true). eqb-true node s.0 k) (λ (k : has [] s.0 ≡ true). absurd (true≢false (sym k))) (or_cases (node == s.0) (has [] s.0) s.1) in
+        (subst (λ (x : ℕ). IsJoined links join x m) (sym from) (joined_past join.walk join.forward join.types barred links s.0 m s.2), p.1),
+    λ h. same m ∙ both m ∙ and_from (has found m) (get_or set m false)
+        ((exactly m).1 (node, or_left (node == node) false (eq-eqb node node refl), past_of join.walk join.forward join.types links set barred free node m h.1 h.0)) h.1,
+  );
+}
 
 -- ---- what meets a test is there
 

@@ -39,14 +39,14 @@ abbrev pub end_of : Bool → Link → ℕ
 end_of true l = l.target
 end_of false l = l.source
 
--- the link is of one of these types and leads from the node
-abbrev pub LeadsFrom : Bool → List LinkType → ℕ → Link → Type 0
-LeadsFrom forward types node l = Contains types l.link × (start_of forward l ≡ node)
+-- the link is of one of these types and leads from the node, to one that isn't barred
+abbrev pub LeadsFrom : Bool → List LinkType → List Bool → ℕ → Link → Type 0
+LeadsFrom forward types barred node l = Contains types l.link × (start_of forward l ≡ node) × (slice_index_or barred (end_of forward l) false ≡ false)
 
 -- a link at this place or behind it leads from the one node to the other
-abbrev pub LeadsBehind : Bool → List LinkType → List Link → ℕ → ℕ → ℕ → Type 0
-LeadsBehind forward types links node at m =
-    (k : ℕ) × (l : Link) × (slice_get links k ≡ Some l) × (at ≤ k) × LeadsFrom forward types node l × (end_of forward l ≡ m)
+abbrev pub LeadsBehind : Bool → List LinkType → List Bool → List Link → ℕ → ℕ → ℕ → Type 0
+LeadsBehind forward types barred links node at m =
+    (k : ℕ) × (l : Link) × (slice_get links k ≡ Some l) × (at ≤ k) × LeadsFrom forward types barred node l × (end_of forward l ≡ m)
 
 -- a step leads from one of these nodes
 abbrev pub FromSome : (ℕ → ℕ → Type 0) → List ℕ → ℕ → Type 0

@@ -1,5 +1,5 @@
 -- How two nodes are joined.
-use Rattle.std.specs.Prelude.{ℕ, Bool, true, false, List}
+use Rattle.std.specs.Prelude.{◌≡◌, ℕ, Bool, true, false, List, slice_index_or}
 use Rattle.wc_graph.specs.Walks.{Leads, Reaches}
 use Rattle.wc_graph.specs.declared.link.Link.{Link}
 use Rattle.wc_graph.specs.declared.link.LinkType.{LinkType}
@@ -13,6 +13,14 @@ Steps false types links from to = Leads types links to from
 abbrev pub IsJoinedBy : Bool → Bool → List LinkType → List Link → ℕ → ℕ → Type 0
 IsJoinedBy true forward types links from to = Reaches (Steps forward types links) from to
 IsJoinedBy false forward types links from to = Steps forward types links from to
+
+-- The same steps and joins, but to no node that is barred.
+abbrev pub OpenSteps : Bool → List LinkType → List Bool → List Link → ℕ → ℕ → Type 0
+OpenSteps forward types barred links from to = Steps forward types links from to × (slice_index_or barred to false ≡ false)
+
+abbrev pub IsJoinedPast : Bool → Bool → List LinkType → List Bool → List Link → ℕ → ℕ → Type 0
+IsJoinedPast true forward types barred links from to = Reaches (OpenSteps forward types barred links) from to
+IsJoinedPast false forward types barred links from to = OpenSteps forward types barred links from to
 
 -- Two nodes are joined: by a link of one of the types in the direction, or by a walk of one or more.
 abbrev pub IsJoined : List Link → LinkTest → ℕ → ℕ → Type 0

@@ -1,6 +1,6 @@
 -- Laws of rows.
 use Rattle.std.specs.Prelude.{◌≡◌, ◌↔◌, ℕ, suc, true, nat_lt, List, [], ◌∷◌, ◌++◌, length, take}
-use Rattle.wc_fits.specs.World.{World}
+use Rattle.wc_world.specs.World.{World}
 use Rattle.wc_query.specs.declared.query.LinkTest.{LinkTest}
 use Rattle.wc_query.specs.declared.query.NodeTest.{NodeTest}
 use Rattle.wc_query.specs.declared.query.Query.{Query}

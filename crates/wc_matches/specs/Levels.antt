@@ -1,6 +1,6 @@
 -- Rows that begin a match, and what they go on to.
-use Rattle.std.specs.Prelude.{◌≡◌, ◌⊎◌, ℕ, true, List, [], ◌∷◌, ◌++◌, take}
-use Rattle.wc_fits.specs.World.{World}
+use Rattle.std.specs.Prelude.{◌≡◌, ◌⊎◌, ◌≤◌, ℕ, true, List, [], ◌∷◌, ◌++◌, length, take}
+use Rattle.wc_world.specs.World.{World}
 use Rattle.wc_query.specs.declared.query.LinkTest.{LinkTest}
 use Rattle.wc_query.specs.declared.query.NodeTest.{NodeTest}
 use Rattle.wc_matches.specs.First.{AreFirst}
@@ -30,8 +30,12 @@ joined n [] = []
 joined n (firsts ∷ more) = take n (firsts ++ joined n more)
 
 -- the first so many that rows go on to
+abbrev pub AllGoOnTo : (List ℕ → ℕ → Type 0) → ℕ → List (List ℕ) → List (List ℕ) → Type 0
+AllGoOnTo R most rows out = (each : List (List (List ℕ))) × AreEach R most rows each × (out ≡ joined most each)
+
+-- The same, where the rest of the rows may be left out: as many are there already as may be.
 abbrev pub GoOnTo : (List ℕ → ℕ → Type 0) → ℕ → List (List ℕ) → List (List ℕ) → Type 0
-GoOnTo R most rows out = (each : List (List (List ℕ))) × AreEach R most rows each × (out ≡ joined most each)
+GoOnTo R most rows out = (k : ℕ) × AllGoOnTo R most (take k rows) out × ((length rows ≤ k) ⊎ (length out ≡ most))
 
 -- a row of which P holds goes on to it
 abbrev pub GoesOnFrom : (List ℕ → Type 0) → (List ℕ → ℕ → Type 0) → List ℕ → Type 0

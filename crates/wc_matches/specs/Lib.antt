@@ -1,3 +1,4 @@
+pub use Rattle.wc_query.specs.declared.query.Query as Query
 pub mod Meets
 pub mod Joins
 pub mod Matches
@@ -10,3 +11,4 @@ pub mod Texts
 pub mod Names
 pub mod Laws
 pub mod Rows
+pub mod Ways

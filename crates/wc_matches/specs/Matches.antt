@@ -1,6 +1,6 @@
 -- Which rows of nodes match a query.
 use Rattle.std.specs.Prelude.{◌≡◌, ℕ, true, List, [], ◌∷◌}
-use Rattle.wc_fits.specs.World.{World}
+use Rattle.wc_world.specs.World.{World}
 use Rattle.wc_query.specs.declared.query.LinkTest.{LinkTest}
 use Rattle.wc_query.specs.declared.query.NodeTest.{NodeTest}
 use Rattle.wc_query.specs.declared.query.Query.{Query}

@@ -4,7 +4,7 @@ use Rattle.std.specs.Option.{option_map_or}
 use Rattle.std.specs.List.{list_all}
 use Rattle.std.specs.Ordering.{int_eq}
 use Rattle.std.specs.Str.{bytes_eq}
-use Rattle.wc_fits.specs.World.{World}
+use Rattle.wc_world.specs.World.{World}
 use Rattle.wc_graph.specs.Rules.{node_of}
 use Rattle.wc_graph.specs.declared.node.NodeKind.{NodeKind}
 use Rattle.wc_graph.specs.declared.node.NodeKind.TheVariants as node

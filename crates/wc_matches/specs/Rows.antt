@@ -1,6 +1,6 @@
 -- The rows of two queries, found by hand.
 use Rattle.std.specs.Prelude.{pos, true, false, [], ◌∷◌, None, codes}
-use Rattle.wc_fits.specs.World.{World}
+use Rattle.wc_world.specs.World.{World}
 use Rattle.wc_graph.specs.declared.link.LinkType.TheVariants as link
 use Rattle.wc_graph.specs.declared.node.NodeKind.TheVariants as node
 use Rattle.wc_query.specs.declared.query.Field.TheVariants as field

@@ -1,16 +1,25 @@
 -- Sets of nodes that may stand at a place of a row.
-use Rattle.std.specs.Prelude.{◌≡◌, ◌<◌, ◌+◌, ◌↔◌, ℕ, Bool, true, false, List, [], ◌∷◌, ◌++◌, length, slice_index_or}
-use Rattle.wc_fits.specs.World.{World}
+use Rattle.std.specs.Prelude.{◌≡◌, ◌⊎◌, ◌<◌, ◌+◌, ◌↔◌, ℕ, Bool, true, false, List, [], ◌∷◌, ◌++◌, length, slice_index_or}
+use Rattle.wc_world.specs.World.{World}
 use Rattle.wc_graph.specs.declared.link.Link.{Link}
 use Rattle.wc_query.specs.declared.query.LinkTest.{LinkTest}
 use Rattle.wc_query.specs.declared.query.NodeTest.{NodeTest}
+use Rattle.wc_matches.specs.Found.{has}
 use Rattle.wc_matches.specs.Joins.{IsJoined}
 use Rattle.wc_matches.specs.Levels.{GoesOn, last_of}
 use Rattle.wc_matches.specs.Meets.{meets}
 
+-- a join leads from a node to one of these
+abbrev pub LeadsToSome : List Link → LinkTest → List ℕ → ℕ → Type 0
+LeadsToSome links join ends n = (m : ℕ) × IsJoined links join n m × (has ends m ≡ true)
+
 -- a join leads from a node to one that is marked
 abbrev pub LeadsToMarked : List Link → LinkTest → List Bool → ℕ → Type 0
 LeadsToMarked links join set n = (m : ℕ) × IsJoined links join n m × (slice_index_or set m false ≡ true)
+
+-- none is barred of the marked nodes, and of those from which a join leads to a marked one
+abbrev pub AreOpen : List Link → LinkTest → List Bool → List Bool → Type 0
+AreOpen links join set barred = (n : ℕ) → (slice_index_or set n false ≡ true) ⊎ LeadsToMarked links join set n → slice_index_or barred n false ≡ false
 
 -- A row goes on to a marked node: a join leads from its last node to it.
 abbrev pub LeadsInto : List Link → LinkTest → List Bool → List ℕ → ℕ → Type 0

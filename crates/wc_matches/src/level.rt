@@ -2,13 +2,15 @@
 
 ghost use Rattle.std.specs.Prelude.{◌≡◌, ◌++◌, ◌∷◌, [], ◌<◌, ◌≤◌, true, false, take, length, IfOk, OnOk, slice_index_or};
 ghost use Rattle.wc_matches.specs.Joins.{IsJoined};
-ghost use Rattle.wc_matches.specs.Sets.{LeadsInto};
+ghost use Rattle.wc_matches.specs.Sets.{AreOpen, LeadsInto};
+ghost use Rattle.wc_matches.specs.Ways.{IsWay};
 ghost use Rattle.wc_matches.specs.Found.{AreBlank};
 ghost use Rattle.wc_matches.specs.Levels.{GoOnTo};
 ghost use Rattle.wc_matches.specs.Numbers.{AreNumbers, with_each};
 
 use crate::numbers::{marked_of, put_in_order};
 use crate::search::{joined, unmark};
+use crate::ways::{Way, ends_from, way_of};
 use std::alloc::{AllocError, Global};
 use wc_graph::{Graph, Ids};
 use wc_query::LinkTest;
@@ -48,33 +50,51 @@ pub(crate) fn put_rows(
     Ok(())
 }
 
-/// The marked nodes that a join leads to from a node, in order.
-fn nexts(
+/// The marked nodes that a join leads to from a node, in order, by a search from it that comes to no barred node.
+#[tactic(auto, using(crate::proofs::Placing::numbers_found))]
+fn searched(
     alloc: Global,
     graph: &Graph,
     join: &LinkTest,
     set: &[bool],
+    barred: &[bool],
     node: u32,
     marks: &mut [bool],
 ) -> Result<Vec<u32>, AllocError>
     requires size { length graph.now.nodes < length marks.old }
     requires blank { AreBlank marks.old }
+    requires free { AreOpen graph.now.links join.now set.now barred.now }
     ensures blank { OnOk result (AreBlank marks.new) }
     ensures nexts { IfOk result (λ ids. AreNumbers (λ m. IsJoined graph.now.links join.now node m × (slice_index_or set.now m false ≡ true)) ids.items) }
 {
-    let found = joined(
-        alloc,
-        graph,
-        join.forward,
-        join.walk,
-        &join.types,
-        &[node],
-        marks,
-    )?;
+    let found = joined(alloc, graph, join, join.forward, barred, &[node], marks)?;
     unmark(marks, &found);
     let mut ids = marked_of(alloc, &found, set)?;
     put_in_order(&mut ids);
     Ok(ids)
+}
+
+/// The marked nodes that a join leads to from a node, in order.
+#[tactic(auto, using(crate::proofs::Ends::ends_are, crate::proofs::Ends::columns_same))]
+fn nexts(
+    alloc: Global,
+    graph: &Graph,
+    join: &LinkTest,
+    set: &[bool],
+    way: &Way,
+    node: u32,
+    marks: &mut [bool],
+) -> Result<Vec<u32>, AllocError>
+    requires size { length graph.now.nodes < length marks.old }
+    requires blank { AreBlank marks.old }
+    requires way { IsWay graph.now.links join.now set.now way.now }
+    ensures blank { OnOk result (AreBlank marks.new) }
+    ensures nexts { IfOk result (λ ids. AreNumbers (λ m. IsJoined graph.now.links join.now node m × (slice_index_or set.now m false ≡ true)) ids.items) }
+{
+    match way {
+        Way::Search(barred) => searched(alloc, graph, join, set, barred, node, marks),
+        Way::Ends(ends, columns) => ends_from(alloc, ends, columns.as_slice(), node),
+    }
 }
 
 /// The marked nodes that a row goes on to, in order.
@@ -84,22 +104,24 @@ fn behind(
     graph: &Graph,
     join: &LinkTest,
     set: &[bool],
+    way: &Way,
     row: &[u32],
     marks: &mut [bool],
 ) -> Result<Vec<u32>, AllocError>
     requires size { length graph.now.nodes < length marks.old }
     requires blank { AreBlank marks.old }
+    requires way { IsWay graph.now.links join.now set.now way.now }
     ensures blank { OnOk result (AreBlank marks.new) }
     ensures nexts { IfOk result (λ ids. AreNumbers (LeadsInto graph.now.links join.now set.now row.now) ids.items) }
 {
     if row.len() == 0 {
         return Ok(Vec::new(alloc));
     }
-    nexts(alloc, graph, join, set, row[row.len() - 1], marks)
+    nexts(alloc, graph, join, set, way, row[row.len() - 1], marks)
 }
 
 /// The first so many of the rows that these go on to.
-#[tactic(auto, using(crate::proofs::Growing::on_none, crate::proofs::Growing::on_next, crate::proofs::Growing::on_all, crate::proofs::Growing::few_on))]
+#[tactic(auto, using(crate::proofs::Growing::on_none, crate::proofs::Growing::on_next, crate::proofs::Growing::on_all, crate::proofs::Growing::on_full, crate::proofs::Growing::few_on))]
 pub(crate) fn next_level(
     alloc: Global,
     graph: &Graph,
@@ -114,9 +136,13 @@ pub(crate) fn next_level(
     ensures blank { OnOk result (AreBlank marks.new) }
     ensures rows { IfOk result (λ out. GoOnTo (LeadsInto graph.now.links join.now set.now) most rows.now out) }
 {
+    let way = way_of(alloc, graph, join, set, rows.len())?;
     let mut out = Rows::new(alloc);
     for row in rows {
-        let numbers = behind(alloc, graph, join, set, row.as_slice(), marks)?;
+        if out.len() >= most {
+            return Ok(out);
+        }
+        let numbers = behind(alloc, graph, join, set, &way, row.as_slice(), marks)?;
         put_rows(alloc, &mut out, row.as_slice(), &numbers, most)?;
     }
     Ok(out)

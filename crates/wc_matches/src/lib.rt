@@ -9,6 +9,7 @@ mod numbers;
 mod search;
 mod sets;
 mod text;
+mod ways;
 
 pub use found::{Matches, answers};
 pub use laws::{
@@ -17,3 +18,4 @@ pub use laws::{
 pub use level::Rows;
 pub use nodes::meets;
 pub use text::rows_text;
+pub use wc_query::Query;

@@ -6,12 +6,18 @@ ghost use Rattle.wc_matches.specs.Numbers.{Ascends, AreNumbers};
 
 use std::alloc::{AllocError, Global};
 
+/// Whether a place is marked.
+pub(crate) fn is_at(set: &[bool], place: usize) -> bool
+    ensures { result ≡ slice_index_or set.now place false }
+{
+    place < set.len() && set[place]
+}
+
 /// Whether a number is marked.
 pub(crate) fn is_marked(set: &[bool], node: u32) -> bool
     ensures { result ≡ slice_index_or set.now node false }
 {
-    let place = node as usize;
-    place < set.len() && set[place]
+    is_at(set, node as usize)
 }
 
 /// The numbers that are marked, in order.

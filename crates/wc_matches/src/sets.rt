@@ -2,7 +2,7 @@
 
 ghost use Rattle.std.specs.Prelude.{◌≡◌, ◌&&◌, ◌<◌, ◌≤◌, ◌+◌, ◌^◌, ◌↔◌, ℕ, true, false, length, replicate, IfOk, slice_index_or};
 ghost use Rattle.wc_matches.specs.Meets.{meets};
-ghost use Rattle.wc_matches.specs.Sets.{LeadsToMarked, IsSet, AreSets};
+ghost use Rattle.wc_matches.specs.Sets.{LeadsToMarked, LeadsToSome, IsSet, AreSets};
 
 use crate::nodes::meets;
 use crate::numbers::{is_marked, numbers};
@@ -44,32 +44,38 @@ fn met(alloc: Global, world: &World, test: &NodeTest, within: &[bool]) -> Result
     Ok(set)
 }
 
-/// The nodes from which a join leads to a marked one.
+/// The nodes from which a join leads to one of these.
 #[tactic(auto, using(crate::proofs::Placing::leads_where))]
-fn leading(
+pub(crate) fn leading_to(
+    alloc: Global,
+    graph: &Graph,
+    join: &LinkTest,
+    ends: &[u32],
+) -> Result<Vec<bool>, AllocError>
+    ensures size { IfOk result (λ marks. length marks.items ≡ length graph.now.nodes + 1) }
+    ensures leads { IfOk result (λ marks. (n : ℕ)
+        → (slice_index_or marks.items n false ≡ true) ↔ LeadsToSome graph.now.links join.now ends.now n) }
+{
+    let mut marks = equal_marks(alloc, graph.nodes().len() + 1, false)?;
+    let _found = joined(alloc, graph, join, !join.forward, &[], ends, &mut marks)?;
+    Ok(marks)
+}
+
+/// The nodes from which a join leads to a marked one.
+#[tactic(auto, using(crate::proofs::Placing::leads_marked))]
+pub(crate) fn leading(
     alloc: Global,
     graph: &Graph,
     join: &LinkTest,
     set: &[bool],
 ) -> Result<Vec<bool>, AllocError>
-    requires few { length set.now < 2 ^ 32 }
-    requires size { length set.now ≡ length graph.now.nodes + 1 }
+    requires { length set.now < 2 ^ 32 }
     ensures size { IfOk result (λ marks. length marks.items ≡ length graph.now.nodes + 1) }
     ensures leads { IfOk result (λ marks. (n : ℕ)
         → (slice_index_or marks.items n false ≡ true) ↔ LeadsToMarked graph.now.links join.now set.now n) }
 {
     let ends = numbers(alloc, set)?;
-    let mut marks = equal_marks(alloc, set.len(), false)?;
-    let _found = joined(
-        alloc,
-        graph,
-        !join.forward,
-        join.walk,
-        &join.types,
-        &ends,
-        &mut marks,
-    )?;
-    Ok(marks)
+    leading_to(alloc, graph, join, &ends)
 }
 
 /// The sets of the nodes that may stand at each place: those of the first place, and those behind each join, of which that of the first

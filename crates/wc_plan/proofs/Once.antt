@@ -13,7 +13,7 @@ use Rattle.wc_parser.proofs.Texts.{one_text_answer}
 use Rattle.wc_check.proofs.Single.{one_first}
 use Rattle.wc_config.specs.declared.settings.Settings.{Settings}
 use Rattle.wc_cli.specs.declared.command.Command.{Command}
-use Rattle.wc_cli.specs.declared.command.Command.TheVariants.{Check, Dry, Init, Submit, Run, View, Pause, Play, Kill, Pack, Drill}
+use Rattle.wc_cli.specs.declared.command.Command.TheVariants.{Check, Dry, Init, Submit, Run, View, Pause, Play, Kill, Pack, Drill, Query}
 use Rattle.wc_plan.specs.declared.commands.dry.Trial.{Trial}
 use Rattle.wc_plan.specs.declared.libraries.Read.{Read}
 use Rattle.wc_plan.specs.declared.libraries.Read.TheVariants as read
@@ -140,3 +140,4 @@ one_plan told (Some (Run turns seed settings)) p q h a b = a.2 ∙ ap (plan_of_r
 one_plan told (Some (View v)) p q h a b = a ∙ sym b
 one_plan told (Some Pack) p q h a b = a ∙ sym b
 one_plan told (Some (Drill seed count)) p q h a b = a ∙ sym b
+one_plan told (Some (Query words limit)) p q h a b = a ∙ sym b

@@ -9,7 +9,10 @@ use Rattle.wc_semantics.specs.Tables.{plain, no_kills}
 use Rattle.wc_semantics.specs.Meaning.{meaning}
 use Rattle.wc_config.specs.declared.settings.Settings.{Settings}
 use Rattle.wc_cli.specs.declared.command.Command.{Command}
-use Rattle.wc_cli.specs.declared.command.Command.TheVariants.{Check, Dry, Init, Submit, Run, View, Pause, Play, Kill, Pack, Drill}
+use Rattle.wc_cli.specs.declared.command.Command.TheVariants.{Check, Dry, Init, Submit, Run, View, Pause, Play, Kill, Pack, Drill, Query}
+use Rattle.wc_query.specs.Words.{query_of}
+use Rattle.wc_query.specs.declared.error.QueryError.{QueryError}
+use Rattle.wc_query.specs.declared.query.Query.{Query as Sought}
 use Rattle.wc_value.specs.declared.value.Value.{Value}
 use Rattle.wc_json.specs.Tables.{Row}
 use Rattle.wc_plan.specs.declared.commands.dry.Trial.{Trial}
@@ -23,7 +26,7 @@ use Rattle.wc_plan.specs.declared.status.Status.{Status}
 use Rattle.wc_plan.specs.declared.status.Status.TheVariants as status
 use Rattle.wc_plan.specs.Given.{bad_given, fields_of}
 use Rattle.wc_plan.specs.Dry.{owed_answer, owed_inputs, owed_rows, owed_check, OwesRows, OwesDefinition, OwesDry}
-use Rattle.wc_plan.specs.Plans.{Plans, PlansSubmission, plan_of_prepared, plan_of_run}
+use Rattle.wc_plan.specs.Plans.{Plans, PlansSubmission, plan_of_prepared, plan_of_query, plan_of_run}
 use Rattle.wc_plan.specs.Replies.{refuses, IsReplied}
 use Rattle.wc_plan.specs.declared.submission.Prepared.{Prepared}
 use Rattle.wc_plan.specs.declared.submission.Prepared.TheVariants as prepared
@@ -102,6 +105,11 @@ run_refused : (turns seed : ℕ) (s : Result Settings Cause) (r : Reply) → pla
 run_refused turns seed (Err c) r is = subst HasReplied (same_reply (refuses c) r is) tt
 run_refused turns seed (Ok t) r is = absurd (cc)
 
+-- a query that is refused
+query_refused : (limit : ℕ) (q : Result Sought QueryError) (r : Reply) → plan_of_query limit q ≡ plan.Reply r → HasReplied r
+query_refused limit (Err e) r is = subst HasReplied (same_reply (refuses (cause.Query e)) r is) tt
+query_refused limit (Ok query) r is = absurd (cc)
+
 pub told_replied : (told : Option (List ℕ → Option (List ℕ))) (command : Option Command) (r : Reply) → Plans told command (plan.Reply r) → HasReplied r
 told_replied told None r p = subst HasReplied (same_reply (refuses cause.Words) r (sym p)) tt
 told_replied told (Some (Check file)) r p = subst HasReplied (same_reply (owed_check p.0) r (sym p.2)) (check_replied p.0)
@@ -116,3 +124,4 @@ told_replied told (Some (Run turns seed settings)) r p = run_refused turns seed 
 told_replied told (Some (View v)) r p = absurd (cc)
 told_replied told (Some Pack) r p = absurd (cc)
 told_replied told (Some (Drill seed count)) r p = absurd (cc)
+told_replied told (Some (Query words limit)) r p = query_refused limit (query_of words) r (sym p)

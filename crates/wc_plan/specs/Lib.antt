@@ -1,3 +1,5 @@
+pub use Rattle.wc_query.specs.Words
+pub use Rattle.wc_query.specs.declared.error.QueryError as QueryError
 pub mod Given
 pub mod Further
 pub mod Texts

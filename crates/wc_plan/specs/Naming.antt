@@ -1,7 +1,7 @@
 -- Which files words name, and which of them a shelf was asked for.
 use Rattle.std.specs.Prelude.{◌≡◌, ◌++◌, ℕ, List, [], ◌∷◌, Option, Some, None}
 use Rattle.wc_cli.specs.declared.command.Command.{Command}
-use Rattle.wc_cli.specs.declared.command.Command.TheVariants.{Dry, Check, Init, Submit, Run, View, Pause, Play, Kill, Pack, Drill}
+use Rattle.wc_cli.specs.declared.command.Command.TheVariants.{Dry, Check, Init, Submit, Run, View, Pause, Play, Kill, Pack, Drill, Query}
 
 -- the file of an option, if it is given
 abbrev pub given_file : Option (List ℕ) → List (List ℕ)
@@ -22,6 +22,7 @@ files_named (Some (Run turns seed settings)) = given_file settings
 files_named (Some (View v)) = []
 files_named (Some Pack) = []
 files_named (Some (Drill seed count)) = []
+files_named (Some (Query words limit)) = []
 
 -- A shelf was asked for the first of these files, each once and in their order, and for nothing else.
 pub record AsksFirst (files old new : List (List ℕ)) : Type 0 where

@@ -3,13 +3,17 @@ use Rattle.std.specs.Prelude.{◌≡◌, ◌≤◌, ℕ, min, List, Option, Some
 use Rattle.wc_state.specs.Ranges.{AreLimits}
 use Rattle.wc_config.specs.declared.settings.Settings.{Settings}
 use Rattle.wc_cli.specs.declared.command.Command.{Command}
-use Rattle.wc_cli.specs.declared.command.Command.TheVariants.{Dry, Check, Init, Submit, Run, View, Pause, Play, Kill, Pack, Drill}
+use Rattle.wc_cli.specs.declared.command.Command.TheVariants.{Dry, Check, Init, Submit, Run, View, Pause, Play, Kill, Pack, Drill, Query}
+use Rattle.wc_query.specs.Words.{query_of}
+use Rattle.wc_query.specs.declared.error.QueryError.{QueryError}
+use Rattle.wc_query.specs.declared.query.Query.{Query as Sought}
 use Rattle.wc_plan.specs.declared.deed.Asked.{Asked}
 use Rattle.wc_plan.specs.declared.deed.Asked.TheVariants as asked
 use Rattle.wc_plan.specs.declared.deed.Begin.{Begin}
 use Rattle.wc_plan.specs.declared.deed.Begin.TheVariants as begin
 use Rattle.wc_plan.specs.declared.deed.Deed.{Deed}
 use Rattle.wc_plan.specs.declared.deed.Deed.TheVariants as deed
+use Rattle.wc_plan.specs.declared.deed.Shown.TheVariants as shown
 use Rattle.wc_plan.specs.declared.deed.Work.{Work}
 use Rattle.wc_plan.specs.declared.deed.Work.TheVariants as work
 use Rattle.wc_plan.specs.declared.deed.Plan.{Plan}
@@ -49,6 +53,11 @@ abbrev pub plan_of_run : (turns seed : ℕ) → Result Settings Cause → Plan
 plan_of_run turns seed (Err c) = plan.Reply (refuses c)
 plan_of_run turns seed (Ok t) = on (work.Run (record { turns = turns; seed = seed_of seed; limits = t.limits }))
 
+-- a refusal, or that the rows of a query are shown
+abbrev pub plan_of_query : ℕ → Result Sought QueryError → Plan
+plan_of_query limit (Err e) = plan.Reply (refuses (cause.Query e))
+plan_of_query limit (Ok query) = on (work.View (shown.Query query limit))
+
 -- how many chains a drill may run at most; words give none that are more
 abbrev pub chains_of : ℕ → ℕ
 chains_of count = min count 10000
@@ -66,9 +75,10 @@ Plans told (Some (Pause pid)) p = p ≡ on (work.Event (asked.Pause pid))
 Plans told (Some (Play pid)) p = p ≡ on (work.Event (asked.Play pid))
 Plans told (Some (Kill pid)) p = p ≡ on (work.Event (asked.Kill pid))
 Plans told (Some (Run turns seed settings)) p = (s : Result Settings Cause) × SettingsFrom told settings s × (p ≡ plan_of_run turns seed s)
-Plans told (Some (View v)) p = p ≡ on (work.View v)
+Plans told (Some (View v)) p = p ≡ on (work.View (shown.View v))
 Plans told (Some Pack) p = p ≡ on work.Pack
 Plans told (Some (Drill seed count)) p = p ≡ plan.On (deed.Begin (begin.Drill seed (chains_of count)))
+Plans told (Some (Query words limit)) p = p ≡ plan_of_query limit (query_of words)
 
 -- the command names no file
 abbrev pub NamesNoFile : Option Command → Type 0

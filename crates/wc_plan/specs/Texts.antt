@@ -14,6 +14,8 @@ use Rattle.wc_value.specs.declared.process.ProcessState.{ProcessState}
 use Rattle.wc_report.specs.Names.{state_text}
 use Rattle.wc_config.specs.declared.error.ConfigError.{ConfigError}
 use Rattle.wc_config.specs.declared.error.ConfigError.TheVariants as config
+use Rattle.wc_query.specs.declared.error.QueryError.{QueryError}
+use Rattle.wc_query.specs.declared.error.QueryError.TheVariants as query
 use Rattle.wc_plan.specs.declared.status.Cause.{Cause}
 use Rattle.wc_plan.specs.declared.status.Cause.TheVariants as cause
 
@@ -72,6 +74,13 @@ config_text (config.UnknownKey key) = codes "unknown key " ++ key
 config_text (config.BadValue key) = codes "bad value " ++ key
 config_text config.OutOfMemory = codes "out of memory"
 
+-- why words are no query; a place is counted from 0 behind the command's word
+abbrev pub query_text : QueryError → List ℕ
+query_text query.Shape = codes "query shape"
+query_text query.TooLong = codes "query too long"
+query_text (query.BadWord at) = codes "query word " ++ decimal at
+query_text query.OutOfMemory = codes "out of memory"
+
 abbrev pub cause_text : Cause → List ℕ
 cause_text cause.Words = codes "words"
 cause_text (cause.NoFile file) = codes "no file " ++ file
@@ -85,6 +94,7 @@ cause_text (cause.Table e) = json_text (codes "table") e
 cause_text (cause.BadInput port) = codes "bad input " ++ port
 cause_text (cause.NoAnswer q) = codes "no answer " ++ q.program
 cause_text cause.Fuel = codes "fuel"
+cause_text (cause.Query e) = query_text e
 cause_text cause.NoStore = codes "no store"
 cause_text cause.StoreExists = codes "store exists"
 cause_text (cause.UnknownProcess pid) = codes "unknown process " ++ decimal pid

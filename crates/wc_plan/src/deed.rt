@@ -3,6 +3,7 @@
 use crate::reply::Reply;
 use crate::submission::Submission;
 use wc_cli::View;
+use wc_query::Query;
 use wc_state::Limits;
 
 /// An event that is asked for.
@@ -43,11 +44,20 @@ pub struct RunOptions {
     pub limits: Limits,
 }
 
+/// What of a store is shown.
+#[derive(Drop)]
+pub enum Shown {
+    /// A view.
+    View(View),
+    /// The first rows that match a query, at most so many.
+    Query(Query, u32),
+}
+
 /// What is done on a store that is there.
 #[derive(Drop)]
 pub enum Work {
     /// Its world is shown.
-    View(View),
+    View(Shown),
     /// An event happens, if it may.
     Event(Asked),
     /// Its processes take their turns.

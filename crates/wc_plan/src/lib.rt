@@ -16,7 +16,7 @@ mod submission;
 mod text;
 
 pub use commands::Trial;
-pub use deed::{Asked, Begin, Deed, Plan, RunOptions, Work};
+pub use deed::{Asked, Begin, Deed, Plan, RunOptions, Shown, Work};
 pub use error::PlanError;
 pub use given::read_given;
 pub use laws::{files_are_read_as_one_thing, names_on_are_as_settings_say};

@@ -3,14 +3,15 @@
 ghost use Rattle.std.specs.Prelude.{◌≡◌, ◌≤◌, ◌∷◌, ◌++◌, None, Some, IfOk};
 ghost use Rattle.wc_state.specs.Ranges.{AreLimits};
 ghost use Rattle.wc_cli.specs.Words.{command_of};
+ghost use Rattle.wc_query.specs.Words.{query_of};
 ghost use Rattle.wc_plan.specs.Counts.{CountsShelf};
 ghost use Rattle.wc_plan.specs.Naming.{given_file, files_named, AsksFirst};
-ghost use Rattle.wc_plan.specs.Plans.{IsReadyPlan, NamesNoFile, Plans, PlansSubmission, chains_of, plan_of_prepared, plan_of_run, seed_of};
+ghost use Rattle.wc_plan.specs.Plans.{IsReadyPlan, NamesNoFile, Plans, PlansSubmission, chains_of, plan_of_prepared, plan_of_query, plan_of_run, seed_of};
 ghost use Rattle.wc_plan.specs.Settings.{SettingsFrom, SettingsReady};
 ghost use Rattle.wc_plan.specs.Submits.{SubmitsReady};
 
 use crate::commands::{Trial, reply_to_check, reply_to_dry};
-use crate::deed::{Asked, Begin, Deed, Plan, RunOptions, Work};
+use crate::deed::{Asked, Begin, Deed, Plan, RunOptions, Shown, Work};
 use crate::error::PlanError;
 use crate::libraries::read_from;
 use crate::reply::refuse;
@@ -21,6 +22,7 @@ use std::alloc::{AllocError, Global};
 use wc_cli::{Command, Given, command_of};
 use wc_config::Settings;
 use wc_io::{Shelf, ShelfError};
+use wc_query::{QueryError, parse_query};
 use wc_value::{Text, Words};
 
 /// The settings of a command that names this file of the shelf, or none, or why there are none.
@@ -130,6 +132,18 @@ fn plan_of_run(
     }
 }
 
+/// A refusal, or that the rows of the query that words are are shown.
+fn plan_of_query(alloc: Global, words: &Words, limit: u32) -> Result<Plan, AllocError>
+    ensures plan { IfOk result (λ p. p ≡ plan_of_query limit (query_of words.now)) }
+    ensures ready { IfOk result (λ p. IsReadyPlan p) }
+{
+    match parse_query(alloc, words) {
+        Ok(query) => Ok(Plan::On(Deed::Work(Work::View(Shown::Query(query, limit))))),
+        Err(QueryError::OutOfMemory) => Err(AllocError),
+        Err(error) => Ok(Plan::Reply(refuse(alloc, Cause::Query(error))?)),
+    }
+}
+
 /// What a command asks for. Each file that it names is read and understood wholly here, before the next is read.
 #[tactic(auto, using(crate::proofs::Naming::asks_none, crate::proofs::Naming::asks_all, crate::proofs::Naming::asks_part, crate::proofs::Naming::asks_then, crate::proofs::Naming::asks_one, crate::proofs::Naming::asks_one_then))]
 fn plan_command<R: Shelf>(alloc: Global, command: Command, shelf: &mut R) -> Result<Plan, PlanError>
@@ -193,7 +207,8 @@ fn plan_command<R: Shelf>(alloc: Global, command: Command, shelf: &mut R) -> Res
         Command::Pause { pid } => Ok(Plan::On(Deed::Work(Work::Event(Asked::Pause(pid))))),
         Command::Play { pid } => Ok(Plan::On(Deed::Work(Work::Event(Asked::Play(pid))))),
         Command::Kill { pid } => Ok(Plan::On(Deed::Work(Work::Event(Asked::Kill(pid))))),
-        Command::View(view) => Ok(Plan::On(Deed::Work(Work::View(view)))),
+        Command::View(view) => Ok(Plan::On(Deed::Work(Work::View(Shown::View(view))))),
+        Command::Query { words, limit } => Ok(plan_of_query(alloc, &words, limit)?),
         Command::Pack => Ok(Plan::On(Deed::Work(Work::Pack))),
         Command::Drill { seed, count } => Ok(Plan::On(Deed::Begin(Begin::Drill {
             seed,

@@ -7,6 +7,7 @@ use wc_check::CheckError;
 use wc_config::ConfigError;
 use wc_json::JsonError;
 use wc_parser::ParseError;
+use wc_query::QueryError;
 use wc_state::What;
 use wc_value::{ProcessState, Request, Text};
 
@@ -37,6 +38,8 @@ pub enum Cause {
     NoAnswer(Request),
     /// The fuel doesn't suffice.
     Fuel,
+    /// The words of a query are none.
+    Query(QueryError),
     /// There is no store.
     NoStore,
     /// There is a store already.

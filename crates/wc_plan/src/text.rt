@@ -2,7 +2,7 @@
 
 ghost use Rattle.std.specs.Prelude.{◌≡◌, ◌∷◌, ◌++◌, [], IfOk, codes, string_bytes};
 ghost use Rattle.std.specs.Fmt.{decimal};
-ghost use Rattle.wc_plan.specs.Texts.{at_place, at_name, lex_text, parse_text, check_text, at_path, json_text, config_text, ended_text, cause_text, refusal_text};
+ghost use Rattle.wc_plan.specs.Texts.{at_place, at_name, lex_text, parse_text, check_text, at_path, json_text, config_text, query_text, ended_text, cause_text, refusal_text};
 
 use crate::status::Cause;
 use std::alloc::{AllocError, Global};
@@ -11,6 +11,7 @@ use wc_config::ConfigError;
 use wc_json::JsonError;
 use wc_lexer::LexError;
 use wc_parser::ParseError;
+use wc_query::QueryError;
 use wc_report::state_text;
 use wc_value::{ProcessState, Text};
 
@@ -136,6 +137,18 @@ fn settings_name(alloc: Global, error: &ConfigError) -> Result<String, AllocErro
     format!(in alloc; "settings {}", name.as_str())
 }
 
+/// What a refusal of the words of a query is called.
+fn query_name(alloc: Global, error: &QueryError) -> Result<String, AllocError>
+    ensures { IfOk result (λ text. string_bytes text ≡ query_text error.now) }
+{
+    match error {
+        QueryError::Shape => String::from_str(alloc, "query shape"),
+        QueryError::TooLong => String::from_str(alloc, "query too long"),
+        QueryError::BadWord(at) => format!(in alloc; "query word {at}"),
+        QueryError::OutOfMemory => String::from_str(alloc, "out of memory"),
+    }
+}
+
 /// What a cause is called.
 fn cause_name(alloc: Global, cause: &Cause) -> Result<String, AllocError>
     ensures { IfOk result (λ text. string_bytes text ≡ cause_text cause.now) }
@@ -153,6 +166,7 @@ fn cause_name(alloc: Global, cause: &Cause) -> Result<String, AllocError>
         Cause::BadInput(port) => format!(in alloc; "bad input {}", port.as_str()),
         Cause::NoAnswer(request) => format!(in alloc; "no answer {}", request.program.as_str()),
         Cause::Fuel => String::from_str(alloc, "fuel"),
+        Cause::Query(error) => query_name(alloc, error),
         Cause::NoStore => String::from_str(alloc, "no store"),
         Cause::StoreExists => String::from_str(alloc, "store exists"),
         Cause::UnknownProcess(pid) => format!(in alloc; "unknown process {pid}"),

@@ -1,6 +1,6 @@
 use Rattle.std.proofs.Common.{◌≡◌, ◌<◌, length, get_or, ◌∙◌, arith}
 use Rattle.std.proofs.lemmas.List.{get_or_read_under}
-use Rattle.wc_matches.specs.Joins.{Steps}
+use Rattle.wc_matches.specs.Joins.{OpenSteps}
 use Rattle.wc_matches.proofs.Finding.{closed_more}
 use Rattle.wc_matches.proofs.search.close.Goals as goal
 
@@ -15,6 +15,6 @@ loop-done-preserved c =
     record {
       size = f.size ∙ l.invariant.size;
       marked = f.marked;
-      closed = closed_more (Steps c.args.forward c.args.types.now c.args.graph.now.links) l.marks c.spread.new.marks c.args.found.now.items l.found.items c.spread.new.found.items
+      closed = closed_more (OpenSteps c.args.forward c.args.types.now c.args.barred.now c.args.graph.now.links) l.marks c.spread.new.marks c.args.found.now.items l.found.items c.spread.new.found.items
           l.done node l.invariant.closed (omega (arith, lt, count)) read f;
     }

@@ -1,6 +1,6 @@
 use Rattle.std.proofs.Common.{◌≡◌, ◌+◌, ◌-◌, length, not}
 use Rattle.std.specs.Prelude.{count_by}
-use Rattle.wc_matches.specs.Joins.{Steps}
+use Rattle.wc_matches.specs.Joins.{OpenSteps}
 use Rattle.wc_matches.specs.Found.{AreMarked, IsClosed}
 use Rattle.wc_matches.proofs.search.close.Given as goal
 
@@ -8,7 +8,7 @@ abbrev pub invariant-loop-done : goal.invariant-loop-done
 invariant-loop-done l = record {
   size : length l.marks ≡ length l.fn.marks;
   marked : AreMarked l.marks l.found.items;
-  closed : IsClosed (Steps l.forward l.types l.graph.links) l.fn.found.items l.found.items l.done;
+  closed : IsClosed (OpenSteps l.forward l.types l.barred l.graph.links) l.fn.found.items l.found.items l.done;
 }
 
 abbrev pub decreases-loop-done : goal.decreases-loop-done

@@ -6,7 +6,7 @@ abbrev pub invariant-loop-at : goal.invariant-loop-at
 invariant-loop-at l = record {
   within : l.at ≤ length l.graph.links;
   links : l.links ≡ l.graph.links;
-  finds : Finds (LeadsBehind l.forward l.types l.graph.links l.node l.at) l.fn.marks l.marks l.fn.found.items l.found.items;
+  finds : Finds (LeadsBehind l.forward l.types l.barred l.graph.links l.node l.at) l.fn.marks l.marks l.fn.found.items l.found.items;
 }
 
 abbrev pub decreases-loop-at : goal.decreases-loop-at

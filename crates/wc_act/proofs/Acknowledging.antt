@@ -6,11 +6,9 @@ use Rattle.wc_state.specs.declared.record.What.{What}
 use Rattle.wc_world.specs.World.{World, empty}
 use Rattle.wc_world.specs.Applied.{applied}
 use Rattle.wc_machine.specs.Machine.{after_changes}
-use Rattle.wc_runner.proofs.Happening.{after_some}
+use Rattle.wc_drill.proofs.Runner.Happening.{after_some}
 use Rattle.wc_store.specs.Held.{Standing, nothing, damage, a_world}
 use Rattle.wc_store.specs.Laws.{HeldIsReached}
-use Rattle.wc_runner.specs.declared.runs.RunEnd.{RunEnd}
-use Rattle.wc_runner.specs.declared.runs.RunEnd.TheVariants.{AllEnded, Spent, Resting}
 use Rattle.wc_cli.specs.Words.{command_of}
 use Rattle.wc_plan.specs.declared.deed.Begin.TheVariants as begin
 use Rattle.wc_plan.specs.declared.deed.Deed.{Deed}
@@ -30,7 +28,6 @@ use Rattle.wc_plan.specs.Plans.{Plans, IsReadyDeed, IsReadyWork}
 use Rattle.wc_plan.specs.Replies.{refuses, OwesStatus, Writes}
 use Rattle.wc_act.specs.Statuses.{IsDoneOrFull}
 use Rattle.wc_act.specs.Events.{TellsAlone}
-use Rattle.wc_act.specs.Drills.{EndsAt, HasEnded, IsToldDrilled, has_drilled}
 use Rattle.wc_act.specs.Rows.{HasHappened, row, work_row}
 use Rattle.wc_act.specs.StoreDeeds.{Images, Hold, is_damaged, is_full}
 use Rattle.wc_plan.proofs.Planned.{plan_ready}
@@ -81,22 +78,13 @@ work_acknowledged law (work.Event a) ready before w after r held ok (inr u) = �
 work_acknowledged law (work.Run o) ready before w after r held ok runs = (runs.later, runs.held, tt)
 work_acknowledged law work.Pack ready before w after r held ok packs = (w, packs.0, tt)
 
--- a drill whose status is Ok has run to its end
-drill_ended : (seed count : ℕ) (w : World) (r : Reply) → HasEnded seed count w r → r.status ≡ status.Ok → IsToldDrilled seed count r.text w
-drill_ended seed count w r h ok = ended h.end h.ends h.reply
-  where
-    ended : (e : RunEnd) → EndsAt seed count w e → r ≡ has_drilled seed count w e → IsToldDrilled seed count r.text w
-    ended AllEnded ends reply = (ends, ap (λ (x : Reply). x.text) reply)
-    ended Spent ends reply = let both : status.Spent ≡ status.Ok = sym (ap (λ (x : Reply). x.status) reply) ∙ ok in absurd (cc)
-    ended Resting ends reply = let both : status.Resting ≡ status.Ok = sym (ap (λ (x : Reply). x.status) reply) ∙ ok in absurd (cc)
-
 row_acknowledged : HeldIsReached → (d : Deed) → IsReadyDeed d → (before : Images) (s : Standing) (after : Images) (r : Reply) → Hold before s → r.status ≡ status.Ok
     → (row d).does before s after r → HoldsAcknowledged after ((row d).acknowledges r.text)
 row_acknowledged law (deed.Begin begin.Init) ready before nothing after r held ok at = (empty, at.0.held, tt)
 row_acknowledged law (deed.Begin begin.Init) ready before (damage disk place found) after r held ok at = absurd (not_damaged disk place found r at.1 ok)
 row_acknowledged law (deed.Begin begin.Init) ready before (a_world w) after r held ok at = absurd (not_refused cause.StoreExists r at.1 ok)
 row_acknowledged law (deed.Begin (begin.Drill seed count)) ready before nothing after r held ok at =
-    (at.world, at.held, ⊎_elim (λ ended. drill_ended seed count at.world r ended ok) (λ full. absurd (not_full full.what full.many full.limit r full.reply ok)) at.ends)
+    (at.world, at.held, ⊎_elim (λ ended. (ended.ends, ap (λ (x : Reply). x.text) ended.reply)) (λ full. absurd (not_full full.what full.many full.limit r full.reply ok)) at.ends)
 row_acknowledged law (deed.Begin (begin.Drill seed count)) ready before (damage disk place found) after r held ok at = absurd (not_damaged disk place found r at.1 ok)
 row_acknowledged law (deed.Begin (begin.Drill seed count)) ready before (a_world w) after r held ok at = absurd (not_refused cause.StoreExists r at.1 ok)
 row_acknowledged law (deed.Work k) ready before nothing after r held ok at = absurd (not_refused cause.NoStore r at.1 ok)

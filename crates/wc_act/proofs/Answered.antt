@@ -1,6 +1,8 @@
 -- What is owed for words, and counted, where they plan a reply or a deed.
-use Rattle.std.proofs.Common.{◌≡◌, ℕ, List, Option, Result, Ok, Err, refl, sym, ap, subst}
+use Rattle.std.proofs.Common.{◌≡◌, inl, inr, ⊎_elim, ℕ, List, Option, Result, Ok, Err, refl, sym, ap, subst}
+use Rattle.std.specs.Prelude.{IfErr}
 use Rattle.std.specs.Result.{IsErr, IsErrAnd}
+use Rattle.wc_disk.specs.declared.disk.Disk as disk
 use Rattle.wc_cli.specs.Words.{command_of}
 use Rattle.wc_plan.specs.declared.deed.Deed.{Deed}
 use Rattle.wc_plan.specs.declared.deed.Plan.TheVariants as plan
@@ -15,6 +17,8 @@ use Rattle.wc_plan.specs.declared.status.Status.{Status}
 use Rattle.wc_plan.specs.declared.status.Status.TheVariants as status
 use Rattle.wc_plan.specs.Counts.{CountsShelf}
 use Rattle.wc_act.specs.Counts.{CountsDisks, CountsReply, of_plan, of_act, status_of}
+use Rattle.wc_act.specs.Aborted.{Aborts, ServesAborted}
+use Rattle.wc_act.specs.Exchanges.{Exchange}
 use Rattle.wc_act.specs.Owed.{LeaveUndone}
 use Rattle.wc_plan.specs.Plans.{Plans}
 use Rattle.wc_act.specs.Rows.{row}
@@ -93,3 +97,14 @@ act_ends P result e fails ends =
 pub act_undone : (told : Option (List ℕ → Option (List ℕ))) (words : List (List ℕ)) (d : Deed) (result : Result Reply ReplyError) (e : ActError) → FailsWith result (of_act e)
     → Plans told (command_of words) (plan.On d) → LeaveUndone told words (status_of result) → EndsWith (row d).undone (Err e)
 act_undone told words d result e fails plans undone = act_ends (row d).undone result e fails (undone d plans)
+
+-- what a deed leaves that has no reply is left of the words that plan it
+pub act_aborts : {D : Type 0} (g : disk.Ghosts D) (told : Option (List ℕ → Option (List ℕ))) (words : List (List ℕ)) (x : Exchange) (d : Deed) (one two one_new two_new : D) (A B idle : Type 0)
+    (result : Result Reply ReplyError) (e : ActError) → FailsWith result (of_act e) → Plans told (command_of words) (plan.On d)
+    → (A → B → Aborts g x d one two one_new two_new (ended_by e) idle)
+    → IfErr result (λ y. A → B → ServesAborted g told words x one two one_new two_new (status_of result) idle)
+act_aborts g told words x d one two one_new two_new A B idle result e fails plans aborts =
+    subst (λ (r : Result Reply ReplyError). IfErr r (λ y. A → B → ServesAborted g told words x one two one_new two_new (status_of r) idle)) (fails_is result (of_act e) fails)
+    (λ tells tells_too.
+    subst (λ (s : Status). ServesAborted g told words x one two one_new two_new s idle) (sym (act_ended e))
+    (⊎_elim (λ none. inl none) (λ left. inr (d, plans, left)) (aborts tells tells_too)))

@@ -9,9 +9,8 @@ use Rattle.wc_store.specs.Held.{IsHeld, nothing, damage, a_world}
 use Rattle.wc_store.specs.declared.place.Place.TheVariants.{One}
 use Rattle.wc_store.specs.Sights.{OfImages}
 use Rattle.wc_store.specs.Stores.{HoldsAWorld}
-use Rattle.wc_runner.specs.Leaves.{SomeTurns}
-use Rattle.wc_runner.specs.Trips as trips
-use Rattle.wc_runner.specs.declared.runs.RunEnd.TheVariants.{AllEnded, Spent, Resting}
+use Rattle.wc_drill.specs.Runner.Leaves.{SomeTurns}
+use Rattle.wc_drill.specs.Runner.Trips as trips
 use Rattle.wc_drill.specs.Draws.{sum_of_squares}
 use Rattle.wc_drill.specs.Texts.{drilled_text}
 use Rattle.wc_drill.specs.Drilled as drilled
@@ -27,13 +26,12 @@ use Rattle.wc_act.specs.declared.error.ActError.{ActError}
 use Rattle.wc_act.specs.declared.error.ActError.TheVariants as act
 use Rattle.wc_plan.specs.declared.reply.Reply.{Reply}
 use Rattle.wc_plan.specs.declared.status.Cause.TheVariants as cause
-use Rattle.wc_plan.specs.declared.status.Status.TheVariants as status
 use Rattle.wc_act.specs.Crashes.{AreDurable, ComesOfNothing, Kept, LeavesKept}
-use Rattle.wc_act.specs.Drills.{HasEnded, FillsUp, broken_reply, stopped}
+use Rattle.wc_act.specs.Drills.{HasEnded, FillsUp, broken_reply}
 use Rattle.wc_act.specs.Owed.{visit, Done, OwedDeed}
 use Rattle.wc_plan.specs.Replies.{refuses, prints}
 use Rattle.wc_act.specs.Statuses.{IsDoneOrFull}
-use Rattle.wc_act.specs.Rows.{Stays, row}
+use Rattle.wc_act.specs.Rows.{MakesNothing, row}
 use Rattle.wc_act.specs.StoreDeeds.{Images, is_damaged, is_full}
 use Rattle.wc_act.specs.Undone.{EndsWith, IsBeforeTurns, LeavesUnwritten}
 use Rattle.wc_act.proofs.Doing.{some_is}
@@ -61,7 +59,7 @@ comes_of_drill : DrillsAreSound → (seed count : ℕ) (one two a b : List ℕ) 
 comes_of_drill law seed count one two a b h = record {
   before = h.before;
   some = (empty, none_submitted seed count);
-  held = ⊎_elim (λ none. inl none) (λ d. inr (d.0, d.2, d.1, law seed count d.0 d.1)) h.held;
+  held = ⊎_elim (λ none. inl none) (λ d. inr (record { world = d.0; held = d.2; begun = d.1; sound = law seed count d.0 d.1 })) h.held;
 }
 
 -- ---- what is told
@@ -101,7 +99,7 @@ module _ {D : Type 0} (g : disk.Ghosts D) (seed count : ℕ) (one two one_new tw
       → r ≡ prints (drilled_text count (sum_of_squares count seed) batches) → Owes r
   has_drilled batches r done reply =
       filled done.0 done.3.0 r done.3.1
-      (inl (record { end = AllEnded; ends = done.1; reply = reply ∙ ap (λ (n : ℕ). prints (drilled_text count (sum_of_squares count seed) n)) done.2 }))
+      (inl (record { ends = done.1; reply = reply ∙ ap (λ (n : ℕ). prints (drilled_text count (sum_of_squares count seed) n)) done.2 }))
 
   -- or wasn't begun
   unbegun : (r : Reply) (P : List ℕ → List ℕ → Type 0) → OfImages g one two P
@@ -126,10 +124,6 @@ module _ {D : Type 0} (g : disk.Ghosts D) (seed count : ℕ) (one two one_new tw
   refused_drill error.AlreadyThere (Ok r) refused seen_two leaves reply =
       unbegun r HoldsAWorld refused (λ told told_too. ((leaves told told_too).1, seen_two told told_too))
       (λ before after h. (a_world h.1.0, h.1.1, (h.0, sym (some_is (refuses cause.StoreExists) r reply))))
-  refused_drill error.Spent (Ok r) refused seen_two leaves reply =
-      filled refused.0 refused.2.0 r refused.2.1 (inl (record { end = Spent; ends = refused.1; reply = sym (some_is (stopped status.Spent) r reply) }))
-  refused_drill error.Resting (Ok r) refused seen_two leaves reply =
-      filled refused.0 refused.2.0 r refused.2.1 (inl (record { end = Resting; ends = refused.1; reply = sym (some_is (stopped status.Resting) r reply) }))
   refused_drill error.OutOfMemory (Ok r) refused seen_two leaves reply = absurd (cc)
 
   -- ---- what stands
@@ -143,8 +137,6 @@ module _ {D : Type 0} (g : disk.Ghosts D) (seed count : ℕ) (one two one_new tw
   told_done (error.Damaged disk at found) r reply done = subst (λ (x : Reply). IsDoneOrFull x.status) (some_is r (is_damaged disk at found) (sym reply)) done
   told_done (error.Full what many limit) r reply done = tt
   told_done error.AlreadyThere r reply done = subst (λ (x : Reply). IsDoneOrFull x.status) (some_is r (refuses cause.StoreExists) (sym reply)) done
-  told_done error.Spent r reply done = tt
-  told_done error.Resting r reply done = tt
   told_done error.OutOfMemory r reply done = absurd (cc)
 
   pub refused_durable : {E : Type 0} (e : DrillError) (result : Result Reply E)
@@ -158,11 +150,11 @@ module _ {D : Type 0} (g : disk.Ghosts D) (seed count : ℕ) (one two one_new tw
   module _ (counts : (d : D) (t : ℕ) (image : List ℕ) → t ≤ g.moment d → g.may_leave d image → g.left_since d t image) where
     -- disk two is not written
     pub drill_leaves : DrillsAreSound → LeavesOnly g one one_new (DrilledBeside g seed count one two two_new) → LeavesOnly g two two_new (g.may_leave two)
-        → LeavesKept g (Drills seed count) Stays one two one_new two_new
+        → LeavesKept g (Drills seed count) MakesNothing one two one_new two_new
     drill_leaves law first second =
         inr (record {
           rest_only = second;
-          own_only = weaker_run g one one_new (DrilledBeside g seed count one two two_new) (λ a. (b : List ℕ) → g.may_leave two_new b → Kept g (Drills seed count) Stays one two a b) first
+          own_only = weaker_run g one one_new (DrilledBeside g seed count one two two_new) (λ a. (b : List ℕ) → g.may_leave two_new b → Kept g (Drills seed count) MakesNothing one two a b) first
               (λ a left b now.
               ⊎_elim (λ was. inl (was, second.each b (counts two_new (g.moment two) b second.later now)))
               (λ beside. inr (inl (comes_of_drill law seed count (g.seen one) (g.seen two) a b (beside b now)))) left);
@@ -180,8 +172,4 @@ module _ {D : Type 0} (g : disk.Ghosts D) (seed count : ℕ) (one two one_new tw
         absurd (subst (λ (x : Reply). IsBeforeTurns x.status) (some_is r (is_full what many limit) (sym reply)) ends)
     refused_unwritten reads reads_too reads_new reads_new_too error.AlreadyThere leaves seen_too (Ok r) reply ends =
         (images_again g counts one two one_new two_new reads reads_too reads_new reads_new_too leaves.0, leaves.1, seen_too)
-    refused_unwritten reads reads_too reads_new reads_new_too error.Spent leaves seen_too (Ok r) reply ends =
-        absurd (subst (λ (x : Reply). IsBeforeTurns x.status) (some_is r (stopped status.Spent) (sym reply)) ends)
-    refused_unwritten reads reads_too reads_new reads_new_too error.Resting leaves seen_too (Ok r) reply ends =
-        absurd (subst (λ (x : Reply). IsBeforeTurns x.status) (some_is r (stopped status.Resting) (sym reply)) ends)
     refused_unwritten reads reads_too reads_new reads_new_too error.OutOfMemory leaves seen_too (Ok r) reply ends = absurd (cc)

@@ -1,5 +1,5 @@
 -- What an event makes of a store.
-use Rattle.std.proofs.Common.{◌≡◌, ◌⊎◌, inl, inr, ◌++◌, ◌≤◌, ◌+◌, ℕ, suc, true, false, List, [], ◌∷◌, length, map, Result, Ok, Err, Option, Some, None, IfOk, IsTrue, refl, sym, ap, subst, ◌∙◌, arith, lit≤}
+use Rattle.std.proofs.Common.{◌≡◌, ◌⊎◌, ◌↔◌, inl, inr, ◌++◌, ◌≤◌, ◌+◌, ℕ, suc, true, false, List, [], ◌∷◌, length, map, Result, Ok, Err, Option, Some, None, IfOk, IsErrOf, IsTrue, refl, sym, ap, subst, ◌∙◌, arith, lit≤}
 use Rattle.std.specs.Prelude.{◌≢◌, ◌==◌, All, IsSome}
 use Rattle.std.specs.List.{AllByRecursion}
 use Rattle.std.proofs.lemmas.Bool.{eq-eqb, eqb-true}
@@ -12,6 +12,7 @@ use Rattle.wc_syntax.specs.Findings.{head_of}
 use Rattle.wc_syntax.specs.declared.definition.Definition.{Definition}
 use Rattle.wc_meaning.specs.Inputs.{bad_input}
 use Rattle.wc_graph.specs.declared.link.LinkType.{LinkType}
+use Rattle.wc_journal.specs.declared.journal.Journal.{Journal}
 use Rattle.wc_semantics.specs.Rules.{Values}
 use Rattle.wc_state.specs.declared.record.What.{What}
 use Rattle.wc_world.specs.declared.change.Change.{Change}
@@ -31,9 +32,9 @@ use Rattle.wc_store.specs.declared.error.StoreError.TheVariants as error
 use Rattle.wc_store.specs.declared.store.Store.{Store}
 use Rattle.wc_store.specs.Held.{is_plain, a_world}
 use Rattle.wc_store.specs.Stepped.{IsCommitted}
-use Rattle.wc_store.specs.Stores.{StandsFor, HasImages}
+use Rattle.wc_store.specs.Stores.{StandsFor, HasImages, IsLonger}
 use Rattle.wc_machine.specs.Machine.{Event, pause, play, kill, submits as submits_by}
-use Rattle.wc_runner.specs.CoreRefusals.{RefusesMark}
+use Rattle.wc_drill.specs.Runner.CoreRefusals.{RefusesMark}
 use Rattle.wc_machine.proofs.Submitted.{data_node, new_nodes, submission_gives}
 use Rattle.wc_act.proofs.Asking.{submission_some, submits_of}
 use Rattle.wc_world.specs.Records.{kind_of_definition, process_node}
@@ -45,15 +46,19 @@ use Rattle.wc_plan.specs.declared.status.Cause.TheVariants as cause
 use Rattle.wc_plan.specs.declared.submission.Submission.{Submission}
 use Rattle.wc_act.specs.Crashes.{AreDurable, Keeps}
 use Rattle.wc_act.specs.Entries.{IsStorable}
-use Rattle.wc_act.specs.Events.{Changes, RefusesAsked, IsRefusedFor, IsMadeBy, OverlongIn, TellsAlone, TellsFull, IsLine, line_of, limits_of, process_of}
+use Rattle.wc_act.specs.Events.{Changes, RefusesAsked, IsRefusedFor, IsMadeBy, MayHappen, OverlongIn, TellsAlone, TellsFull, IsLine, line_of, limits_of, process_of}
 use Rattle.wc_plan.specs.Replies.{prints, refuses}
-use Rattle.wc_act.specs.StoreDeeds.{Images, Hold, greatest_limits, is_full}
+use Rattle.wc_act.specs.StoreDeeds.{GoesOn, Images, Hold, greatest_limits, is_full}
+use Rattle.wc_act.specs.Undone.{IsUnbroken}
+use Rattle.wc_act.specs.declared.error.ActError.{ActError}
+use Rattle.wc_act.specs.declared.error.ActError.TheVariants.{DiskFault}
 use Rattle.wc_act.specs.Opened.{IsTold, process_reply, store_reply, turn_reply}
 use Rattle.wc_act.specs.Owed.{visit, DoneOn, OfVisit}
 use Rattle.wc_act.specs.Rows.{event_row}
 use Rattle.wc_plan.specs.Plans.{IsReadyAsked}
 use Rattle.wc_plan.specs.Submits.{IsReady, IsWithinLimits}
 use Rattle.wc_act.proofs.Doing.{some_is}
+use Rattle.wc_act.proofs.Told.{unbroken_whole}
 use Rattle.wc_act.proofs.Visiting.{AreOfStores, AreStill, are_still, goes_on_journal, journal_of_images, visit_as}
 
 -- ---- limits
@@ -106,8 +111,19 @@ result_submitted w s (Ok cs) reached submits accepted continues sound room =
     }
 result_submitted w s (Err e) reached submits accepted continues sound room = submits
 
-pub made_by : (a : Asked) (w : World) (cs : List Change) → IsStorable a w cs → IsMadeBy a w (applied w cs)
-made_by a w cs s = record { changes = cs; leads = s.leads; some = s.some; accepted = s.accepted; after = refl; nodes = s.room.0 }
+made_by : (a : Asked) (journal : Journal) (w : World) (cs : List Change) (next : Journal) → IsStorable a w cs → IsLonger (limits_of a) journal cs next
+    → IsMadeBy a journal w (applied w cs) next
+made_by a journal w cs next s longer =
+    record { changes = cs; leads = s.leads; some = s.some; accepted = s.accepted; after = refl; nodes = s.room.0; longer = longer }
+
+-- before its changes are stored, and after
+pub not_yet : (a : Asked) (before after : Images) (w : World) (journal next : Journal) → GoesOn before after journal next → next.end ≡ journal.end → MayHappen a before w w after
+not_yet a before after w journal next goes same = record { journal = journal; next = next; goes = goes; made = inl (refl, same) }
+
+pub then_made : (a : Asked) (before after : Images) (w : World) (cs : List Change) (journal next : Journal) → IsStorable a w cs → GoesOn before after journal next
+    → IsLonger (limits_of a) journal cs next → MayHappen a before w (applied w cs) after
+then_made a before after w cs journal next storable goes longer =
+    record { journal = journal; next = next; goes = goes; made = inr (made_by a journal w cs next storable longer) }
 
 -- ---- no changes
 
@@ -286,15 +302,8 @@ module _ {D : Type 0} (g : disk.Ghosts D) where
   refused_entry a store cs error.OutOfMemory one two one_new two_new (Ok r) stands images storable refused same same_too reply = absurd (cc)
 
   -- a store that isn't as a disk failed stands for its disks
-  pub refused_durable : {E : Type 0} (T : Type 0) (e : StoreError) (new : Store) (A B : Type 0) (one_new two_new : D) (result : Result Reply E) → IfOk result (λ r. store_reply e ≡ Some r)
-      → new.live ≡ is_live_after {T = T} (Err e) true → (new.live ≡ true → A → B → StandsFor g new one_new two_new)
-      → IfOk result (λ r. A → B → AreDurable g one_new two_new)
-  refused_durable T e new A B one_new two_new (Err x) reply live stands = reply
-  refused_durable T error.DiskFault new A B one_new two_new (Ok r) reply live stands = absurd (cc)
-  refused_durable T (error.Damaged disk at found) new A B one_new two_new (Ok r) reply live stands =
-      λ told told_too. let s = stands live told told_too in record { durable_one = s.durable_one; durable_two = s.durable_two }
-  refused_durable T (error.Full what count limit) new A B one_new two_new (Ok r) reply live stands =
-      λ told told_too. let s = stands live told told_too in record { durable_one = s.durable_one; durable_two = s.durable_two }
-  refused_durable T error.AlreadyThere new A B one_new two_new (Ok r) reply live stands =
-      λ told told_too. let s = stands live told told_too in record { durable_one = s.durable_one; durable_two = s.durable_two }
-  refused_durable T error.OutOfMemory new A B one_new two_new (Ok r) reply live stands = absurd (cc)
+  pub refused_durable : (T : Type 0) (e : StoreError) (new : Store) (A B : Type 0) (one_new two_new : D) (result : Result Reply ActError) → IsErrOf result DiskFault ↔ (e ≡ error.DiskFault)
+      → (is_live_after {T = T} (Err e) true ≡ true → A → B → StandsFor g new one_new two_new) → IsUnbroken result → A → B → AreDurable g one_new two_new
+  refused_durable T e new A B one_new two_new result iff stands unbroken told told_too =
+      let s = stands (unbroken_whole T e result iff unbroken) told told_too in
+      record { durable_one = s.durable_one; durable_two = s.durable_two }

@@ -8,15 +8,15 @@ use Rattle.wc_world.specs.World.{World}
 use Rattle.wc_machine.specs.Sound.{IsSound}
 use Rattle.wc_store.specs.declared.store.Store.{Store}
 use Rattle.wc_store.specs.Stores.{StandsFor}
-use Rattle.wc_runner.specs.declared.error.RunError.TheVariants as run_error
-use Rattle.wc_runner.specs.declared.runs.RunEnd.{RunEnd}
-use Rattle.wc_runner.specs.declared.runs.RunEnd.TheVariants.{AllEnded, Spent, Resting}
-use Rattle.wc_runner.specs.Asked.{AreOfProcesses, IsAskedFor}
-use Rattle.wc_runner.specs.Codes.{AreBrought}
-use Rattle.wc_runner.specs.Marks.{AreNoWorse}
-use Rattle.wc_runner.specs.Outside.{Outside}
-use Rattle.wc_runner.specs.Refusals.{IsFullAt}
-use Rattle.wc_runner.specs.Runs.{EndsAs, TakesAll, TakesFewer, TakesUpTo}
+use Rattle.wc_drill.specs.Runner.declared.error.RunError.TheVariants as run_error
+use Rattle.wc_drill.specs.Runner.declared.runs.RunEnd.{RunEnd}
+use Rattle.wc_drill.specs.Runner.declared.runs.RunEnd.TheVariants.{AllEnded, Spent, Resting}
+use Rattle.wc_drill.specs.Runner.Asked.{AreOfProcesses, IsAskedFor}
+use Rattle.wc_drill.specs.Runner.Codes.{AreBrought}
+use Rattle.wc_drill.specs.Runner.Marks.{AreNoWorse}
+use Rattle.wc_drill.specs.Runner.Outside.{Outside}
+use Rattle.wc_drill.specs.Runner.Refusals.{IsFullAt}
+use Rattle.wc_drill.specs.Runner.Runs.{EndsAs, TakesAll, TakesFewer, TakesUpTo}
 use Rattle.wc_cli.specs.declared.command.Command.{Command}
 use Rattle.wc_cli.specs.declared.command.Command.TheVariants.{Dry, Check, Init, Submit, Run, View, Pause, Play, Kill, Pack, Drill, Query}
 use Rattle.wc_plan.specs.declared.deed.Deed.{Deed}
@@ -29,7 +29,8 @@ use Rattle.wc_plan.specs.declared.reply.Reply.{Reply}
 use Rattle.wc_plan.specs.declared.status.Cause.{Cause}
 use Rattle.wc_plan.specs.declared.status.Status.{Status}
 use Rattle.wc_plan.specs.declared.status.Status.TheVariants as status
-use Rattle.wc_act.specs.Outside.{Exchange, AsksByTurns, FillsOutside, RunsOutside, WorksOutside, turns_of, TakesNoTurns, IsIdle, IsNoRun}
+use Rattle.wc_act.specs.Exchanges.{Exchange}
+use Rattle.wc_act.specs.Outside.{AsksByTurns, FillsOutside, RunsOutside, WorksOutside, turns_of, TakesNoTurns, IsIdle, IsNoRun}
 use Rattle.wc_plan.specs.Plans.{Plans, plan_of_run, seed_of}
 use Rattle.wc_plan.specs.Replies.{OwesStatus}
 use Rattle.wc_act.specs.Statuses.{IsDoneOrFull}
@@ -40,10 +41,10 @@ use Rattle.wc_act.proofs.Idle.{plan_idle}
 
 -- ---- how often the transport is asked
 
-no_deed : (d : Deed) (r : Reply) → plan.On d ≡ plan.Reply r → ⊥
+pub no_deed : (d : Deed) (r : Reply) → plan.On d ≡ plan.Reply r → ⊥
 no_deed d r is = cc
 
-same_deed : (d e : Deed) → plan.On d ≡ plan.On e → d ≡ e
+pub same_deed : (d e : Deed) → plan.On d ≡ plan.On e → d ≡ e
 same_deed d e is = cc
 
 module _ {T : Type 0} (g : transport.Ghosts T) where
@@ -152,15 +153,18 @@ module _ {D : Type 0} (g : disk.Ghosts D) (e : Exchange) (o : RunOptions) (w : W
     (takes : TakesUpTo (e.sees o.limits) o.turns w new.world.world e.rests e.rests_new) (codes : IsSound w → AreBrought (e.sees o.limits) w new.world.world)
     (marks : ¬ (e.sees o.limits).failed → AreNoWorse w new.world.world) (directories : AreOfProcesses e.placed w → AreOfProcesses e.placed_new new.world.world) where
   -- a run came to its end
-  pub ended_outside : (end : RunEnd) → EndsAs (e.sees o.limits) o.turns w new.world.world e.rests e.rests_new end → e.completes o.limits o.turns w end new.world.world
+  pub ended_outside : (end : RunEnd) → EndsAs (e.sees o.limits) o.turns w new.world.world e.rests e.rests_new end → e.went o.limits o.seed o.turns w (Ok end) new.journal new.world.world
       → r ≡ has_run end w new.world.world → RunsOutside e o w (g.seen one, g.seen two) r.status
   ended_outside end ends trail reply =
       let same : status_of end ≡ r.status = sym (ap (λ (x : Reply). x.status) reply) in
       record {
         later = new.world.world;
         held = stands.held;
+        journal = new.journal;
+        kept = journal_of_images new (g.seen one, g.seen two) (seen_images g new one two stands);
         takes = takes;
-        trail = λ other is. subst (λ (x : RunEnd). e.completes o.limits o.turns w x new.world.world) (same_end end other (same ∙ is)) trail;
+        trail = λ other is. subst (λ (x : RunEnd). e.went o.limits o.seed o.turns w (Ok x) new.journal new.world.world) (same_end end other (same ∙ is)) trail;
+        ends = λ other is. subst (EndsAs (e.sees o.limits) o.turns w new.world.world e.rests e.rests_new) (same_end end other (same ∙ is)) ends;
         spent = λ is. all_spent (e.sees o.limits) o.turns w new.world.world e.rests e.rests_new end ends (same ∙ is);
         full = λ what count limit is. absurd (end_not_full end what count limit (same ∙ is));
         codes = codes;
@@ -170,7 +174,7 @@ module _ {D : Type 0} (g : disk.Ghosts D) (e : Exchange) (o : RunOptions) (w : W
 
   -- or found the store full
   pub filled_outside : (what : What) (count limit : ℕ) → TakesFewer (e.sees o.limits) o.turns w new.world.world e.rests e.rests_new
-      → IsFullAt (e.sees o.limits) new (run_error.Full what count limit) → e.breaks o.limits o.turns w new.journal (run_error.Full what count limit) new.world.world
+      → IsFullAt (e.sees o.limits) new (run_error.Full what count limit) → e.went o.limits o.seed o.turns w (Err (run_error.Full what count limit)) new.journal new.world.world
       → r ≡ is_full what count limit → RunsOutside e o w (g.seen one, g.seen two) r.status
   filled_outside what count limit fewer refused broken reply =
       let same : status.Full what count limit ≡ r.status = sym (ap (λ (x : Reply). x.status) reply) in
@@ -185,8 +189,11 @@ module _ {D : Type 0} (g : disk.Ghosts D) (e : Exchange) (o : RunOptions) (w : W
       record {
         later = new.world.world;
         held = stands.held;
+        journal = new.journal;
+        kept = journal_of_images new (g.seen one, g.seen two) (seen_images g new one two stands);
         takes = takes;
         trail = λ end is. absurd (end_not_full end what count limit (sym (same ∙ is)));
+        ends = λ end is. absurd (end_not_full end what count limit (sym (same ∙ is)));
         spent = λ is. absurd (full_not_spent what count limit (same ∙ is));
         full = λ what' count' limit' is. as_told e o w new.world.world (g.seen one, g.seen two) what what' count count' limit limit' (same ∙ is) fills;
         codes = codes;

@@ -3,8 +3,10 @@ use Rattle.std.proofs.Common.{◌≡◌, ◌≤◌, inl, inr, ⊎_elim, ℕ, Lis
 use Rattle.wc_disk.specs.declared.disk.Disk as disk
 use Rattle.wc_disk.specs.Images.{LeavesOnly}
 use Rattle.wc_disk.proofs.Runs.{no_call, both_runs, weaker_run}
+use Rattle.wc_io.specs.declared.pacer.Pacer as pacer
 use Rattle.wc_journal.specs.declared.journal.Journal.{Journal}
 use Rattle.wc_state.specs.declared.record.Limits.{Limits}
+use Rattle.wc_transport.specs.declared.transport.Transport as transport
 use Rattle.wc_world.specs.World.{World, empty}
 use Rattle.wc_world.specs.Applied.{applied}
 use Rattle.wc_world.specs.declared.change.Change.{Change}
@@ -12,32 +14,30 @@ use Rattle.wc_world.specs.Accepted.{IsReached, nothing}
 use Rattle.wc_machine.proofs.EmptyWorld.{empty_is_sound}
 use Rattle.wc_store.specs.declared.error.StoreError.{StoreError}
 use Rattle.wc_store.specs.declared.store.Store.{Store}
+use Rattle.wc_store.specs.Choices.{Choice, chosen, on}
 use Rattle.wc_store.specs.Held.{Standing, IsHeld, a_world}
 use Rattle.wc_store.specs.declared.place.Place.{Place}
 use Rattle.wc_store.specs.declared.place.Place.TheVariants.{One, Two}
-use Rattle.wc_store.specs.Places.{its}
-use Rattle.wc_store.specs.Stepped.{InGeneration, IsCommitted, IsOrCommitted, LeavesHeld}
-use Rattle.wc_store.specs.Stores.{other, StandsFor, HoldsBy, PackLeaves, InTwoParts, AreImages, BeginsFrom, InitLeaves}
-use Rattle.wc_store.proofs.Parts.{then_none, then_pack, then_worlds, weaker_parts, OfInit, init_parts}
+use Rattle.wc_store.specs.Places.{its, number_of}
+use Rattle.wc_store.specs.Stepped.{HoldsSome, InGeneration, IsCommitted, IsOrCommitted, LeavesHeld}
+use Rattle.wc_store.specs.Stores.{other, StandsFor, ChoosesAs, HoldsAs, HoldsBy, IsLonger, PackLeaves, InTwoParts, AreImages, BeginsFrom, InitLeaves}
+use Rattle.wc_store.proofs.Parts.{As, then_none, then_own, then_pack, weaker_parts, OfInit, init_parts}
 use Rattle.wc_store.specs.Laws.{HeldIsReached}
-use Rattle.wc_runner.specs.Laws.{StaysSound, TurnsKeepSound, WorldsContinueThemselves}
-use Rattle.wc_runner.proofs.Continuing.{continues_itself}
-use Rattle.wc_runner.specs.Outside.{Outside}
-use Rattle.wc_runner.specs.Runs.{FitsIn, TakesTurns, TakesWithin}
-use Rattle.wc_act.specs.Crashes.{Keeps, HoldsKeeping, ComesOfNothing, Kept, WritesOne, LeavesPairs, LeavesKept}
+use Rattle.wc_drill.specs.Runner.Laws.{StaysSound, TurnsKeepSound, WorldsContinueThemselves}
+use Rattle.wc_drill.specs.Runner.Leaves.{IsLedWithin}
+use Rattle.wc_drill.specs.Runner.Outside.{in_run}
+use Rattle.wc_drill.proofs.Runner.Continuing.{continues_itself}
+use Rattle.wc_drill.proofs.Runner.Led.{led_is_taken}
 use Rattle.wc_plan.specs.declared.deed.RunOptions.{RunOptions}
-use Rattle.wc_act.specs.Runs.{widest}
+use Rattle.wc_act.specs.Crashes.{Keeps, HoldsKeeping, ComesOfNothing, Kept, WritesOne, LeavesPairs, LeavesKept}
+use Rattle.wc_act.specs.Exchanges.{exchange}
+use Rattle.wc_act.specs.Rows.{IsEmpty, MakesNothing, StaysMoving, TakesSome}
+use Rattle.wc_act.specs.StoreDeeds.{GoesOn, HasJournal, Images}
 use Rattle.wc_act.proofs.Moments.{at_moments}
-use Rattle.wc_act.proofs.Widening.{some_turns}
-use Rattle.wc_act.specs.Rows.{IsEmpty, Stays, TakesSome}
-use Rattle.wc_act.specs.StoreDeeds.{HasJournal, Images}
+use Rattle.wc_act.proofs.Visiting.{journal_of_images, seen_images}
 
 pub keeps_itself : WorldsContinueThemselves → (w : World) → IsReached w → Keeps w w
 keeps_itself law w reached sound = record { sound = sound; continues = law w reached; reached = reached }
-
-pub images_hold : (one two a b : List ℕ) (s : Standing) → IsHeld one two s → AreImages one two a b → IsHeld a b s
-images_hold one two a b s held are =
-    subst (λ (x : List ℕ). IsHeld a x s) (sym are.1) (subst (λ (x : List ℕ). IsHeld x two s) (sym are.0) held)
 
 -- ---- a store that is begun
 
@@ -45,32 +45,34 @@ images_hold one two a b s held are =
 pub empty_stays : StaysSound empty empty
 empty_stays = record { sound = empty_is_sound; continues = continues_itself empty nothing; reached = nothing }
 
+-- ---- what images hold
+
+-- of images at the place and beside it, as those of disk one and disk two
+held_pair : (place : Place) (a b : List ℕ) (s : Standing) → HoldsAs place (its place a b) (other place a b) s → IsHeld a b s
+held_pair One a b s h = h
+held_pair Two a b s h = h
+
+pub chosen_pair : (place : Place) (a b : List ℕ) (c : Choice) → ChoosesAs place (its place a b) (other place a b) c → chosen a b ≡ c
+chosen_pair One a b c h = h
+chosen_pair Two a b c h = h
+
+-- a journal by which the images at the place and beside it hold a world
+abbrev pub journal_pair : (place : Place) (a b : List ℕ) (v : World) (journal : Journal) → HoldsBy place (its place a b) (other place a b) v journal
+    → HasJournal (a, b) journal
+journal_pair place a b v journal h = record { place = place; batches = h.batches; chooses = chosen_pair place a b (on (number_of place) journal.version journal.generation h.batches) h.chooses; end = h.end }
+
+-- the images hold a world, by a journal at the place, of which Q holds, and the other disk has the one of these that is its own
+abbrev HoldsWorld : Place → (World → Journal → Type 0) → (one two a b : List ℕ) → Type 0
+HoldsWorld place Q one two a b =
+    (other place a b ≡ other place one two) × ((w : World) × (journal : Journal) × Q w journal × HoldsBy place (its place a b) (other place a b) w journal)
+
 -- a store is begun with the empty world
 begins_empty : (one two a b : List ℕ) → BeginsFrom one two a b → ComesOfNothing IsEmpty one two a b
 begins_empty one two a b begins = record {
   before = begins.before;
   some = (empty, refl);
-  held = ⊎_elim (λ none. inl none) (λ held. inr (empty, held, refl, empty_stays)) begins.held;
+  held = ⊎_elim (λ none. inl none) (λ held. inr (record { world = empty; held = held; begun = refl; sound = empty_stays })) begins.held;
 }
-
--- ---- what a run makes
-
--- the images at the place and beside it hold a world, by a journal
-holds_pair : (place : Place) (a b : List ℕ) (v : World) (journal : Journal) → HoldsBy place (its place a b) (other place a b) v journal
-    → IsHeld a b (a_world v) × HasJournal (a, b) journal
-holds_pair One a b v journal h = (h.held, record { place = One; batches = h.batches; chooses = h.chooses; end = h.end })
-holds_pair Two a b v journal h = (h.held, record { place = Two; batches = h.batches; chooses = h.chooses; end = h.end })
-
-made_within : (o : Outside) (p : RunOptions) → o.limits ≡ p.limits → (w v : World) (journal : Journal) (a b : List ℕ) → HasJournal (a, b) journal
-    → TakesWithin o p.turns w v journal → TakesSome p w v (a, b)
-made_within o p given w v journal a b kept t =
-    ⊎_elim (λ same. inl same)
-    (λ within.
-    let fits : FitsIn p.limits v journal = subst (λ (l : Limits). FitsIn l v journal) given within in
-    inr (
-      subst (λ (l : Limits). TakesTurns (widest l) p.turns w v) given (some_turns o p.turns w v t.0),
-      record { nodes = fits.0; journal = journal; kept = kept; bytes = fits.1 },
-    )) t.1
 
 -- ---- what is left
 
@@ -97,75 +99,110 @@ module _ {D : Type 0} (g : disk.Ghosts D) (at_now : (d : D) (image : List ℕ) �
     reached : IsReached store.world.world
     reached = reached_law (g.seen one) (g.seen two) store.world.world stands.held
 
+    -- what the disks read as
+    abbrev Seen : Images
+    Seen = (g.seen one, g.seen two)
+
+    abbrev journal_was : HasJournal Seen store.journal
+    journal_was = journal_of_images store Seen (seen_images g store one two stands)
+
     -- of two parts, in which one disk is not written
-    with_one : (makes : World → World → Images → Type 0) (P : List ℕ → List ℕ → Type 0) (one_new two_new : D) → InTwoParts g one two one_new two_new P
-        → ((a b : List ℕ) → P a b → HoldsKeeping makes store.world.world a b) → WritesOne g one two one_new two_new
-        → LeavesPairs g one two one_new two_new (HoldsKeeping makes store.world.world)
+    with_one : (makes : Images → World → World → Images → Type 0) (P : List ℕ → List ℕ → Type 0) (one_new two_new : D) → InTwoParts g one two one_new two_new P
+        → ((a b : List ℕ) → P a b → HoldsKeeping makes Seen store.world.world a b) → WritesOne g one two one_new two_new
+        → LeavesPairs g one two one_new two_new (HoldsKeeping makes Seen store.world.world)
     with_one makes P one_new two_new parts weaker one_writes = record {
-      parts = weaker_parts g at_now one two one_new two_new P (HoldsKeeping makes store.world.world) parts weaker;
+      parts = weaker_parts g at_now one two one_new two_new P (HoldsKeeping makes Seen store.world.world) parts weaker;
       one_writes = one_writes;
     }
 
+    -- the journal goes on where it is
+    goes_nowhere : GoesOn Seen Seen store.journal store.journal
+    goes_nowhere = record { was = journal_was; is = journal_was; place = refl; version = refl; generation = refl; rest = refl }
+
     -- no disk is asked
-    pub standing : (makes : World → World → Images → Type 0) → ((images : Images) → makes store.world.world store.world.world images)
-        → LeavesPairs g one two one two (HoldsKeeping makes store.world.world)
+    pub standing : (makes : Images → World → World → Images → Type 0) → (GoesOn Seen Seen store.journal store.journal → makes Seen store.world.world store.world.world Seen)
+        → LeavesPairs g one two one two (HoldsKeeping makes Seen store.world.world)
     standing makes itself =
         with_one makes (AreImages (g.seen one) (g.seen two)) one two
         (then_none g at_now one two one two (none_asked one) (none_asked two) (g.seen one) (g.seen two) refl refl stands.durable_one stands.durable_two)
         (λ a b are.
-        (store.world.world, images_hold (g.seen one) (g.seen two) a b (a_world store.world.world) stands.held are, itself (a, b), keeps_itself same_law store.world.world reached)) (inl (none_asked one))
+        subst (λ (x : List ℕ). HoldsKeeping makes Seen store.world.world a x) (sym are.1)
+        (subst (λ (x : List ℕ). HoldsKeeping makes Seen store.world.world x (g.seen two)) (sym are.0)
+        (store.world.world, stands.held, itself goes_nowhere, keeps_itself same_law store.world.world reached)))
+        (inl (none_asked one))
 
-    -- a step: the store's disk alone is written, and what P holds of is what the call may make, and keeps the world
-    pub stepping : (P : World → Journal → Type 0) (makes : World → World → Images → Type 0) (one_new two_new : D)
-        → ((v : World) (journal : Journal) (images : Images) → HasJournal images journal → P v journal → makes store.world.world v images × Keeps store.world.world v)
-        → LeavesHeld g store.place P one two one_new two_new → LeavesPairs g one two one_new two_new (HoldsKeeping makes store.world.world)
+    -- an image of the disk at the place, beside what the other one reads as
+    beside : (place : Place) (Q : World → Journal → Type 0) (own : List ℕ) → HoldsSome place Q (g.seen (other place one two)) own
+        → As place (HoldsWorld place Q (g.seen one) (g.seen two)) own (g.seen (other place one two))
+    beside One Q own holds = (refl, holds)
+    beside Two Q own holds = (refl, holds)
+
+    -- a step: the store's disk alone is written, its journal goes on, and what P holds of is what the call may make, and keeps the world
+    pub stepping : (P : World → Journal → Type 0) (makes : Images → World → World → Images → Type 0) (one_new two_new : D)
+        → ((v : World) (journal : Journal) (images : Images) → GoesOn Seen images store.journal journal → P v journal
+        → makes Seen store.world.world v images × Keeps store.world.world v)
+        → LeavesHeld g store.place (InGeneration store.journal P) one two one_new two_new → LeavesPairs g one two one_new two_new (HoldsKeeping makes Seen store.world.world)
     stepping P makes one_new two_new made leaves =
-        with_one makes (λ a b. (v : World) × (journal : Journal) × P v journal × HoldsBy store.place (its store.place a b) (other store.place a b) v journal) one_new two_new
-        (then_worlds g at_now one two one two (none_asked one) (none_asked two) stands.durable_one stands.durable_two store.place P one_new two_new leaves.untouched leaves.each)
+        with_one makes (HoldsWorld store.place (InGeneration store.journal P) (g.seen one) (g.seen two)) one_new two_new
+        (then_own g at_now one two one two (none_asked one) (none_asked two) stands.durable_one stands.durable_two one_new two_new
+        (HoldsWorld store.place (InGeneration store.journal P) (g.seen one) (g.seen two)) store.place (HoldsSome store.place (InGeneration store.journal P) (g.seen (other store.place one two)))
+        leaves.untouched leaves.each (λ image. beside store.place (InGeneration store.journal P) image))
         (λ a b held.
-        let by = holds_pair store.place a b held.0 held.1 held.3 in
-        let is = made held.0 held.1 (a, b) by.1 held.2 in
-        (held.0, by.0, is.0, is.1))
+        let v : World = held.1.0 in
+        let journal : Journal = held.1.1 in
+        let by : HoldsBy store.place (its store.place a b) (other store.place a b) v journal = held.1.3 in
+        let goes : GoesOn Seen (a, b) store.journal journal = record {
+          was = journal_was;
+          is = journal_pair store.place a b v journal by;
+          place = refl;
+          version = held.1.2.version;
+          generation = held.1.2.generation;
+          rest = held.0;
+        } in
+        let is = made v journal (a, b) goes held.1.2.holds in
+        (v, held_pair store.place a b (a_world v) by.held, is.0, is.1))
         (own_writes store.place one two one_new two_new leaves.untouched)
 
     -- a commit
-    pub committed : (makes : World → World → Images → Type 0) (limits : Limits) (cs : List Change) (one_new two_new : D)
-        → ((images : Images) → makes store.world.world store.world.world images) → ((images : Images) → makes store.world.world (applied store.world.world cs) images)
+    pub committed : (makes : Images → World → World → Images → Type 0) (limits : Limits) (cs : List Change) (one_new two_new : D)
+        → ((journal : Journal) (images : Images) → GoesOn Seen images store.journal journal → journal.end ≡ store.journal.end → makes Seen store.world.world store.world.world images)
+        → ((journal : Journal) (images : Images) → GoesOn Seen images store.journal journal → IsLonger limits store.journal cs journal
+        → makes Seen store.world.world (applied store.world.world cs) images)
         → Keeps store.world.world (applied store.world.world cs)
         → LeavesHeld g store.place (InGeneration store.journal (IsOrCommitted limits cs store)) one two one_new two_new
-        → LeavesPairs g one two one_new two_new (HoldsKeeping makes store.world.world)
+        → LeavesPairs g one two one_new two_new (HoldsKeeping makes Seen store.world.world)
     committed makes limits cs one_new two_new itself after keeps =
-        stepping (InGeneration store.journal (IsOrCommitted limits cs store)) makes one_new two_new
-        (λ v journal images kept h. ⊎_elim
-        (λ same. subst (λ (x : World). makes store.world.world x images × Keeps store.world.world x) (sym same.0)
-        (itself images, keeps_itself same_law store.world.world reached))
-        (λ (c : IsCommitted limits cs store v journal). subst (λ (x : World). makes store.world.world x images × Keeps store.world.world x) (sym c.world) (after images, keeps)) h.holds)
+        stepping (IsOrCommitted limits cs store) makes one_new two_new
+        (λ v journal images goes. ⊎_elim
+        (λ same. subst (λ (x : World). makes Seen store.world.world x images × Keeps store.world.world x) (sym same.0)
+        (itself journal images goes same.1, keeps_itself same_law store.world.world reached))
+        (λ (c : IsCommitted limits cs store v journal). subst (λ (x : World). makes Seen store.world.world x images × Keeps store.world.world x) (sym c.world)
+        (after journal images goes c.longer, keeps)))
 
     -- a pack
     pub packed : (one_new two_new : D) → PackLeaves g store.place store.world.world one two one_new two_new
-        → LeavesPairs g one two one_new two_new (HoldsKeeping Stays store.world.world)
+        → LeavesPairs g one two one_new two_new (HoldsKeeping StaysMoving Seen store.world.world)
     packed one_new two_new leaves =
-        with_one Stays (λ a b. IsHeld a b (a_world store.world.world)) one_new two_new
+        with_one StaysMoving (λ a b. IsHeld a b (a_world store.world.world)) one_new two_new
         (then_pack g at_now one two one two (none_asked one) (none_asked two) stands.durable_one stands.durable_two store.place store.world.world one_new two_new leaves)
         (λ a b held. (store.world.world, held, refl, keeps_itself same_law store.world.world reached)) (other_writes store.place one two one_new two_new leaves.untouched)
 
-    -- turns and rests, within the limits that are given
-    pub taken : (P : World → Journal → Type 0) (o : Outside) (p : RunOptions) → TurnsKeepSound o → o.limits ≡ p.limits
-        → ((v : World) (journal : Journal) → P v journal → TakesWithin o p.turns store.world.world v journal) → (one_new two_new : D)
-        → LeavesHeld g store.place (InGeneration store.journal P) one two one_new two_new
-        → LeavesPairs g one two one_new two_new (HoldsKeeping (TakesSome p) store.world.world)
-    taken P o p law given takes one_new two_new =
-        let w = store.world.world in
-        stepping (InGeneration store.journal P) (TakesSome p) one_new two_new
-        (λ v journal images kept h.
-        let t : TakesWithin o p.turns w v journal = takes v journal h.holds in
-        (made_within o p given w v journal images.0 images.1 kept t, λ sound. law t.0.count t.0.rests w v reached sound t.0.turns))
+    -- a run
+    pub taken : {T P : Type 0} (h : transport.Ghosts T) (k : pacer.Ghosts P) (o : RunOptions) (a b : T) (p q : P) → TurnsKeepSound (in_run h k o.limits a b q) → (one_new two_new : D)
+        → LeavesHeld g store.place (InGeneration store.journal (IsLedWithin h k o.limits o.turns a p store.world.world b q)) one two one_new two_new
+        → LeavesPairs g one two one_new two_new (HoldsKeeping (TakesSome o (exchange h k a b p q)) Seen store.world.world)
+    taken h k o a b p q law one_new two_new =
+        let w : World = store.world.world in
+        stepping (IsLedWithin h k o.limits o.turns a p w b q) (TakesSome o (exchange h k a b p q)) one_new two_new
+        (λ v journal images goes led.
+        let t = (led_is_taken h k o.limits o.turns a p w b q v journal led).0 in
+        (record { journal = store.journal; next = journal; goes = goes; led = led }, λ sound. law t.count t.rests w v reached sound t.turns))
 
   -- ---- whole calls
 
   module _ (counts : (d : D) (t : ℕ) (image : List ℕ) → t ≤ g.moment d → g.may_leave d image → g.left_since d t image) where
     -- a call that writes nothing
-    pub unwritten : (begins : World → Type 0) (makes : World → World → Images → Type 0) (one two one_new two_new : D) → LeavesOnly g one one_new (g.may_leave one)
+    pub unwritten : (begins : World → Type 0) (makes : Images → World → World → Images → Type 0) (one two one_new two_new : D) → LeavesOnly g one one_new (g.may_leave one)
         → LeavesOnly g two two_new (g.may_leave two) → LeavesKept g begins makes one two one_new two_new
     unwritten begins makes one two one_new two_new first second =
         inl (record {
@@ -175,7 +212,7 @@ module _ {D : Type 0} (g : disk.Ghosts D) (at_now : (d : D) (image : List ℕ) �
         })
 
     -- a call that asks no disk
-    pub unasked : (begins : World → Type 0) (makes : World → World → Images → Type 0) (one two : D) → LeavesKept g begins makes one two one two
+    pub unasked : (begins : World → Type 0) (makes : Images → World → World → Images → Type 0) (one two : D) → LeavesKept g begins makes one two one two
     unasked begins makes one two = unwritten begins makes one two one two (none_asked one) (none_asked two)
 
     -- a disk is read, and then not written
@@ -200,24 +237,26 @@ module _ {D : Type 0} (g : disk.Ghosts D) (at_now : (d : D) (image : List ℕ) �
     }
 
     -- a call that reads a world, and then leaves worlds that keep it
-    pub goes_on : (begins : World → Type 0) (makes : World → World → Images → Type 0) (w : World) (one two one_mid two_mid one_new two_new : D) → IsHeld (g.seen one) (g.seen two) (a_world w)
-        → LeavesOnly g one one_mid (g.may_leave one) → LeavesOnly g two two_mid (g.may_leave two)
-        → LeavesPairs g one_mid two_mid one_new two_new (HoldsKeeping makes w) → LeavesKept g begins makes one two one_new two_new
-    goes_on begins makes w one two one_mid two_mid one_new two_new held first second leaves =
+    pub goes_on : (begins : World → Type 0) (makes : Images → World → World → Images → Type 0) (w : World) (one two one_mid two_mid one_new two_new : D) → IsHeld (g.seen one) (g.seen two) (a_world w)
+        → g.seen one_mid ≡ g.seen one → g.seen two_mid ≡ g.seen two → LeavesOnly g one one_mid (g.may_leave one) → LeavesOnly g two two_mid (g.may_leave two)
+        → LeavesPairs g one_mid two_mid one_new two_new (HoldsKeeping makes (g.seen one_mid, g.seen two_mid) w) → LeavesKept g begins makes one two one_new two_new
+    goes_on begins makes w one two one_mid two_mid one_new two_new held same same_too first second leaves =
+        let P : List ℕ → List ℕ → Type 0 = HoldsKeeping makes (g.seen one_mid, g.seen two_mid) w in
         at_moments g at_now counts one two one_new two_new (Kept g begins makes one two) (λ a b la lb. inl (la, lb))
         (record {
-          parts = weaker_parts g at_now one two one_new two_new (HoldsKeeping makes w) (Kept g begins makes one two)
-              (after_reading (HoldsKeeping makes w) one two one_mid two_mid one_new two_new first second leaves.parts) (λ a b keeps. inr (inr (w, held, keeps)));
+          parts = weaker_parts g at_now one two one_new two_new P (Kept g begins makes one two)
+              (after_reading P one two one_mid two_mid one_new two_new first second leaves.parts)
+              (λ a b keeps. inr (inr (w, held, subst (λ (before : Images). HoldsKeeping makes before w a b) (λ i. (same i, same_too i)) keeps)));
           one_writes = ⊎_elim (λ still. inl (read_on one one_mid one_new first still)) (λ still. inr (read_on two two_mid two_new second still)) leaves.one_writes;
         })
 
     -- `init`
     pub begun : (result : Result Store StoreError) (one two one_new two_new : D) → g.may_leave one (g.seen one) → g.may_leave two (g.seen two)
-        → InitLeaves g result one two one_new two_new → LeavesOnly g two two_new (g.may_leave two) → LeavesKept g IsEmpty Stays one two one_new two_new
+        → InitLeaves g result one two one_new two_new → LeavesOnly g two two_new (g.may_leave two) → LeavesKept g IsEmpty MakesNothing one two one_new two_new
     begun result one two one_new two_new reads reads_too leaves second =
-        at_moments g at_now counts one two one_new two_new (Kept g IsEmpty Stays one two) (λ a b la lb. inl (la, lb))
+        at_moments g at_now counts one two one_new two_new (Kept g IsEmpty MakesNothing one two) (λ a b la lb. inl (la, lb))
         (record {
-          parts = weaker_parts g at_now one two one_new two_new (OfInit g at_now counts one two) (Kept g IsEmpty Stays one two)
+          parts = weaker_parts g at_now one two one_new two_new (OfInit g at_now counts one two) (Kept g IsEmpty MakesNothing one two)
               (init_parts g at_now counts result one two one_new two_new leaves)
               (λ a b. ⊎_elim (λ was. inl was)
               (⊎_elim (λ are. inl (subst (g.may_leave one) (sym are.0) reads, subst (g.may_leave two) (sym are.1) reads_too))

@@ -15,6 +15,8 @@ pub mod Shaping
 mod Verifying
 pub mod Idle
 pub mod Exchanged
+pub mod Ending
+pub mod Broken
 pub mod Entered
 pub mod Killed
 pub mod Happened

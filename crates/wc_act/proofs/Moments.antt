@@ -1,14 +1,16 @@
 -- What a call leaves at any moment.
-use Rattle.std.proofs.Common.{◌≡◌, ◌≤◌, inl, inr, ⊎_elim, ℕ, Bool, IsTrue, List, Option, sym, subst, ◌∙◌, arith}
+use Rattle.std.proofs.Common.{◌≡◌, ◌⊎◌, ◌≤◌, inl, inr, ⊎_elim, ℕ, Bool, IsTrue, List, Option, sym, subst, ◌∙◌, arith}
 use Rattle.wc_disk.specs.declared.disk.Disk as disk
 use Rattle.wc_disk.specs.Images.{LeavesOnly}
 use Rattle.wc_disk.specs.Steps.{Only}
 use Rattle.wc_disk.proofs.Runs.{no_call, weaker_run}
+use Rattle.wc_store.specs.Held.{IsHeld, nothing}
 use Rattle.wc_store.specs.Stores.{InTwoParts}
 use Rattle.wc_cli.specs.Words.{command_of}
 use Rattle.wc_plan.specs.declared.deed.Deed.{Deed}
 use Rattle.wc_plan.specs.declared.deed.Plan.TheVariants as plan
-use Rattle.wc_act.specs.Crashes.{EachPair, LeavesPairs, LeavesKept, ComesOfNothing, Kept, OneSide, AtAnyMoment, IsOfEachMoment, BegunBy, MadeBy, LeavesMade}
+use Rattle.wc_act.specs.Crashes.{EachPair, HoldsBegun, LeavesPairs, LeavesKept, ComesOfNothing, Kept, OneSide, AtAnyMoment, IsOfEachMoment, BegunBy, MadeBy, LeavesMade}
+use Rattle.wc_act.specs.Exchanges.{Exchange}
 use Rattle.wc_plan.specs.Plans.{Plans}
 use Rattle.wc_act.specs.Rows.{row}
 
@@ -108,8 +110,8 @@ module _ {D : Type 0} (g : disk.Ghosts D) (at_now : (d : D) (image : List ℕ) �
   -- ---- by words
 
   module _ (told : Option (List ℕ → Option (List ℕ))) (words : List (List ℕ)) where
-    pub made_unasked : (one two : D) → LeavesMade g told words one two one two
-    made_unasked one two = unasked_moments one two (Kept g (BegunBy told words) (MadeBy told words) one two) (λ a b la lb. inl (la, lb))
+    pub made_unasked : (e : Exchange) (one two : D) → LeavesMade g told words e one two one two
+    made_unasked e one two = unasked_moments one two (Kept g (BegunBy told words) (MadeBy told words e) one two) (λ a b la lb. inl (la, lb))
 
     -- what a deed begins is begun by the words that plan it
     begun_by : (d : Deed) (one two a b : List ℕ) → Plans told (command_of words) (plan.On d) → ComesOfNothing (row d).begins one two a b
@@ -117,14 +119,17 @@ module _ {D : Type 0} (g : disk.Ghosts D) (at_now : (d : D) (image : List ℕ) �
     begun_by d one two a b plans begun = record {
       before = begun.before;
       some = (begun.some.0, (d, plans, begun.some.1));
-      held = ⊎_elim (λ none. inl none) (λ h. inr (h.0, h.1, (d, plans, h.2), h.3)) begun.held;
+      held = ⊎_elim (λ none. inl none) by_words begun.held;
     }
+      where
+        by_words : HoldsBegun (row d).begins a b → IsHeld a b nothing ⊎ HoldsBegun (BegunBy told words) a b
+        by_words h = inr (record { world = h.world; held = h.held; begun = (d, plans, h.begun); sound = h.sound })
 
-    pub made : (d : Deed) (one two one_new two_new : D) → Plans told (command_of words) (plan.On d) → LeavesKept g (row d).begins (row d).makes one two one_new two_new
-        → LeavesMade g told words one two one_new two_new
-    made d one two one_new two_new plans leaves =
-        weaker_moments one two one_new two_new (Kept g (row d).begins (row d).makes one two) (Kept g (BegunBy told words) (MadeBy told words) one two)
+    pub made : (e : Exchange) (d : Deed) (one two one_new two_new : D) → Plans told (command_of words) (plan.On d)
+        → LeavesKept g (row d).begins ((row d).makes e) one two one_new two_new → LeavesMade g told words e one two one_new two_new
+    made e d one two one_new two_new plans leaves =
+        weaker_moments one two one_new two_new (Kept g (row d).begins ((row d).makes e) one two) (Kept g (BegunBy told words) (MadeBy told words e) one two)
         (λ a b. ⊎_elim (λ was. inl was)
         (⊎_elim (λ begun. inr (inl (begun_by d (g.seen one) (g.seen two) a b plans begun)))
-        (λ k. inr (inr (k.0, k.1, (k.2.0, k.2.1, inr (d, plans, k.2.2), k.2.3))))))
+        (λ k. inr (inr (k.0, k.1, (k.2.0, k.2.1, (d, plans, k.2.2), k.2.3))))))
         leaves

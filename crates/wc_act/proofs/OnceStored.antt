@@ -17,7 +17,7 @@ use Rattle.wc_machine.specs.Kills.{kill_changes}
 use Rattle.wc_machine.specs.Machine.{pause_changes, play_changes, submits}
 use Rattle.wc_machine.specs.Refusals.{AreTooMany, FullOfBatches, HasRoom, IsOneBatchTooMany}
 use Rattle.wc_machine.specs.declared.error.TurnError.TheVariants as turn_error
-use Rattle.wc_runner.specs.CoreRefusals.{AreChangesOf}
+use Rattle.wc_drill.specs.Runner.CoreRefusals.{AreChangesOf}
 use Rattle.wc_store.specs.declared.error.StoreError.TheVariants.{Full}
 use Rattle.wc_store.specs.Choices.{on}
 use Rattle.wc_store.specs.Held.{Standing, nothing, damage, a_world}

@@ -1,8 +1,6 @@
 -- Each reply that a deed owes has a status of a reply.
-use Rattle.std.proofs.Common.{◌≡◌, inl, inr, ⊎_elim, ℕ, sym, subst}
+use Rattle.std.proofs.Common.{◌≡◌, inl, inr, ⊎_elim, sym, subst}
 use Rattle.wc_world.specs.World.{World}
-use Rattle.wc_runner.specs.declared.runs.RunEnd.{RunEnd}
-use Rattle.wc_runner.specs.declared.runs.RunEnd.TheVariants.{AllEnded, Spent, Resting}
 use Rattle.wc_store.specs.Held.{Standing, nothing, damage, a_world}
 use Rattle.wc_plan.specs.declared.deed.Asked.{Asked}
 use Rattle.wc_plan.specs.declared.deed.Begin.TheVariants as begin
@@ -37,11 +35,6 @@ work_replied (work.Event a) before w after r (inr u) = ⊎_elim (alone_replied a
 work_replied (work.Run o) before w after r runs = ⊎_elim (λ has. same_replied r _ has.reply (run_replied has.end)) (λ full. same_replied r _ full.reply tt) runs.ends
 work_replied work.Pack before w after r packs = ⊎_elim (λ packed. same_replied r _ packed.reply tt) (λ full. same_replied r _ full.1.reply tt) packs.1.2
 
-end_replied : (seed count : ℕ) (w : World) (end : RunEnd) → IsReplied (has_drilled seed count w end).status
-end_replied seed count w AllEnded = tt
-end_replied seed count w Spent = tt
-end_replied seed count w Resting = tt
-
 pub row_replied : (d : Deed) (r : Reply) (before after : Images) → Done (row d) r before after → IsReplied r.status
 row_replied d r before after done = at d done.0 done.2
   where
@@ -50,7 +43,7 @@ row_replied d r before after done = at d done.0 done.2
     at (deed.Begin begin.Init) (damage disk place found) h = same_replied r _ h.1 tt
     at (deed.Begin begin.Init) (a_world w) h = same_replied r _ h.1 tt
     at (deed.Begin (begin.Drill seed count)) nothing h =
-        ⊎_elim (λ ended. same_replied r (has_drilled seed count h.world ended.end) ended.reply (end_replied seed count h.world ended.end))
+        ⊎_elim (λ ended. same_replied r (has_drilled seed count h.world) ended.reply tt)
         (λ full. same_replied r _ full.reply tt) h.ends
     at (deed.Begin (begin.Drill seed count)) (damage disk place found) h = same_replied r _ h.1 tt
     at (deed.Begin (begin.Drill seed count)) (a_world w) h = same_replied r _ h.1 tt

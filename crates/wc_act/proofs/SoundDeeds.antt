@@ -1,5 +1,8 @@
 -- What deeds make of sound worlds, and what is told of them.
 use Rattle.std.proofs.Common.{◌≡◌, ◌≤◌, ◌+◌, inl, inr, ⊎_elim, length, Option, Some, None, true, sym, subst, arith}
+use Rattle.wc_io.specs.declared.pacer.Pacer as pacer
+use Rattle.wc_journal.specs.declared.journal.Journal.{Journal}
+use Rattle.wc_transport.specs.declared.transport.Transport as transport
 use Rattle.wc_value.specs.declared.process.Tree.{Tree}
 use Rattle.wc_report.specs.Trees.{tree_text}
 use Rattle.wc_state.specs.declared.record.ProcessRecord.{ProcessRecord}
@@ -18,10 +21,14 @@ use Rattle.wc_machine.specs.Paths.{kills}
 use Rattle.wc_machine.specs.Rest.{GivesTree, meant}
 use Rattle.wc_machine.specs.Sound.{IsSound, IsMeant}
 use Rattle.wc_soundness.specs.EventLaws.{EventsKeepSound}
-use Rattle.wc_runner.proofs.Happening.{after_some}
+use Rattle.wc_drill.proofs.Runner.Happening.{after_some}
 use Rattle.wc_drill.specs.Sound.{DrillsAreSound}
-use Rattle.wc_runner.specs.Laws.{StaysSound, WorldsContinueThemselves}
-use Rattle.wc_runner.proofs.ManyTurns.{turns_sound}
+use Rattle.wc_drill.specs.Runner.Laws.{StaysSound, WorldsContinueThemselves}
+use Rattle.wc_drill.specs.Runner.Outside.{in_run}
+use Rattle.wc_drill.proofs.Runner.Codes.{turns_bring}
+use Rattle.wc_drill.proofs.Runner.Led.{led_is_taken}
+use Rattle.wc_drill.proofs.Runner.ManyTurns.{turns_sound}
+use Rattle.wc_drill.proofs.Runner.Marked.{turns_no_worse}
 use Rattle.wc_plan.specs.declared.deed.Asked.{Asked}
 use Rattle.wc_plan.specs.declared.deed.Begin.TheVariants as begin
 use Rattle.wc_plan.specs.declared.deed.Deed.TheVariants as deed
@@ -31,9 +38,9 @@ use Rattle.wc_plan.specs.declared.reply.Reply.{Reply}
 use Rattle.wc_plan.specs.Replies.{prints}
 use Rattle.wc_act.specs.Crashes.{Keeps}
 use Rattle.wc_act.specs.Events.{IsMadeBy, event_of, limits_of}
-use Rattle.wc_act.specs.Laws.{DeedsKeepSound, DeedsBeginSound, ToldTreesAreMeant}
+use Rattle.wc_act.specs.Exchanges.{exchange}
+use Rattle.wc_act.specs.Laws.{DeedsKeepSound, DeedsBeginSound, ImagesAreBrought, ToldTreesAreMeant}
 use Rattle.wc_act.specs.Rows.{work_row}
-use Rattle.wc_act.specs.Runs.{widest}
 use Rattle.wc_act.specs.StoreDeeds.{Images}
 use Rattle.wc_act.specs.Views.{ShowsTree}
 use Rattle.wc_act.proofs.Asking.{one_batch}
@@ -43,8 +50,8 @@ module _ (events : EventsKeepSound) (same_law : WorldsContinueThemselves) where
   same_keeps : (w v : World) → IsReached w → v ≡ w → Keeps w v
   same_keeps w v reached same = subst (Keeps w) (sym same) (keeps_itself same_law w reached)
 
-  made_keeps : (a : Asked) (w v : World) → IsReached w → IsMadeBy a w v → Keeps w v
-  made_keeps a w v reached m sound =
+  made_keeps : (a : Asked) (journal : Journal) (w v : World) (next : Journal) → IsReached w → IsMadeBy a journal w v next → Keeps w v
+  made_keeps a journal w v next reached m sound =
       let cs = m.changes in
       let later : IsReached (applied w cs) = then_changes w cs reached m.accepted in
       let same : after_changes w cs ≡ applied w cs = after_some w cs m.some in
@@ -55,17 +62,30 @@ module _ (events : EventsKeepSound) (same_law : WorldsContinueThemselves) where
       (λ some. record { nodes = subst (λ (x : World). length x.nodes ≤ 8000000) (sym same) few; batches = omega (arith, more, many) }) in
       subst (StaysSound w) (sym m.after) (record { sound = subst IsSound same s.sound; continues = subst (Continues w) same s.continues; reached = later })
 
-  work_keeps : (k : Work) (w v : World) (images : Images) → IsReached w → (work_row k).makes w v images → Keeps w v
-  work_keeps (work.View x) w v images reached h = same_keeps w v reached h
-  work_keeps (work.Event a) w v images reached h = ⊎_elim (λ same. same_keeps w v reached same) (λ m. made_keeps a w v reached m) h
-  work_keeps (work.Run o) w v images reached h =
-      ⊎_elim (λ same. same_keeps w v reached same) (λ t sound. turns_sound (widest o.limits) t.0.count t.0.rests w v reached sound t.0.turns) h
-  work_keeps work.Pack w v images reached h = same_keeps w v reached h
+  module _ {T P : Type 0} (g : transport.Ghosts T) (h : pacer.Ghosts P) where
+    work_keeps : (old new : T) (clock clock_new : P) (k : Work) (before after : Images) (w v : World) → IsReached w
+        → (work_row k).makes (exchange g h old new clock clock_new) before w v after → Keeps w v
+    work_keeps old new clock clock_new (work.View x) before after w v reached m = same_keeps w v reached m.same
+    work_keeps old new clock clock_new (work.Event a) before after w v reached m =
+        ⊎_elim (λ same. same_keeps w v reached same.0) (λ made. made_keeps a m.journal w v m.next reached made) m.made
+    work_keeps old new clock clock_new (work.Run o) before after w v reached m =
+        let t = (led_is_taken g h o.limits o.turns old clock w new clock_new v m.next m.led).0 in
+        λ sound. turns_sound (in_run g h o.limits old new clock_new) t.count t.rests w v reached sound t.turns
+    work_keeps old new clock clock_new work.Pack before after w v reached m = same_keeps w v reached m
 
-  pub deeds_keep : DeedsKeepSound
-  deeds_keep (deed.Begin begin.Init) w v images reached h = same_keeps w v reached h
-  deeds_keep (deed.Begin (begin.Drill seed count)) w v images reached h = same_keeps w v reached h
-  deeds_keep (deed.Work k) w v images reached h = work_keeps k w v images reached h
+    pub deeds_keep : DeedsKeepSound g h
+    deeds_keep old new clock clock_new (deed.Begin begin.Init) before after w v reached m = absurd m
+    deeds_keep old new clock clock_new (deed.Begin (begin.Drill seed count)) before after w v reached m = absurd m
+    deeds_keep old new clock clock_new (deed.Work k) before after w v reached m = work_keeps old new clock clock_new k before after w v reached m
+
+-- ---- what runs leave in images
+
+pub images_brought : {T P : Type 0} (g : transport.Ghosts T) (h : pacer.Ghosts P) → ImagesAreBrought g h
+images_brought g h old new clock clock_new o before after w v takes =
+    let t = (led_is_taken g h o.limits o.turns old clock w new clock_new v takes.next takes.led).0 in (
+      λ reached sound. turns_bring (in_run g h o.limits old new clock_new) t.count t.rests w v reached sound t.turns,
+      λ ok. turns_no_worse (in_run g h o.limits old new clock_new) ok t.count t.rests w v t.turns,
+    )
 
 pub deeds_begin : DrillsAreSound → DeedsBeginSound
 deeds_begin drills (deed.Begin begin.Init) v h = subst (StaysSound empty) (sym h) empty_stays

@@ -6,6 +6,7 @@ use Rattle.wc_store.specs.declared.error.StoreError.{StoreError}
 use Rattle.wc_store.specs.declared.error.StoreError.TheVariants as error
 use Rattle.wc_plan.specs.declared.reply.Reply.{Reply}
 use Rattle.wc_act.specs.Counts.{CountsDisks}
+use Rattle.wc_act.specs.Undone.{IsUnbroken}
 use Rattle.wc_act.specs.declared.error.ActError.{ActError}
 use Rattle.wc_act.specs.declared.error.ActError.TheVariants.{OutOfMemory, DiskFault}
 
@@ -17,6 +18,20 @@ ok_no_fault r is = cc
 
 memory_no_fault : IsErrOf {T = Reply} {E = ActError} (Err OutOfMemory) DiskFault → ⊥
 memory_no_fault is = cc
+
+fault_unbroken : (result : Result Reply ActError) → IsErrOf result DiskFault → IsUnbroken result → ⊥
+fault_unbroken (Ok r) is unbroken = absurd (ok_no_fault r is)
+fault_unbroken (Err OutOfMemory) is unbroken = absurd (memory_no_fault is)
+fault_unbroken (Err DiskFault) is unbroken = unbroken
+
+-- no disk failed in a call that is broken off so
+pub unbroken_whole : (T : Type 0) (e : StoreError) (result : Result Reply ActError) → IsErrOf result DiskFault ↔ (e ≡ error.DiskFault) → IsUnbroken result
+    → is_live_after {T = T} (Err e) true ≡ true
+unbroken_whole T error.DiskFault result iff unbroken = absurd (fault_unbroken result (iff.1 refl) unbroken)
+unbroken_whole T (error.Damaged disk at found) result iff unbroken = refl
+unbroken_whole T (error.Full what count limit) result iff unbroken = refl
+unbroken_whole T error.AlreadyThere result iff unbroken = refl
+unbroken_whole T error.OutOfMemory result iff unbroken = refl
 
 -- a store is no longer live where a disk failed, and for no other refusal
 fault_ends : (T : Type 0) (e : StoreError) → e ≡ error.DiskFault → is_live_after {T = T} (Err e) true ≡ false

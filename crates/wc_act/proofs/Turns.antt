@@ -5,12 +5,12 @@ use Rattle.wc_state.specs.declared.record.What.{What}
 use Rattle.wc_world.specs.World.{World}
 use Rattle.wc_store.specs.declared.store.Store.{Store}
 use Rattle.wc_store.specs.Stores.{IsOfImages}
-use Rattle.wc_runner.specs.declared.error.RunError.TheVariants.{Full}
-use Rattle.wc_runner.specs.declared.runs.RunEnd.{RunEnd}
-use Rattle.wc_runner.specs.declared.runs.RunEnd.TheVariants.{AllEnded, Spent, Resting}
-use Rattle.wc_runner.specs.Outside.{Outside}
-use Rattle.wc_runner.specs.Refusals.{IsFullAt, RefusesStep}
-use Rattle.wc_runner.specs.Runs.{TakesTurns, TakesFewer, FitsAfter}
+use Rattle.wc_drill.specs.Runner.declared.error.RunError.TheVariants.{Full}
+use Rattle.wc_drill.specs.Runner.declared.runs.RunEnd.{RunEnd}
+use Rattle.wc_drill.specs.Runner.declared.runs.RunEnd.TheVariants.{AllEnded, Spent, Resting}
+use Rattle.wc_drill.specs.Runner.Outside.{Outside}
+use Rattle.wc_drill.specs.Runner.Refusals.{IsFullAt, RefusesStep}
+use Rattle.wc_drill.specs.Runner.Runs.{TakesTurns, TakesFewer, FitsAfter}
 use Rattle.wc_plan.specs.declared.deed.RunOptions.{RunOptions}
 use Rattle.wc_plan.specs.declared.reply.Reply.{Reply}
 use Rattle.wc_plan.specs.Replies.{IsReplied}

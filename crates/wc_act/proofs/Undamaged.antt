@@ -1,8 +1,8 @@
 -- Neither damage nor an unsound world is told of disks that hold nothing or a sound world.
 use Rattle.std.proofs.Common.{◌≡◌, inl, inr, ⊎_elim, ℕ, List, Option, IsTrue, sym, subst}
 use Rattle.wc_journal.specs.declared.error.Found.{Found}
-use Rattle.wc_runner.specs.declared.runs.RunEnd.{RunEnd}
-use Rattle.wc_runner.specs.declared.runs.RunEnd.TheVariants.{AllEnded, Spent, Resting}
+use Rattle.wc_drill.specs.Runner.declared.runs.RunEnd.{RunEnd}
+use Rattle.wc_drill.specs.Runner.declared.runs.RunEnd.TheVariants.{AllEnded, Spent, Resting}
 use Rattle.wc_machine.specs.Sound.{IsSound}
 use Rattle.wc_world.specs.World.{World}
 use Rattle.wc_store.specs.Held.{Standing, nothing, damage, a_world}
@@ -60,11 +60,6 @@ run_tells AllEnded w v = tt
 run_tells Spent w v = tt
 run_tells Resting w v = tt
 
-drill_tells : (seed count : ℕ) (w : World) (end : RunEnd) → TellsWhole (has_drilled seed count w end)
-drill_tells seed count w AllEnded = tt
-drill_tells seed count w Spent = tt
-drill_tells seed count w Resting = tt
-
 -- ---- what is done on a store
 
 alone_tells : (a : Asked) (w : World) (r : Reply) → TellsAlone a w r → TellsWhole r
@@ -109,7 +104,7 @@ module _ (law : HeldIsOne) (before after : Images) (r : Reply) (sound : HoldsSou
   row_tells (deed.Begin begin.Init) (damage disk place found) held at = absurd (no_damage law before sound disk place found held)
   row_tells (deed.Begin begin.Init) (a_world w) held at = same_tells r _ at.1 tt
   row_tells (deed.Begin (begin.Drill seed count)) nothing held at =
-      ⊎_elim (λ ended. same_tells r (has_drilled seed count at.world ended.end) ended.reply (drill_tells seed count at.world ended.end)) (λ full. same_tells r _ full.reply tt) at.ends
+      ⊎_elim (λ ended. same_tells r (has_drilled seed count at.world) ended.reply tt) (λ full. same_tells r _ full.reply tt) at.ends
   row_tells (deed.Begin (begin.Drill seed count)) (damage disk place found) held at = absurd (no_damage law before sound disk place found held)
   row_tells (deed.Begin (begin.Drill seed count)) (a_world w) held at = same_tells r _ at.1 tt
   row_tells (deed.Work k) nothing held at = same_tells r _ at.1 tt

@@ -2,23 +2,18 @@
 use Rattle.std.proofs.Common.{◌≤◌, ◌+◌, ℕ, refl, arith}
 use Rattle.wc_world.specs.World.{World}
 use Rattle.wc_journal.specs.declared.journal.Journal.{Journal}
-use Rattle.wc_runner.specs.declared.error.RunError.{RunError}
-use Rattle.wc_runner.specs.declared.runs.RunEnd.{RunEnd}
-use Rattle.wc_runner.specs.declared.runs.RunEnd.TheVariants.{AllEnded, Spent, Resting}
-use Rattle.wc_runner.specs.Outside.{Outside}
-use Rattle.wc_runner.specs.Refusals.{RefusesStep}
-use Rattle.wc_runner.specs.Runs.{TakesTurns, TakesAll, TakesUpTo, TakesFewer, EndsAs}
-use Rattle.wc_runner.proofs.Widened.{Widens, step_widened, turns_widened}
+use Rattle.wc_drill.specs.Runner.declared.error.RunError.{RunError}
+use Rattle.wc_drill.specs.Runner.declared.runs.RunEnd.{RunEnd}
+use Rattle.wc_drill.specs.Runner.declared.runs.RunEnd.TheVariants.{AllEnded, Spent, Resting}
+use Rattle.wc_drill.specs.Runner.Outside.{Outside}
+use Rattle.wc_drill.specs.Runner.Refusals.{RefusesStep}
+use Rattle.wc_drill.specs.Runner.Runs.{TakesTurns, TakesAll, TakesUpTo, TakesFewer, EndsAs}
+use Rattle.wc_drill.proofs.Runner.Widened.{Widens, step_widened, turns_widened}
 use Rattle.wc_act.specs.Runs.{widest, TakesJust, EndsSo, TakesFewer as FewerTaken}
 
 module _ (o : Outside) where
   wide : Widens o (widest o.limits)
   wide = record { said = λ moment h. tt; gave = λ dir t q reply h. tt; brings = λ q result h. tt; failed = λ h. tt; limits = refl }
-
-  -- what a run leaves
-  pub some_turns : (most : ℕ) (w v : World) → TakesTurns o most w v → TakesTurns (widest o.limits) most w v
-  some_turns most w v h =
-      record { count = h.count; rests = h.rests; few = h.few; turns = turns_widened o (widest o.limits) wide h.count h.rests w v h.turns; batches = h.batches }
 
   takes_just : (all : ℕ) (w v : World) (begun now : ℕ) → TakesAll o all w v begun now → TakesJust o.limits all w v
   takes_just all w v begun now h = record {

@@ -5,7 +5,7 @@ use Rattle.wc_disk.specs.Images.{LeavesOnly}
 use Rattle.wc_disk.specs.Steps.{Only}
 use Rattle.wc_world.specs.World.{World, empty}
 use Rattle.wc_machine.specs.Sound.{IsSound}
-use Rattle.wc_runner.specs.Laws.{StaysSound}
+use Rattle.wc_drill.specs.Runner.Laws.{StaysSound}
 use Rattle.wc_store.specs.Held.{Standing, IsHeld, nothing, a_world}
 use Rattle.wc_store.specs.Stores.{InTwoParts}
 use Rattle.wc_cli.specs.Words.{command_of}
@@ -14,6 +14,7 @@ use Rattle.wc_plan.specs.declared.deed.Plan.TheVariants as plan
 use Rattle.wc_plan.specs.declared.status.Fault.{Fault}
 use Rattle.wc_plan.specs.declared.status.Status.{Status}
 use Rattle.wc_plan.specs.declared.status.Status.TheVariants as status
+use Rattle.wc_act.specs.Exchanges.{Exchange}
 use Rattle.wc_act.specs.Owed.{OfSome}
 use Rattle.wc_plan.specs.Plans.{Plans}
 use Rattle.wc_plan.specs.Replies.{Writes}
@@ -45,13 +46,16 @@ pub record AreDurable {D : Type 0} (g : disk.Ghosts D) (one two : D) : Type 0 wh
 abbrev pub Keeps : World → World → Type 0
 Keeps w v = IsSound w → StaysSound w v
 
--- the pair holds a world that the call may make of this one, in such images, and that keeps it
-abbrev pub HoldsKeeping : (World → World → Images → Type 0) → World → List ℕ → List ℕ → Type 0
-HoldsKeeping makes w a b = (v : World) × IsHeld a b (a_world v) × makes w v (a, b) × Keeps w v
+-- the pair holds a world that the call may make of this one, from such images in these, and that keeps it
+abbrev pub HoldsKeeping : (Images → World → World → Images → Type 0) → Images → World → List ℕ → List ℕ → Type 0
+HoldsKeeping makes before w a b = (v : World) × IsHeld a b (a_world v) × makes before w v (a, b) × Keeps w v
 
--- the pair holds a world with which the call may begin a store, which is sound and continues the empty one
-abbrev pub HoldsBegun : (World → Type 0) → List ℕ → List ℕ → Type 0
-HoldsBegun begins a b = (v : World) × IsHeld a b (a_world v) × begins v × StaysSound empty v
+-- The pair holds a world with which the call may begin a store. It is sound and continues the empty one.
+pub record HoldsBegun (begins : World → Type 0) (a b : List ℕ) : Type 0 where
+  pub world : World
+  pub held : IsHeld a b (a_world world)
+  pub begun : begins world
+  pub sound : StaysSound empty world
 
 -- What comes of two images that hold nothing in a call that may begin a store with the worlds that `begins` says, of which there are some:
 -- nothing, or such a world.
@@ -62,11 +66,11 @@ pub record ComesOfNothing (begins : World → Type 0) (one two a b : List ℕ) :
 
 -- What comes of two images in a call that begins a store with no other worlds than `begins` says, and makes of a world only what `makes`
 -- says: where they hold nothing, nothing, or a world with which it begins; where they hold a world, one that it makes of that and that keeps it.
-abbrev pub ComesOf : (begins : World → Type 0) → (makes : World → World → Images → Type 0) → (one two a b : List ℕ) → Type 0
-ComesOf begins makes one two a b = ComesOfNothing begins one two a b ⊎ ((w : World) × IsHeld one two (a_world w) × HoldsKeeping makes w a b)
+abbrev pub ComesOf : (begins : World → Type 0) → (makes : Images → World → World → Images → Type 0) → (one two a b : List ℕ) → Type 0
+ComesOf begins makes one two a b = ComesOfNothing begins one two a b ⊎ ((w : World) × IsHeld one two (a_world w) × HoldsKeeping makes (one, two) w a b)
 
 -- the pair is one that a crash at entry might have left, or holds what comes of what the disks read as at entry
-abbrev pub Kept : {D : Type 0} → disk.Ghosts D → (begins : World → Type 0) → (makes : World → World → Images → Type 0) → D → D → List ℕ → List ℕ → Type 0
+abbrev pub Kept : {D : Type 0} → disk.Ghosts D → (begins : World → Type 0) → (makes : Images → World → World → Images → Type 0) → D → D → List ℕ → List ℕ → Type 0
 Kept g begins makes one two a b = (g.may_leave one a × g.may_leave two b) ⊎ ComesOf begins makes (g.seen one) (g.seen two) a b
 
 -- one of the disks is not written: each of its images is one that a crash at entry might have left
@@ -110,7 +114,7 @@ IsOfEachMoment g one two one_new two_new P =
 -- ---- by deeds
 
 -- what a deed leaves
-abbrev pub LeavesKept : {D : Type 0} → disk.Ghosts D → (begins : World → Type 0) → (makes : World → World → Images → Type 0) → (one two one_new two_new : D) → Type 0
+abbrev pub LeavesKept : {D : Type 0} → disk.Ghosts D → (begins : World → Type 0) → (makes : Images → World → World → Images → Type 0) → (one two one_new two_new : D) → Type 0
 LeavesKept g begins makes one two one_new two_new = AtAnyMoment g one two one_new two_new (Kept g begins makes one two)
 
 -- ---- by words
@@ -119,12 +123,12 @@ LeavesKept g begins makes one two one_new two_new = AtAnyMoment g one two one_ne
 abbrev pub BegunBy : Option (List ℕ → Option (List ℕ)) → List (List ℕ) → World → Type 0
 BegunBy told words v = OfSome told words (λ k. k.begins v)
 
-abbrev pub MadeBy : Option (List ℕ → Option (List ℕ)) → List (List ℕ) → World → World → Images → Type 0
-MadeBy told words w v images = (v ≡ w) ⊎ OfSome told words (λ k. k.makes w v images)
+abbrev pub MadeBy : Option (List ℕ → Option (List ℕ)) → List (List ℕ) → Exchange → Images → World → World → Images → Type 0
+MadeBy told words e before w v after = OfSome told words (λ k. k.makes e before w v after)
 
 -- Each pair is one that a crash at entry might have left, or holds what the words make of what the disks read as at entry.
-abbrev pub LeavesMade : {D : Type 0} → disk.Ghosts D → Option (List ℕ → Option (List ℕ)) → List (List ℕ) → (one two one_new two_new : D) → Type 0
-LeavesMade g told words one two one_new two_new = AtAnyMoment g one two one_new two_new (Kept g (BegunBy told words) (MadeBy told words) one two)
+abbrev pub LeavesMade : {D : Type 0} → disk.Ghosts D → Option (List ℕ → Option (List ℕ)) → List (List ℕ) → Exchange → (one two one_new two_new : D) → Type 0
+LeavesMade g told words e one two one_new two_new = AtAnyMoment g one two one_new two_new (Kept g (BegunBy told words) (MadeBy told words e) one two)
 
 -- What a call keeps where each pair at entry holds nothing or a sound world: so do the pairs at any moment and those at exit, and neither is
 -- a disk told to be damaged nor a world to be unsound.

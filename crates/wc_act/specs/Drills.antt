@@ -1,49 +1,32 @@
 -- What `drill` does.
-use Rattle.std.specs.Prelude.{◌≡◌, ◌⊎◌, ℕ, List, [], Option, Some, None}
+use Rattle.std.specs.Prelude.{◌≡◌, ◌⊎◌, ℕ, List, Option, Some, None}
 use Rattle.wc_journal.specs.declared.journal.Journal.{Journal}
 use Rattle.wc_state.specs.declared.record.What.{What}
 use Rattle.wc_world.specs.World.{World}
 use Rattle.wc_store.specs.Held.{Standing, nothing, damage, a_world}
 use Rattle.wc_store.specs.declared.place.Place.TheVariants.{One}
-use Rattle.wc_runner.specs.declared.error.RunError.TheVariants.{Full}
-use Rattle.wc_runner.specs.declared.runs.RunEnd.{RunEnd}
-use Rattle.wc_runner.specs.declared.runs.RunEnd.TheVariants.{AllEnded, Spent, Resting}
+use Rattle.wc_drill.specs.Runner.declared.error.RunError.TheVariants.{Full}
 use Rattle.wc_drill.specs.Draws.{sum_of_squares}
 use Rattle.wc_drill.specs.Texts.{drilled_text}
 use Rattle.wc_drill.specs.Drilled.{Drills, HasDrilled}
-use Rattle.wc_drill.specs.Refusals.{IsHeldUp, IsSpent, IsTooFullFor}
+use Rattle.wc_drill.specs.Refusals.{IsTooFullFor}
 use Rattle.wc_drill.specs.declared.error.DrillError.{DrillError}
 use Rattle.wc_drill.specs.declared.error.DrillError.TheVariants as drill_error
 use Rattle.wc_plan.specs.declared.reply.Reply.{Reply}
 use Rattle.wc_plan.specs.declared.status.Cause.TheVariants as cause
-use Rattle.wc_plan.specs.declared.status.Status.{Status}
-use Rattle.wc_plan.specs.declared.status.Status.TheVariants as status
 use Rattle.wc_plan.specs.Replies.{refuses, prints}
 use Rattle.wc_act.specs.StoreDeeds.{Images, Hold, HasJournal, is_damaged, is_full}
 
 -- ---- how it ends
 
--- at this world no process is live; or, with all chains submitted, as many turns were taken as there are, or each live process is held up
-abbrev pub EndsAt : (seed count : ℕ) → World → RunEnd → Type 0
-EndsAt seed count w AllEnded = HasDrilled seed count w
-EndsAt seed count w Spent = IsSpent seed count w
-EndsAt seed count w Resting = IsHeldUp seed count w
+-- what was generated, the squares of the numbers drawn, added up, and the number of batches
+abbrev pub has_drilled : (seed count : ℕ) → World → Reply
+has_drilled seed count w = prints (drilled_text count (sum_of_squares count seed) w.batches)
 
--- nothing is written beside the status
-abbrev pub stopped : Status → Reply
-stopped s = record { status = s; text = [] }
-
--- what was generated, the squares of the numbers drawn, added up, and the number of batches; nothing where a process is live
-abbrev pub has_drilled : (seed count : ℕ) → World → RunEnd → Reply
-has_drilled seed count w AllEnded = prints (drilled_text count (sum_of_squares count seed) w.batches)
-has_drilled seed count w Spent = stopped status.Spent
-has_drilled seed count w Resting = stopped status.Resting
-
--- The drill has come to its end at this world.
+-- The drill has come to its end at this world, where no process is live.
 pub record HasEnded (seed count : ℕ) (w : World) (r : Reply) : Type 0 where
-  pub end : RunEnd
-  pub ends : EndsAt seed count w end
-  pub reply : r ≡ has_drilled seed count w end
+  pub ends : HasDrilled seed count w
+  pub reply : r ≡ has_drilled seed count w
 
 -- The drill has come to this world, and the store would be too full with the next chain, or with the turn of a process, by this journal of it.
 pub record FillsUp (seed count : ℕ) (w : World) (journal : Journal) (r : Reply) : Type 0 where
@@ -85,6 +68,4 @@ broken_reply drill_error.DiskFault = None
 broken_reply (drill_error.Damaged disk at found) = Some (is_damaged disk at found)
 broken_reply (drill_error.Full what count limit) = Some (is_full what count limit)
 broken_reply drill_error.AlreadyThere = Some (refuses cause.StoreExists)
-broken_reply drill_error.Spent = Some (stopped status.Spent)
-broken_reply drill_error.Resting = Some (stopped status.Resting)
 broken_reply drill_error.OutOfMemory = None

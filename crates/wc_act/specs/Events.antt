@@ -14,10 +14,11 @@ use Rattle.wc_machine.specs.Submissions.{submitted_number}
 use Rattle.wc_machine.specs.Refusals.{HasEndedAs, HasRoom, RefusesSubmission}
 use Rattle.wc_machine.specs.declared.error.TurnError.{TurnError}
 use Rattle.wc_machine.specs.declared.error.TurnError.TheVariants as turn_error
-use Rattle.wc_runner.specs.CoreRefusals.{RefusesMark}
+use Rattle.wc_drill.specs.Runner.CoreRefusals.{RefusesMark}
 use Rattle.wc_store.specs.declared.error.StoreError.TheVariants as store_error
 use Rattle.wc_store.specs.Held.{a_world}
 use Rattle.wc_store.specs.Refusals.{committed_bytes, RefusesCommit}
+use Rattle.wc_store.specs.Stores.{IsLonger}
 use Rattle.wc_report.specs.Lines.{submitted_text, paused_text, playing_text, killed_text}
 use Rattle.wc_plan.specs.declared.deed.Asked.{Asked}
 use Rattle.wc_plan.specs.declared.deed.Asked.TheVariants as asked
@@ -116,18 +117,22 @@ TellsFull full r = (what : What) × (count : ℕ) × (limit : ℕ) × full what 
 
 -- ---- what it makes of a world
 
--- One world is what the event makes of another by one batch, within the limit of nodes.
-pub record IsMadeBy (a : Asked) (w v : World) : Type 0 where
+-- One world is what the event makes of another by one batch, by which the journal is longer, within the limits of nodes and of bytes.
+pub record IsMadeBy (a : Asked) (journal : Journal) (w v : World) (next : Journal) : Type 0 where
   pub changes : List Change
   pub leads : Changes w a changes
   pub some : changes ≢ []
   pub accepted : IsAccepted w changes
   pub after : v ≡ applied w changes
   pub nodes : length v.nodes ≤ (limits_of a).max_nodes
+  pub longer : IsLonger (limits_of a) journal changes next
 
--- the same world, or what the event makes of it, in any images
-abbrev pub MayHappen : Asked → World → World → Images → Type 0
-MayHappen a w v images = (v ≡ w) ⊎ IsMadeBy a w v
+-- The journal goes on from these images to those, which hold the same world by a journal that ends where it did, or what the event makes of it.
+pub record MayHappen (a : Asked) (before : Images) (w v : World) (after : Images) : Type 0 where
+  pub journal : Journal
+  pub next : Journal
+  pub goes : GoesOn before after journal next
+  pub made : ((v ≡ w) × (next.end ≡ journal.end)) ⊎ IsMadeBy a journal w v next
 
 -- ---- what it does to a store
 

@@ -1,4 +1,4 @@
-pub use Rattle.wc_runner.specs.Asked
+pub use Rattle.wc_drill.specs.Runner.Asked
 pub mod Statuses
 pub mod Counts
 pub mod StoreDeeds
@@ -9,9 +9,12 @@ pub mod Runs
 pub mod Drills
 pub mod Undone
 pub mod Acknowledged
+pub mod Exchanges
 pub mod Rows
 pub mod Owed
 pub mod Crashes
 pub mod Entries
 pub mod Outside
+pub mod Enough
+pub mod Aborted
 pub mod Laws

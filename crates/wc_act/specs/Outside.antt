@@ -1,24 +1,18 @@
 -- What a run has to do with the transport and the clock.
-use Rattle.std.specs.Prelude.{◌≡◌, ℕ, List, Option, Some, None}
-use Rattle.wc_io.specs.declared.pacer.Pacer as pacer
+use Rattle.std.specs.Prelude.{◌≡◌, ℕ, List, Option, Some, None, Ok, Err}
 use Rattle.wc_journal.specs.declared.journal.Journal.{Journal}
-use Rattle.wc_value.specs.declared.process.Request.{Request}
-use Rattle.wc_state.specs.declared.record.Limits.{Limits}
 use Rattle.wc_state.specs.declared.record.What.{What}
 use Rattle.wc_transport.specs.declared.transport.Transport as transport
 use Rattle.wc_world.specs.World.{World}
 use Rattle.wc_machine.specs.Sound.{IsSound}
 use Rattle.wc_store.specs.Held.{a_world}
-use Rattle.wc_runner.specs.declared.error.RunError.{RunError}
-use Rattle.wc_runner.specs.declared.error.RunError.TheVariants.{Full}
-use Rattle.wc_runner.specs.declared.runs.RunEnd.{RunEnd}
-use Rattle.wc_runner.specs.Asked.{AreOfProcesses, IsAskedFor}
-use Rattle.wc_runner.specs.Codes.{AreBrought}
-use Rattle.wc_runner.specs.Marks.{AreNoWorse}
-use Rattle.wc_runner.specs.Outside.{Outside, in_run}
-use Rattle.wc_runner.specs.Refusals.{RefusesStep}
-use Rattle.wc_runner.specs.Runs.{TakesAll, TakesFewer, TakesUpTo}
-use Rattle.wc_runner.specs.Trails.{BreaksOff, Completes}
+use Rattle.wc_drill.specs.Runner.declared.error.RunError.TheVariants.{Full}
+use Rattle.wc_drill.specs.Runner.declared.runs.RunEnd.{RunEnd}
+use Rattle.wc_drill.specs.Runner.Asked.{AreOfProcesses, IsAskedFor}
+use Rattle.wc_drill.specs.Runner.Codes.{AreBrought}
+use Rattle.wc_drill.specs.Runner.Marks.{AreNoWorse}
+use Rattle.wc_drill.specs.Runner.Refusals.{RefusesStep}
+use Rattle.wc_drill.specs.Runner.Runs.{EndsAs, TakesAll, TakesFewer, TakesUpTo}
 use Rattle.wc_cli.specs.declared.command.Command.{Command}
 use Rattle.wc_cli.specs.declared.command.Command.TheVariants.{Run}
 use Rattle.wc_cli.specs.Words.{command_of}
@@ -30,6 +24,7 @@ use Rattle.wc_plan.specs.declared.deed.Work.{Work}
 use Rattle.wc_plan.specs.declared.deed.Work.TheVariants as work
 use Rattle.wc_plan.specs.declared.status.Status.{Status}
 use Rattle.wc_plan.specs.declared.status.Status.TheVariants as status
+use Rattle.wc_act.specs.Exchanges.{Exchange}
 use Rattle.wc_act.specs.Owed.{Visit}
 use Rattle.wc_act.specs.Runs.{status_of}
 use Rattle.wc_plan.specs.Plans.{Plans}
@@ -70,50 +65,30 @@ IsIdle (deed.Work w) = IsNoRun w
 
 -- ---- what it gave
 
--- What a call has had of the transport and the clock: what a run within these limits sees of them; that at most so many turns and rests, each turn
--- by its own call of the transport, led from the transport, the clock and a world as they were to those that are left, where a run came to this
--- end, or broke off by this journal and for this reason; how many rests were counted before it and after it; and which requests were placed.
-pub record Exchange : Type 1 where
-  pub sees : Limits → Outside
-  pub completes : Limits → (most : ℕ) → World → RunEnd → World → Type 0
-  pub breaks : Limits → (most : ℕ) → World → Journal → RunError → World → Type 0
-  pub rests : ℕ
-  pub rests_new : ℕ
-  pub placed : Option (ℕ → Option Request)
-  pub placed_new : Option (ℕ → Option Request)
-
-abbrev pub exchange : {T P : Type 0} → transport.Ghosts T → pacer.Ghosts P → (old new : T) → (clock clock_new : P) → Exchange
-exchange g h old new clock clock_new = record {
-  sees = λ limits. in_run g h limits old new clock_new;
-  completes = λ limits most w end v. Completes g h limits most old clock w end new clock_new v;
-  breaks = λ limits most w journal e v. BreaksOff g h limits most old clock w journal e new clock_new v;
-  rests = h.rests clock;
-  rests_new = h.rests clock_new;
-  placed = g.placed old;
-  placed_new = g.placed new;
-}
-
 -- Fewer turns and rests were taken than were given, each turn by its own call of the transport. With its turn, by what the transport gave in the
 -- call for it, a process would make the store too full, by the journal that the images hold.
 pub record FillsOutside (e : Exchange) (o : RunOptions) (w v : World) (after : Images) (what : What) (count limit : ℕ) : Type 0 where
   pub fewer : TakesFewer (e.sees o.limits) o.turns w v e.rests e.rests_new
   pub journal : Journal
   pub kept : HasJournal after journal
-  pub broken : e.breaks o.limits o.turns w journal (Full what count limit) v
+  pub broken : e.went o.limits o.seed o.turns w (Err (Full what count limit)) journal v
   pub pid : ℕ
   pub refused : RefusesStep (e.sees o.limits) journal v pid (Full what count limit)
 
--- What a run that ended with this status made of a world, which the images hold then, by what it had of the transport and the clock: each
+-- What a run that ended with this status made of a world, which the images hold then by this journal, by what it had of the transport and the clock: each
 -- turn is one with an answer that the transport gave, at a moment that the clock said, and each rest was counted, where no process was ready.
 -- Where the run came to an end, each turn has its own call of the transport, and each turn and each rest a moment that the clock was asked for
--- once, one after another.
+-- once, one after another, and the turns are in the order of the seed.
 -- All were taken where it is spent, and fewer where the store is full. Exit codes come from results that were given; where no call
 -- failed, no process got the pause mark or failed more often; and directories that are placed belong to processes.
 pub record RunsOutside (e : Exchange) (o : RunOptions) (w : World) (after : Images) (s : Status) : Type 0 where
   pub later : World
   pub held : Hold after (a_world later)
+  pub journal : Journal
+  pub kept : HasJournal after journal
   pub takes : TakesUpTo (e.sees o.limits) o.turns w later e.rests e.rests_new
-  pub trail : (end : RunEnd) → s ≡ status_of end → e.completes o.limits o.turns w end later
+  pub trail : (end : RunEnd) → s ≡ status_of end → e.went o.limits o.seed o.turns w (Ok end) journal later
+  pub ends : (end : RunEnd) → s ≡ status_of end → EndsAs (e.sees o.limits) o.turns w later e.rests e.rests_new end
   pub spent : s ≡ status.Spent → TakesAll (e.sees o.limits) o.turns w later e.rests e.rests_new
   pub full : (what : What) (count limit : ℕ) → s ≡ status.Full what count limit → FillsOutside e o w later after what count limit
   pub codes : IsSound w → AreBrought (e.sees o.limits) w later

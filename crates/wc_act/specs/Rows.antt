@@ -1,7 +1,7 @@
 -- What each deed promises: one row each.
-use Rattle.std.specs.Prelude.{◌≡◌, ◌⊎◌, ℕ, false, true, List}
+use Rattle.std.specs.Prelude.{◌≡◌, ℕ, false, true, List}
+use Rattle.wc_journal.specs.declared.journal.Journal.{Journal}
 use Rattle.wc_world.specs.World.{World, empty}
-use Rattle.wc_runner.specs.Runs.{TakesTurns}
 use Rattle.wc_store.specs.Held.{Standing}
 use Rattle.wc_report.specs.Lines.{submitted_text, paused_text, playing_text, killed_text}
 use Rattle.wc_plan.specs.declared.deed.Asked.{Asked}
@@ -20,16 +20,17 @@ use Rattle.wc_drill.specs.Drilled.{Drills}
 use Rattle.wc_act.specs.Acknowledged.{HasProcess, HasMark, IsKilled}
 use Rattle.wc_act.specs.Drills.{DrillAt, IsToldDrilled}
 use Rattle.wc_act.specs.Events.{MayHappen, Enters}
-use Rattle.wc_act.specs.Runs.{widest, Runs}
-use Rattle.wc_act.specs.StoreDeeds.{Fits, Images, InitAt, AtStore, Packs}
+use Rattle.wc_act.specs.Exchanges.{Exchange}
+use Rattle.wc_act.specs.Runs.{Runs}
+use Rattle.wc_act.specs.StoreDeeds.{GoesOn, Images, InitAt, AtStore, Packs}
 use Rattle.wc_act.specs.Undone.{IsBeforeStoring, IsBeforeTurns, IsBeforePacking}
 use Rattle.wc_act.specs.Views.{ShowsStill}
 
 -- ---- what is done on a store that is there
 
 pub record WorkRow : Type 1 where
-  -- what it may make of the world, in which images, at any moment
-  pub makes : World → World → Images → Type 0
+  -- what it may make of the world, from which images in which, at any moment, by what it has had of the transport and the clock
+  pub makes : Exchange → (before : Images) → World → World → (after : Images) → Type 0
   -- what it has done, from the images at entry to those at exit, and its reply
   pub does : Images → World → Images → Reply → Type 0
   -- one reply at most is owed for the images at entry and at exit
@@ -39,13 +40,16 @@ pub record WorkRow : Type 1 where
   -- what the world has that is held at exit, once this text is written with status Ok
   pub acknowledges : List ℕ → World → Type 0
 
--- the world is the same, in any images
-abbrev pub Stays : World → World → Images → Type 0
-Stays w v images = v ≡ w
+-- The world is the same, and its journal goes on.
+pub record Stays (before : Images) (w v : World) (after : Images) : Type 0 where
+  pub same : v ≡ w
+  pub journal : Journal
+  pub next : Journal
+  pub goes : GoesOn before after journal next
 
 abbrev pub view_row : Shown → WorkRow
 view_row v = record {
-  makes = Stays;
+  makes = λ e. Stays;
   does = ShowsStill v;
   certain = Unit {0};
   undone = λ s. Unit {0};
@@ -62,17 +66,20 @@ HasHappened (asked.Kill pid) text w = (text ≡ killed_text pid) × IsKilled w p
 
 abbrev pub event_row : Asked → WorkRow
 event_row a = record {
-  makes = MayHappen a;
+  makes = λ e. MayHappen a;
   does = Enters a;
   certain = Unit {0};
   undone = IsBeforeStoring;
   acknowledges = HasHappened a;
 }
 
--- the same world, or what at most as many turns and rests as are given make of it, where it and its journal in the images are within the run's
--- limits
-abbrev pub TakesSome : RunOptions → World → World → Images → Type 0
-TakesSome o w v images = (v ≡ w) ⊎ (TakesTurns (widest o.limits) o.turns w v × Fits o.limits images v)
+-- The journal goes on, and by it the images hold what at most as many turns and rests as are given led to, with this transport and this clock: the same
+-- world, or one that is within the run's limits, as its journal is.
+pub record TakesSome (o : RunOptions) (e : Exchange) (before : Images) (w v : World) (after : Images) : Type 0 where
+  pub journal : Journal
+  pub next : Journal
+  pub goes : GoesOn before after journal next
+  pub led : e.leads o.limits o.turns w v next
 
 -- any ready process may be the one for which the store is too full, so that its reply isn't certain
 abbrev pub run_row : RunOptions → WorkRow
@@ -84,9 +91,13 @@ run_row o = record {
   acknowledges = λ text w. Unit {0};
 }
 
+-- the world is the same, in any images
+abbrev pub StaysMoving : Images → World → World → Images → Type 0
+StaysMoving before w v after = v ≡ w
+
 abbrev pub pack_row : WorkRow
 pack_row = record {
-  makes = Stays;
+  makes = λ e. StaysMoving;
   does = Packs;
   certain = Unit {0};
   undone = IsBeforePacking;
@@ -104,12 +115,16 @@ work_row work.Pack = pack_row
 pub record Row : Type 1 where
   -- with which worlds it may begin a store, at any moment, where there is none
   pub begins : World → Type 0
-  pub makes : World → World → Images → Type 0
+  pub makes : Exchange → (before : Images) → World → World → (after : Images) → Type 0
   -- what it has done, by what the images hold at entry
   pub does : Images → Standing → Images → Reply → Type 0
   pub certain : Type 0
   pub undone : Status → Type 0
   pub acknowledges : List ℕ → World → Type 0
+
+-- of a world that is there nothing is made
+abbrev pub MakesNothing : Images → World → World → Images → Type 0
+MakesNothing before w v after = ⊥
 
 -- the world is the empty one
 abbrev pub IsEmpty : World → Type 0
@@ -119,7 +134,7 @@ IsEmpty v = v ≡ empty
 abbrev pub drill_row : (seed count : ℕ) → Row
 drill_row seed count = record {
   begins = Drills seed count;
-  makes = Stays;
+  makes = λ e. MakesNothing;
   does = DrillAt seed count;
   certain = ⊥;
   undone = IsBeforeTurns;
@@ -129,7 +144,7 @@ drill_row seed count = record {
 abbrev pub begin_row : Begin → Row
 begin_row begin.Init = record {
   begins = IsEmpty;
-  makes = Stays;
+  makes = λ e. MakesNothing;
   does = InitAt;
   certain = Unit {0};
   undone = IsBeforeStoring;

@@ -5,14 +5,14 @@ use Rattle.wc_state.specs.declared.record.Limits.{Limits}
 use Rattle.wc_state.specs.declared.record.What.{What}
 use Rattle.wc_world.specs.World.{World}
 use Rattle.wc_store.specs.Held.{a_world}
-use Rattle.wc_runner.specs.Standing.{is_any_live, is_resting}
-use Rattle.wc_runner.specs.declared.error.RunError.TheVariants.{Full}
-use Rattle.wc_runner.specs.declared.runs.RunEnd.{RunEnd}
-use Rattle.wc_runner.specs.declared.runs.RunEnd.TheVariants.{AllEnded, Spent, Resting}
-use Rattle.wc_runner.specs.Outside.{Outside}
-use Rattle.wc_runner.specs.Refusals.{RefusesStep}
-use Rattle.wc_runner.specs.Runs.{TakesTurns}
-use Rattle.wc_runner.specs.Trips.{Turns}
+use Rattle.wc_drill.specs.Runner.Standing.{is_any_live, is_resting}
+use Rattle.wc_drill.specs.Runner.declared.error.RunError.TheVariants.{Full}
+use Rattle.wc_drill.specs.Runner.declared.runs.RunEnd.{RunEnd}
+use Rattle.wc_drill.specs.Runner.declared.runs.RunEnd.TheVariants.{AllEnded, Spent, Resting}
+use Rattle.wc_drill.specs.Runner.Outside.{Outside}
+use Rattle.wc_drill.specs.Runner.Refusals.{RefusesStep}
+use Rattle.wc_drill.specs.Runner.Runs.{TakesTurns}
+use Rattle.wc_drill.specs.Runner.Trips.{Turns}
 use Rattle.wc_report.specs.Lines.{committed_text, live_count, paused_count}
 use Rattle.wc_plan.specs.declared.deed.RunOptions.{RunOptions}
 use Rattle.wc_plan.specs.declared.reply.Reply.{Reply}

@@ -45,6 +45,12 @@ abbrev pub ended_by : ActError → Status
 ended_by OutOfMemory = status.OutOfMemory
 ended_by DiskFault = status.DiskFault
 
+-- no disk failed
+abbrev pub IsUnbroken : Result Reply ActError → Type 0
+IsUnbroken (Ok r) = Unit {0}
+IsUnbroken (Err OutOfMemory) = Unit {0}
+IsUnbroken (Err DiskFault) = ⊥
+
 -- P holds of the status that a reply has, or with which a deed ends that has none
 abbrev pub EndsWith : (Status → Type 0) → Result Reply ActError → Type 0
 EndsWith P (Ok r) = P r.status

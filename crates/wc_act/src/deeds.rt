@@ -1,15 +1,17 @@
 //! What a deed does with two disks, a transport and a clock. No shelf is in scope.
 
-ghost use Rattle.std.specs.Prelude.{◌≡◌, true, IsTrue, IfOk};
+ghost use Rattle.std.specs.Prelude.{◌≡◌, true, IsTrue, IfErr, IfOk};
 ghost use Rattle.wc_store.specs.Stores.{HasImages, StandsFor};
 ghost use Rattle.wc_act.specs.Counts.{CountsDisks};
 ghost use Rattle.wc_act.specs.Crashes.{AreDurable, HoldsKeeping, LeavesKept, LeavesPairs};
-ghost use Rattle.wc_act.specs.Outside.{exchange, ActsOutside, AsksByTurns, WorksOutside, IsIdle, IsNoRun};
+ghost use Rattle.wc_act.specs.Aborted.{Aborts, WorkAborts};
+ghost use Rattle.wc_act.specs.Exchanges.{exchange};
+ghost use Rattle.wc_act.specs.Outside.{ActsOutside, AsksByTurns, WorksOutside, IsIdle, IsNoRun};
 ghost use Rattle.wc_act.specs.Owed.{visit, DoneOn, OfVisit, OwedDeed};
 ghost use Rattle.wc_plan.specs.Plans.{IsReadyDeed, IsReadyWork};
 ghost use Rattle.wc_act.specs.Statuses.{IsDoneOrFull};
 ghost use Rattle.wc_act.specs.Rows.{row, work_row};
-ghost use Rattle.wc_act.specs.Undone.{EndsWith, IsBeforeTurns, LeavesUnwritten};
+ghost use Rattle.wc_act.specs.Undone.{EndsWith, IsBeforeTurns, IsUnbroken, LeavesUnwritten, ended_by};
 ghost use Rattle.wc_plan.specs.declared.deed.Deed.TheVariants.{Work as OnStore};
 
 use crate::drills::drill_reply;
@@ -43,8 +45,9 @@ fn worked<D: Disk, T: Transport, P: Pacer>(
     requires stands { IsTrue (D.tells one.old) → IsTrue (D.tells two.old) → StandsFor D.Disk store.old one.old two.old }
     requires images { HasImages store.old }
     ensures does { IfOk result (λ r. OfVisit (visit D.Disk one.old two.old one.new two.new) (DoneOn (work_row work) store.old.world.world r)) }
-    ensures kept { IsTrue (D.tells one.old) → IsTrue (D.tells two.old) → LeavesPairs D.Disk one.old two.old one.new two.new (HoldsKeeping (work_row work).makes store.old.world.world) }
-    ensures durable { IfOk result (λ r. IsTrue (D.tells one.old) → IsTrue (D.tells two.old) → AreDurable D.Disk one.new two.new) }
+    ensures kept { IsTrue (D.tells one.old) → IsTrue (D.tells two.old) → LeavesPairs D.Disk one.old two.old one.new two.new
+        (HoldsKeeping ((work_row work).makes (exchange T.Transport P.Pacer transport.old transport.new pacer.old pacer.new)) (D.seen one.old, D.seen two.old) store.old.world.world) }
+    ensures durable { IsUnbroken result → IsTrue (D.tells one.old) → IsTrue (D.tells two.old) → AreDurable D.Disk one.new two.new }
     ensures tells { (D.tells one.new ≡ D.tells one.old) × (D.tells two.new ≡ D.tells two.old) }
     ensures untouched { EndsWith (work_row work).undone result → (one.new ≡ one.old) × (two.new ≡ two.old) }
     ensures idle { IsNoRun work → (transport.new ≡ transport.old) × (pacer.new ≡ pacer.old) }
@@ -52,6 +55,8 @@ fn worked<D: Disk, T: Transport, P: Pacer>(
     ensures asked { AsksByTurns T.Transport (OnStore work) transport.old transport.new }
     ensures outside { IfOk result (λ r. IsTrue (D.tells one.old) → IsTrue (D.tells two.old)
         → WorksOutside (exchange T.Transport P.Pacer transport.old transport.new pacer.old pacer.new) work store.old.world.world (D.seen one.new, D.seen two.new) r.status) }
+    ensures broken { IfErr result (λ e. IsTrue (D.tells one.old) → IsTrue (D.tells two.old)
+        → WorkAborts D.Disk (exchange T.Transport P.Pacer transport.old transport.new pacer.old pacer.new) work store.old.world.world one.new two.new (ended_by e)) }
     ensures cause { CountsDisks result (D.faults one.old) (D.faults one.new) (D.faults two.old) (D.faults two.new) (D.failed one.new) (D.failed two.new) }
 {
     worlds_are_kept();
@@ -79,7 +84,8 @@ fn work_reply<D: Disk, T: Transport, P: Pacer>(
 ) -> Result<Reply, ActError>
     requires ready { IsReadyWork work }
     ensures does { IfOk result (λ r. OwedDeed (visit D.Disk one.old two.old one.new two.new) (OnStore work) r) }
-    ensures kept { IsTrue (D.tells one.old) → IsTrue (D.tells two.old) → LeavesKept D.Disk (row (OnStore work)).begins (row (OnStore work)).makes one.old two.old one.new two.new }
+    ensures kept { IsTrue (D.tells one.old) → IsTrue (D.tells two.old) → LeavesKept D.Disk (row (OnStore work)).begins
+        ((row (OnStore work)).makes (exchange T.Transport P.Pacer transport.old transport.new pacer.old pacer.new)) one.old two.old one.new two.new }
     ensures durable { IfOk result (λ r. IsDoneOrFull r.status → IsTrue (D.tells one.old) → IsTrue (D.tells two.old) → AreDurable D.Disk one.new two.new) }
     ensures tells { (D.tells one.new ≡ D.tells one.old) × (D.tells two.new ≡ D.tells two.old) }
     ensures undone { EndsWith (row (OnStore work)).undone result → IsTrue (D.tells one.old) → IsTrue (D.tells two.old) → LeavesUnwritten D.Disk one.old two.old one.new two.new }
@@ -88,6 +94,9 @@ fn work_reply<D: Disk, T: Transport, P: Pacer>(
     ensures asked { AsksByTurns T.Transport (OnStore work) transport.old transport.new }
     ensures outside { IfOk result (λ r. IsDoneOrFull r.status → IsTrue (D.tells one.old) → IsTrue (D.tells two.old)
         → ActsOutside (exchange T.Transport P.Pacer transport.old transport.new pacer.old pacer.new) (OnStore work) (D.seen one.old, D.seen two.old) (D.seen one.new, D.seen two.new) r.status) }
+    ensures broken { IfErr result (λ e. IsTrue (D.tells one.old) → IsTrue (D.tells two.old)
+        → Aborts D.Disk (exchange T.Transport P.Pacer transport.old transport.new pacer.old pacer.new) (OnStore work) one.old two.old one.new two.new (ended_by e)
+        ((transport.new ≡ transport.old) × (pacer.new ≡ pacer.old))) }
     ensures cause { CountsDisks result (D.faults one.old) (D.faults one.new) (D.faults two.old) (D.faults two.new) (D.failed one.new) (D.failed two.new) }
 {
     match open_store(alloc, one, two, takes_turns(&work))? {
@@ -107,7 +116,8 @@ pub fn act<D: Disk, T: Transport, P: Pacer>(
 ) -> Result<Reply, ActError>
     requires ready { IsReadyDeed deed }
     ensures does { IfOk result (λ r. OwedDeed (visit D.Disk one.old two.old one.new two.new) deed r) }
-    ensures kept { IsTrue (D.tells one.old) → IsTrue (D.tells two.old) → LeavesKept D.Disk (row deed).begins (row deed).makes one.old two.old one.new two.new }
+    ensures kept { IsTrue (D.tells one.old) → IsTrue (D.tells two.old) → LeavesKept D.Disk (row deed).begins
+        ((row deed).makes (exchange T.Transport P.Pacer transport.old transport.new pacer.old pacer.new)) one.old two.old one.new two.new }
     ensures durable { IfOk result (λ r. IsDoneOrFull r.status → IsTrue (D.tells one.old) → IsTrue (D.tells two.old) → AreDurable D.Disk one.new two.new) }
     ensures tells { (D.tells one.new ≡ D.tells one.old) × (D.tells two.new ≡ D.tells two.old) }
     ensures undone { EndsWith (row deed).undone result → IsTrue (D.tells one.old) → IsTrue (D.tells two.old) → LeavesUnwritten D.Disk one.old two.old one.new two.new }
@@ -116,6 +126,9 @@ pub fn act<D: Disk, T: Transport, P: Pacer>(
     ensures asked { AsksByTurns T.Transport deed transport.old transport.new }
     ensures outside { IfOk result (λ r. IsDoneOrFull r.status → IsTrue (D.tells one.old) → IsTrue (D.tells two.old)
         → ActsOutside (exchange T.Transport P.Pacer transport.old transport.new pacer.old pacer.new) deed (D.seen one.old, D.seen two.old) (D.seen one.new, D.seen two.new) r.status) }
+    ensures broken { IfErr result (λ e. IsTrue (D.tells one.old) → IsTrue (D.tells two.old)
+        → Aborts D.Disk (exchange T.Transport P.Pacer transport.old transport.new pacer.old pacer.new) deed one.old two.old one.new two.new (ended_by e)
+        ((transport.new ≡ transport.old) × (pacer.new ≡ pacer.old))) }
     ensures cause { CountsDisks result (D.faults one.old) (D.faults one.new) (D.faults two.old) (D.faults two.new) (D.failed one.new) (D.failed two.new) }
 {
     match deed {

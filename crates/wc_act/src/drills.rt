@@ -4,29 +4,20 @@ ghost use Rattle.std.specs.Prelude.{◌≡◌, ◌≤◌, ◌↔◌, Some, IsTru
 ghost use Rattle.wc_drill.specs.Drilled.{Drills};
 ghost use Rattle.wc_act.specs.Counts.{CountsDisks};
 ghost use Rattle.wc_act.specs.Crashes.{AreDurable, LeavesKept};
-ghost use Rattle.wc_act.specs.Drills.{broken_reply, stopped};
+ghost use Rattle.wc_act.specs.Drills.{broken_reply};
 ghost use Rattle.wc_act.specs.Owed.{visit, OwedDeed};
 ghost use Rattle.wc_act.specs.Statuses.{IsDoneOrFull};
-ghost use Rattle.wc_act.specs.Rows.{Stays};
+ghost use Rattle.wc_act.specs.Rows.{MakesNothing};
 ghost use Rattle.wc_act.specs.Undone.{EndsWith, IsBeforeTurns, LeavesUnwritten};
 ghost use Rattle.wc_plan.specs.declared.deed.Begin.TheVariants.{Drill};
 ghost use Rattle.wc_plan.specs.declared.deed.Deed.TheVariants.{Begin};
 
 use crate::error::ActError;
 use crate::opened::{damaged, full};
-use std::alloc::{AllocError, Global};
+use std::alloc::Global;
 use wc_disk::Disk;
 use wc_drill::{DrillError, drill, drilled_text, drills_are_sound, sum_of_squares};
-use wc_plan::{Cause, Reply, Status, print, refuse};
-use wc_value::Text;
-
-/// A status beside which nothing is written.
-fn stopped(alloc: Global, status: Status) -> Result<Reply, AllocError>
-    ensures { IfOk result (λ r. r ≡ stopped status) }
-{
-    let text = Text::of_str(alloc, "")?;
-    Ok(Reply { status, text })
-}
+use wc_plan::{Cause, Reply, print, refuse};
 
 /// What is told of a drill that has no end.
 fn broken_off(alloc: Global, error: DrillError) -> Result<Reply, ActError>
@@ -39,8 +30,6 @@ fn broken_off(alloc: Global, error: DrillError) -> Result<Reply, ActError>
         DrillError::Damaged(disk, at, found) => Ok(damaged(alloc, disk, at, found)?),
         DrillError::Full(what, count, limit) => Ok(full(alloc, what, count, limit)?),
         DrillError::AlreadyThere => Ok(refuse(alloc, Cause::StoreExists)?),
-        DrillError::Spent => Ok(stopped(alloc, Status::Spent)?),
-        DrillError::Resting => Ok(stopped(alloc, Status::Resting)?),
     }
 }
 
@@ -54,7 +43,7 @@ pub(crate) fn drill_reply<D: Disk>(
 ) -> Result<Reply, ActError>
     requires few { count ≤ 10000 }
     ensures does { IfOk result (λ r. OwedDeed (visit D.Disk one.old two.old one.new two.new) (Begin (Drill seed count)) r) }
-    ensures kept { IsTrue (D.tells one.old) → IsTrue (D.tells two.old) → LeavesKept D.Disk (Drills seed count) Stays one.old two.old one.new two.new }
+    ensures kept { IsTrue (D.tells one.old) → IsTrue (D.tells two.old) → LeavesKept D.Disk (Drills seed count) MakesNothing one.old two.old one.new two.new }
     ensures durable { IfOk result (λ r. IsDoneOrFull r.status → IsTrue (D.tells one.old) → IsTrue (D.tells two.old) → AreDurable D.Disk one.new two.new) }
     ensures tells { (D.tells one.new ≡ D.tells one.old) × (D.tells two.new ≡ D.tells two.old) }
     ensures unwritten { EndsWith IsBeforeTurns result → IsTrue (D.tells one.old) → IsTrue (D.tells two.old) → LeavesUnwritten D.Disk one.old two.old one.new two.new }

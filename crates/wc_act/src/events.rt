@@ -7,14 +7,14 @@ ghost use Rattle.wc_store.specs.Stores.{HasImages, StandsFor};
 ghost use Rattle.wc_act.specs.Counts.{CountsDisks};
 ghost use Rattle.wc_act.specs.Crashes.{AreDurable, LeavesPairs, HoldsKeeping};
 ghost use Rattle.wc_act.specs.Entries.{IsEntryOf, IsStorable};
-ghost use Rattle.wc_act.specs.Events.{Changes, IsLine, RefusesAsked, limits_of, line_of, process_of};
+ghost use Rattle.wc_act.specs.Events.{Changes, IsLine, MayHappen, RefusesAsked, limits_of, line_of, process_of};
 ghost use Rattle.wc_act.specs.Opened.{IsTold, turn_reply};
 ghost use Rattle.wc_act.specs.Owed.{visit, DoneOn, OfVisit};
 ghost use Rattle.wc_plan.specs.Plans.{IsReadyAsked};
 ghost use Rattle.wc_act.specs.Rows.{event_row};
 ghost use Rattle.wc_act.specs.StoreDeeds.{greatest_limits};
 ghost use Rattle.wc_plan.specs.Submits.{IsReady};
-ghost use Rattle.wc_act.specs.Undone.{EndsWith};
+ghost use Rattle.wc_act.specs.Undone.{EndsWith, IsUnbroken};
 ghost use Rattle.wc_plan.specs.declared.deed.Asked.TheVariants.{Submit, Pause, Play, Kill};
 
 use crate::error::ActError;
@@ -22,9 +22,9 @@ use crate::laws::worlds_are_kept;
 use crate::opened::{full, refused};
 use std::alloc::{AllocError, Global};
 use wc_disk::Disk;
+use wc_drill::{TurnError, kill_changes, pause_changes, play_changes, submit_changes};
 use wc_plan::{Asked, Cause, Reply, Submission, print, refuse};
 use wc_report::{killed_text, paused_text, playing_text, submitted_text};
-use wc_runner::{TurnError, kill_changes, pause_changes, play_changes, submit_changes};
 use wc_state::Limits;
 use wc_store::Store;
 use wc_value::{Fields, Text};
@@ -244,8 +244,8 @@ pub(crate) fn event_reply<D: Disk>(
     requires stands { IsTrue (D.tells one.old) → IsTrue (D.tells two.old) → StandsFor D.Disk store.old one.old two.old }
     requires images { HasImages store.old }
     ensures does { IfOk result (λ r. OfVisit (visit D.Disk one.old two.old one.new two.new) (DoneOn (event_row asked) store.old.world.world r)) }
-    ensures kept { IsTrue (D.tells one.old) → IsTrue (D.tells two.old) → LeavesPairs D.Disk one.old two.old one.new two.new (HoldsKeeping (event_row asked).makes store.old.world.world) }
-    ensures durable { IfOk result (λ r. IsTrue (D.tells one.old) → IsTrue (D.tells two.old) → AreDurable D.Disk one.new two.new) }
+    ensures kept { IsTrue (D.tells one.old) → IsTrue (D.tells two.old) → LeavesPairs D.Disk one.old two.old one.new two.new (HoldsKeeping (MayHappen asked) (D.seen one.old, D.seen two.old) store.old.world.world) }
+    ensures durable { IsUnbroken result → IsTrue (D.tells one.old) → IsTrue (D.tells two.old) → AreDurable D.Disk one.new two.new }
     ensures tells { (D.tells one.new ≡ D.tells one.old) × (D.tells two.new ≡ D.tells two.old) }
     ensures untouched { EndsWith (event_row asked).undone result → (one.new ≡ one.old) × (two.new ≡ two.old) }
     ensures cause { CountsDisks result (D.faults one.old) (D.faults one.new) (D.faults two.old) (D.faults two.new) (D.failed one.new) (D.failed two.new) }

@@ -5,7 +5,7 @@ ghost use Rattle.wc_act.specs.Counts.{CountsDisks};
 ghost use Rattle.wc_act.specs.Crashes.{AreDurable, LeavesKept};
 ghost use Rattle.wc_act.specs.Owed.{visit, OwedDeed};
 ghost use Rattle.wc_act.specs.Statuses.{IsDoneOrFull};
-ghost use Rattle.wc_act.specs.Rows.{IsEmpty, Stays};
+ghost use Rattle.wc_act.specs.Rows.{IsEmpty, MakesNothing};
 ghost use Rattle.wc_act.specs.Undone.{EndsWith, IsBeforeStoring, LeavesUnwritten};
 ghost use Rattle.wc_plan.specs.declared.deed.Begin.TheVariants.{Init};
 ghost use Rattle.wc_plan.specs.declared.deed.Deed.TheVariants.{Begin};
@@ -25,7 +25,7 @@ pub(crate) fn init_reply<D: Disk>(
     two: &mut D,
 ) -> Result<Reply, ActError>
     ensures does { IfOk result (λ r. OwedDeed (visit D.Disk one.old two.old one.new two.new) (Begin Init) r) }
-    ensures kept { IsTrue (D.tells one.old) → IsTrue (D.tells two.old) → LeavesKept D.Disk IsEmpty Stays one.old two.old one.new two.new }
+    ensures kept { IsTrue (D.tells one.old) → IsTrue (D.tells two.old) → LeavesKept D.Disk IsEmpty MakesNothing one.old two.old one.new two.new }
     ensures durable { IfOk result (λ r. IsDoneOrFull r.status → IsTrue (D.tells one.old) → IsTrue (D.tells two.old) → AreDurable D.Disk one.new two.new) }
     ensures tells { (D.tells one.new ≡ D.tells one.old) × (D.tells two.new ≡ D.tells two.old) }
     ensures unwritten { EndsWith IsBeforeStoring result → IsTrue (D.tells one.old) → IsTrue (D.tells two.old) → LeavesUnwritten D.Disk one.old two.old one.new two.new }

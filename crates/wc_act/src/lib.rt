@@ -15,6 +15,6 @@ mod views;
 pub use deeds::act;
 pub use error::{ActError, ReplyError};
 pub use laws::{
-    deeds_keep_worlds_sound, empty_disks_hold_nothing, pairs_of_any_moments_are_kept,
-    told_trees_are_meant, worlds_are_kept,
+    deeds_keep_worlds_sound, empty_disks_hold_nothing, images_of_runs_are_brought,
+    pairs_of_any_moments_are_kept, told_trees_are_meant, worlds_are_kept,
 };

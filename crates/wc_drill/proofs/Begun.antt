@@ -220,8 +220,6 @@ module _ {D : Type 0} (g : disk.Ghosts D) (seed count : ℕ) (one two one_new tw
     drilled_refused fills (drill.Full what most limit) h =
         record { world = h.world; drills = h.drills; journal = h.journal; holds = fills h.world h.journal h.holds; refused = h.refused }
     drilled_refused fills drill.AlreadyThere h = absurd h
-    drilled_refused fills drill.Spent h = (h.0, h.1, (h.2.0, fills h.0 h.2.0 h.2.1))
-    drilled_refused fills drill.Resting h = (h.0, h.1, (h.2.0, fills h.0 h.2.0 h.2.1))
     drilled_refused fills drill.OutOfMemory h = tt
 
     pub drilled_unbegun : {A : Type 0} (result : Result A DrillError) → IfErr result (RefusesDrilled Holds seed count)
@@ -231,6 +229,4 @@ module _ {D : Type 0} (g : disk.Ghosts D) (seed count : ℕ) (one two one_new tw
     drilled_unbegun (Err (drill.Damaged disk at found)) h = absurd h
     drilled_unbegun (Err (drill.Full what most limit)) h = tt
     drilled_unbegun (Err drill.AlreadyThere) h = absurd h
-    drilled_unbegun (Err drill.Spent) h = tt
-    drilled_unbegun (Err drill.Resting) h = tt
     drilled_unbegun (Err drill.OutOfMemory) h = tt

@@ -24,11 +24,11 @@ use Rattle.wc_machine.specs.declared.error.TurnError.{TurnError}
 use Rattle.wc_machine.specs.declared.error.TurnError.TheVariants as turn_error
 use Rattle.wc_store.specs.Held.{is_plain}
 use Rattle.wc_store.specs.declared.error.StoreError.TheVariants as store_error
-use Rattle.wc_runner.specs.Refusals.{RefusesStored, is_live_after}
-use Rattle.wc_runner.specs.Turns.{IsRoomOrMemory, of_turn}
-use Rattle.wc_runner.specs.declared.error.RunError.{RunError}
-use Rattle.wc_runner.specs.declared.error.RunError.TheVariants.{DiskFault, Full, OutOfMemory}
-use Rattle.wc_runner.proofs.Journals.{commit_by}
+use Rattle.wc_ends.specs.Runner.Refusals.{RefusesStored, is_live_after}
+use Rattle.wc_ends.specs.Runner.Turns.{IsRoomOrMemory, of_turn}
+use Rattle.wc_ends.specs.Runner.declared.error.RunError.{RunError}
+use Rattle.wc_ends.specs.Runner.declared.error.RunError.TheVariants.{DiskFault, Full, OutOfMemory}
+use Rattle.wc_ends.proofs.Runner.Journals.{commit_by}
 use Rattle.wc_drill.specs.Library.{chain_inputs, chain_name, library, pair}
 use Rattle.wc_drill.proofs.Given.{named}
 use Rattle.wc_drill.specs.Drilled.{IsSubmitted, submits_chain, usual_limits}

@@ -1,28 +1,25 @@
 -- A drill as a whole: what its submissions and its run make and leave on a new store.
-use Rattle.std.proofs.Common.{◌≡◌, inl, inr, ℕ, true, List, Result, Err, refl, sym, subst, arith}
-use Rattle.std.specs.Prelude.{IfOk, IfErr}
+use Rattle.std.proofs.Common.{◌≡◌, inl, inr, ℕ, true, List, Err, refl, subst, arith}
 use Rattle.wc_disk.specs.declared.disk.Disk as disk
 use Rattle.wc_journal.specs.declared.journal.Journal.{Journal}
 use Rattle.wc_journal.specs.Reading.{batches_of, journal_of}
 use Rattle.wc_world.specs.World.{World, empty}
-use Rattle.wc_runner.specs.Leaves.{SomeTurns}
-use Rattle.wc_runner.specs.Refusals.{RefusesRun, is_live_after}
-use Rattle.wc_runner.specs.Trips as trips
-use Rattle.wc_runner.specs.declared.error.RunError.{RunError}
-use Rattle.wc_runner.specs.declared.error.RunError.TheVariants as run
-use Rattle.wc_runner.specs.declared.runs.RunEnd.{RunEnd}
-use Rattle.wc_runner.specs.declared.runs.RunEnd.TheVariants as end
+use Rattle.wc_ends.specs.Runner.Leaves.{SomeTurns}
+use Rattle.wc_ends.specs.Runner.Refusals.{RefusesRun, is_live_after}
+use Rattle.wc_ends.specs.Runner.Trips as trips
+use Rattle.wc_ends.specs.Runner.declared.error.RunError.{RunError}
+use Rattle.wc_ends.specs.Runner.declared.error.RunError.TheVariants as run
+use Rattle.wc_ends.specs.Runner.declared.runs.RunEnd.{RunEnd}
 use Rattle.wc_store.specs.Choices.{chosen, on}
 use Rattle.wc_store.specs.Places.{its, number_of}
 use Rattle.wc_store.specs.Stepped.{CountsFaults}
 use Rattle.wc_store.specs.Stores.{other, IsOfImages, LeadsTo, StandsFor}
 use Rattle.wc_store.specs.declared.place.Place.{Place}
 use Rattle.wc_store.specs.declared.store.Store.{Store}
-use Rattle.wc_drill.specs.declared.error.DrillError.{DrillError}
 use Rattle.wc_drill.specs.Drilled.{Drills, HasDrilled, Submitted, outside, turns_of}
 use Rattle.wc_drill.specs.Leaves.{AreDurable, IsHeldAfter, HoldsOnOne, IsBegun, IsFirst}
-use Rattle.wc_drill.specs.Refusals.{Counts, EndsDrill, RefusesChains, RefusesDrilled, of_run}
-use Rattle.wc_drill.specs.Runs.{EndsSo, TakesFewer}
+use Rattle.wc_drill.specs.Refusals.{Counts, RefusesChains, RefusesDrilled, of_run}
+use Rattle.wc_drill.specs.Runs.{EndsAll, TakesFewer}
 use Rattle.wc_drill.specs.Submissions.{SubmittedSome}
 
 none_taken : (most : ℕ) (w : World) → SomeTurns outside most w w
@@ -105,22 +102,10 @@ module _ (seed count : ℕ) (Holds : World → Journal → Type 0) (store : Stor
     }
     run_refused run.OutOfMemory live fewer refused = tt
 
-    -- the run came to an end
-    pub run_done : store.live ≡ true → (e : RunEnd) (result : Result ℕ DrillError) → EndsSo (turns_of count) begun store.world.world e
-        → EndsDrill e store.world.world result → IfOk result (IsDone Holds seed count)
-    run_done live end.AllEnded result ends is =
-        subst (λ (r : Result ℕ DrillError). IfOk r (IsDone Holds seed count)) (sym is)
-        (store.world.world, record { begun = begun; submitted = submitted; takes = takes.0; ended = ends }, refl, (store.journal, holds live))
-    run_done live end.Spent result ends is = subst (λ (r : Result ℕ DrillError). IfOk r (IsDone Holds seed count)) (sym is) tt
-    run_done live end.Resting result ends is = subst (λ (r : Result ℕ DrillError). IfOk r (IsDone Holds seed count)) (sym is) tt
-
-    pub run_ended : store.live ≡ true → (e : RunEnd) (result : Result ℕ DrillError) → EndsSo (turns_of count) begun store.world.world e
-        → EndsDrill e store.world.world result → IfErr result (RefusesDrilled Holds seed count)
-    run_ended live end.AllEnded result ends is = subst (λ (r : Result ℕ DrillError). IfErr r (RefusesDrilled Holds seed count)) (sym is) tt
-    run_ended live end.Spent result ends is = subst (λ (r : Result ℕ DrillError). IfErr r (RefusesDrilled Holds seed count)) (sym is)
-        (store.world.world, record { begun = begun; submitted = submitted; takes = ends.2; live = ends.0; goes = ends.1 }, (store.journal, holds live))
-    run_ended live end.Resting result ends is = subst (λ (r : Result ℕ DrillError). IfErr r (RefusesDrilled Holds seed count)) (sym is)
-        (store.world.world, record { begun = begun; submitted = submitted; takes = takes.0; live = ends.0; held_up = ends.1 }, (store.journal, holds live))
+    -- the run ended every process
+    pub run_done : store.live ≡ true → (end : RunEnd) → EndsAll store.world.world end → (batches : ℕ) → batches ≡ store.world.world.batches → IsDone Holds seed count batches
+    run_done live end ends batches is =
+        (store.world.world, record { begun = begun; submitted = submitted; takes = takes.0; ended = ends.1 }, is, (store.journal, holds live))
 
 -- ---- what stands in the end
 
@@ -140,9 +125,3 @@ pub counts_broken : (A B : Type 0) (e : RunError) (one one_new two two_new : ℕ
 counts_broken A B run.DiskFault one one_new two two_new failed_one failed_two h = h
 counts_broken A B (run.Full what most limit) one one_new two two_new failed_one failed_two h = h
 counts_broken A B run.OutOfMemory one one_new two two_new failed_one failed_two h = h
-
-pub counts_ended : (e : RunEnd) (w : World) (result : Result ℕ DrillError) (one one_new two two_new : ℕ) (failed_one failed_two : Type 0) → EndsDrill e w result
-    → (one_new ≡ one) × (two_new ≡ two) → Counts result one one_new two two_new failed_one failed_two
-counts_ended end.AllEnded w result one one_new two two_new failed_one failed_two is h = subst (λ (r : Result ℕ DrillError). Counts r one one_new two two_new failed_one failed_two) (sym is) h
-counts_ended end.Spent w result one one_new two two_new failed_one failed_two is h = subst (λ (r : Result ℕ DrillError). Counts r one one_new two two_new failed_one failed_two) (sym is) h
-counts_ended end.Resting w result one one_new two two_new failed_one failed_two is h = subst (λ (r : Result ℕ DrillError). Counts r one one_new two two_new failed_one failed_two) (sym is) h

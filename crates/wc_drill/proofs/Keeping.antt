@@ -13,9 +13,9 @@ use Rattle.wc_machine.proofs.EmptyWorld.{empty_is_sound}
 use Rattle.wc_soundness.proofs.NoChanges.{only_marks_change_nothing}
 use Rattle.wc_soundness.specs.EventLaws.{LeavesSound}
 use Rattle.wc_soundness.proofs.SoundEvents.{events_keep_sound}
-use Rattle.wc_runner.specs.Laws.{StaysSound}
-use Rattle.wc_runner.proofs.Continuing.{continues_itself, continues_on}
-use Rattle.wc_runner.proofs.ManyTurns.{turns_sound}
+use Rattle.wc_ends.specs.Runner.Laws.{StaysSound}
+use Rattle.wc_ends.proofs.Runner.Continuing.{continues_itself, continues_on}
+use Rattle.wc_ends.proofs.Runner.ManyTurns.{turns_sound}
 use Rattle.wc_drill.specs.Draws.{first_number, second_number}
 use Rattle.wc_drill.specs.Drilled.{IsSubmitted, Submitted, none, one_more, outside, submits_chain, usual_limits}
 use Rattle.wc_drill.specs.Sound.{DrillsAreSound}
@@ -24,7 +24,7 @@ some_applied : (w : World) (cs : List Change) → cs ≢ [] → after_changes w 
 some_applied w [] some = absurd (some refl)
 some_applied w (c ∷ cs) some = refl
 
-chain_sound : (first second : ℕ) (w v : World) → IsReached w → IsSound w → IsSubmitted first second w v → StaysSound w v
+pub chain_sound : (first second : ℕ) (w v : World) → IsReached w → IsSound w → IsSubmitted first second w v → StaysSound w v
 chain_sound first second w v reached sound s =
     let cs : List Change = s.changes in
     let poll : ℕ = usual_limits.poll_ms in
@@ -42,7 +42,7 @@ chain_sound first second w v reached sound s =
       reached = subst IsReached (sym s.after) then;
     }
 
-chains_sound : (seed n : ℕ) (w v : World) → IsReached w → IsSound w → Submitted seed n w v → StaysSound w v
+pub chains_sound : (seed n : ℕ) (w v : World) → IsReached w → IsSound w → Submitted seed n w v → StaysSound w v
 chains_sound seed n w v reached sound (none x) = record { sound = sound; continues = continues_itself x reached; reached = reached }
 chains_sound seed n w v reached sound (one_more k x y z before more) =
     let b : StaysSound x y = chains_sound seed k x y reached sound before in

@@ -1,3 +1,5 @@
+pub use Rattle.wc_ends.proofs.Runner as Runner
+pub use Rattle.wc_ends.proofs.EveryProcess
 mod Results
 mod Chains
 mod UnderWay
@@ -13,3 +15,8 @@ pub mod Rows
 pub mod Reading
 pub mod Drawing
 pub mod Given
+mod SquaredJobs
+mod PairRuns
+mod PairCost
+mod NewPairs
+mod EnoughTurns

@@ -1,12 +1,12 @@
 -- A new store on which all chains were submitted, and then turns were taken.
-use Rattle.std.proofs.Common.{◌≡◌, ℕ, Bool, true, Result, Err, refl, sym, subst, ◌∙◌}
-use Rattle.std.specs.Prelude.{IfErr, IfOk, IsTrue}
+use Rattle.std.proofs.Common.{◌≡◌, ℕ, Bool, true, Err, refl, sym, subst, ◌∙◌}
+use Rattle.std.specs.Prelude.{IsTrue}
 use Rattle.wc_disk.specs.declared.disk.Disk as disk
 use Rattle.wc_world.specs.World.{World, empty}
-use Rattle.wc_runner.specs.Leaves.{SomeTurns}
-use Rattle.wc_runner.specs.Refusals.{RefusesRun, is_live_after}
-use Rattle.wc_runner.specs.declared.error.RunError.{RunError}
-use Rattle.wc_runner.specs.declared.runs.RunEnd.{RunEnd}
+use Rattle.wc_ends.specs.Runner.Leaves.{SomeTurns}
+use Rattle.wc_ends.specs.Runner.Refusals.{RefusesRun, is_live_after}
+use Rattle.wc_ends.specs.Runner.declared.error.RunError.{RunError}
+use Rattle.wc_ends.specs.Runner.declared.runs.RunEnd.{RunEnd}
 use Rattle.wc_store.specs.Stepped.{InGeneration, LeavesWorlds, Stepped, of_world}
 use Rattle.wc_store.specs.declared.place.Place.{Place}
 use Rattle.wc_store.specs.declared.place.Place.TheVariants.{One}
@@ -15,10 +15,10 @@ use Rattle.wc_store.proofs.Stepping.{stepped_then, weaker_leaves, weaker_step}
 use Rattle.wc_drill.specs.declared.error.DrillError.{DrillError}
 use Rattle.wc_drill.specs.Drilled.{Drills, Submitted, outside, turns_of}
 use Rattle.wc_drill.specs.Leaves.{AreDurable, IsHeldAfter, IsBegun, IsFirst}
-use Rattle.wc_drill.specs.Refusals.{Counts, EndsDrill, RefusesChains, RefusesDrilled, of_run}
-use Rattle.wc_drill.specs.Runs.{EndsSo, TakesFewer}
+use Rattle.wc_drill.specs.Refusals.{Counts, RefusesChains, RefusesDrilled, of_run}
+use Rattle.wc_drill.specs.Runs.{EndsAll, TakesFewer}
 use Rattle.wc_drill.specs.Submissions.{SubmittedSome}
-use Rattle.wc_drill.proofs.Joined.{IsDone, chains_refused, comes_to, counts_broken, counts_ended, durable, live_begun, of_some, of_turns, run_done, run_ended, run_refused}
+use Rattle.wc_drill.proofs.Joined.{IsDone, chains_refused, comes_to, counts_broken, durable, live_begun, of_some, of_turns, run_done, run_refused}
 
 module _ {D : Type 0} (g : disk.Ghosts D) (seed count : ℕ) (old : Store) (one two : D) (bare : old.world.world ≡ empty) (made : IsFirst old) where
   abbrev pub Told : Type 0
@@ -110,19 +110,11 @@ module _ {D : Type 0} (g : disk.Ghosts D) (seed count : ℕ) (old : Store) (one 
         subst (RefusesDrilled (IsHeldAfter g Told old one_s two_s) seed count) (sym told_as)
         (run_refused seed count (IsHeldAfter g Told old one_s two_s) s comes mid.world.world submitted then.comes.holds e live fewer refused)
 
-    -- it came to its end
-    module _ (live : s.live ≡ true) (end : RunEnd) (result : Result ℕ DrillError) (ends : EndsSo (turns_of count) mid.world.world s.world.world end)
-        (is : EndsDrill end s.world.world result) where
-      pub ended_done : IfOk result (IsDone (IsHeldAfter g Told old one_s two_s) seed count)
-      ended_done = run_done seed count (IsHeldAfter g Told old one_s two_s) s comes mid.world.world submitted then.comes.holds live end result ends is
-
-      pub ended_refused : IfErr result (RefusesDrilled (IsHeldAfter g Told old one_s two_s) seed count)
-      ended_refused = run_ended seed count (IsHeldAfter g Told old one_s two_s) s comes mid.world.world submitted then.comes.holds live end result ends is
+    -- it ended every process
+    pub ended_done : s.live ≡ true → (end : RunEnd) → EndsAll s.world.world end → (batches : ℕ) → batches ≡ s.world.world.batches
+        → IsDone (IsHeldAfter g Told old one_s two_s) seed count batches
+    ended_done live end ends batches is =
+        run_done seed count (IsHeldAfter g Told old one_s two_s) s comes mid.world.world submitted then.comes.holds live end ends batches is
 
   pub ended_durable : (s : Store) (one_s two_s : D) → Drilling true s one_s two_s → IsTrue (g.tells one) → IsTrue (g.tells two) → AreDurable g one_s two_s
   ended_durable s one_s two_s step = stands_durable true s one_s two_s step refl
-
-  pub ended_counts : (s : Store) (one_s two_s : D) → Drilling true s one_s two_s → (end : RunEnd) (result : Result ℕ DrillError) → EndsDrill end s.world.world result
-      → Counts result (g.faults one) (g.faults one_s) (g.faults two) (g.faults two_s) (g.failed one_s) (g.failed two_s)
-  ended_counts s one_s two_s step end result is =
-      counts_ended end s.world.world result (g.faults one) (g.faults one_s) (g.faults two) (g.faults two_s) (g.failed one_s) (g.failed two_s) is step.call.counts

@@ -58,7 +58,7 @@ row_is_squared n q r few c =
     record { number = c.0; small = omega (arith, less); asks = ap (λ (x : Row). x.0) (sym is); leaves = ap (λ (x : Row). x.1) (sym is) }
 
 -- the number of a request
-number_of : (m n : ℕ) → m < 2 ^ 64 → n < 2 ^ 64 → square_request m ≡ square_request n → m ≡ n
+pub number_of : (m n : ℕ) → m < 2 ^ 64 → n < 2 ^ 64 → square_request m ≡ square_request n → m ≡ n
 number_of m n small small_too same = decimal_injective m n small small_too (ap (λ (q : Request). get_or q.args 0 []) same)
 
 -- no request stands in two rows

@@ -8,24 +8,28 @@ use Rattle.wc_journal.specs.declared.journal.Journal.{Journal}
 use Rattle.wc_state.specs.declared.record.Limits.{Limits}
 use Rattle.wc_transport.specs.Outside.{IsRow, WhereTold}
 use Rattle.wc_transport.specs.declared.transport.Transport as transport
+use Rattle.wc_world.specs.Accepted.{IsReached}
 use Rattle.wc_world.specs.World.{World}
 use Rattle.wc_store.specs.declared.store.Store.{Store}
-use Rattle.wc_runner.specs.declared.error.RunError.{RunError}
-use Rattle.wc_runner.specs.declared.error.RunError.TheVariants.{DiskFault, Full, OutOfMemory}
-use Rattle.wc_runner.specs.declared.runs.RunEnd.{RunEnd}
-use Rattle.wc_runner.specs.declared.runs.RunEnd.TheVariants.{AllEnded, Spent, Resting}
-use Rattle.wc_runner.specs.Leaves.{SomeTurns}
-use Rattle.wc_runner.specs.Outside.{Outside, in_run}
-use Rattle.wc_runner.specs.Refusals.{RefusesRun}
-use Rattle.wc_runner.specs.Runs.{TakesAll, TakesWithin, Ends, EndsAs}
-use Rattle.wc_runner.specs.Runs.{TakesFewer as FewerTaken}
-use Rattle.wc_runner.proofs.Widened.{Widens, step_widened, turns_widened}
+use Rattle.wc_ends.specs.Runner.declared.error.RunError.{RunError}
+use Rattle.wc_ends.specs.Runner.declared.error.RunError.TheVariants.{DiskFault, Full, OutOfMemory}
+use Rattle.wc_ends.specs.Runner.declared.runs.RunEnd.{RunEnd}
+use Rattle.wc_ends.specs.Runner.declared.runs.RunEnd.TheVariants.{AllEnded}
+use Rattle.wc_ends.specs.Runner.Leaves.{SomeTurns}
+use Rattle.wc_ends.specs.Enough.{HasEnough}
+use Rattle.wc_ends.specs.Runner.Orders.{Went}
+use Rattle.wc_ends.specs.Runner.Outside.{Outside, in_run}
+use Rattle.wc_ends.specs.Runner.Refusals.{RefusesRun}
+use Rattle.wc_ends.specs.Runner.Runs.{TakesAll, TakesWithin, Ends, EndsAs}
+use Rattle.wc_ends.specs.Runner.Runs.{TakesFewer as FewerTaken}
+use Rattle.wc_ends.proofs.EveryProcess.{enough_turns_end}
+use Rattle.wc_ends.proofs.Runner.Widened.{Widens, step_widened, turns_widened}
 use Rattle.wc_drill.specs.Squares.{square_rows}
 use Rattle.wc_drill.proofs.Rows.{row_is_squared}
 use Rattle.wc_drill.specs.Drilled.{outside, usual_limits}
-use Rattle.wc_drill.specs.Runs.{EndsSo, TakesFewer, TakesJust}
+use Rattle.wc_drill.specs.Runs.{EndsAll, TakesFewer, TakesJust}
 
-module _ {T P : Type 0} (h : transport.Ghosts T) (k : pacer.Ghosts P) (limits : Limits) (usual : limits ≡ usual_limits) (tr tr_new : T) (pa_new : P)
+module _ {T P : Type 0} (h : transport.Ghosts T) (k : pacer.Ghosts P) (limits : Limits) (usual : limits ≡ usual_limits) (tr tr_new : T) (pa pa_new : P)
     (table : h.table tr ≡ Some (square_rows 100)) where
   abbrev known : Outside
   known = in_run h k limits tr tr_new pa_new
@@ -45,17 +49,18 @@ module _ {T P : Type 0} (h : transport.Ghosts T) (k : pacer.Ghosts P) (limits : 
   takes_fewer : (most : ℕ) (w v : World) (begun now : ℕ) → FewerTaken known most w v begun now → TakesFewer most w v
   takes_fewer most w v begun now t = (t.0, t.1, takes_just t.0 w v begun now t.2)
 
-  -- how it ends
-  ends_so : (most : ℕ) (w v : World) (begun now : ℕ) (e : RunEnd) → EndsAs known most w v begun now e → EndsSo most w v e
-  ends_so most w v begun now AllEnded e = e
-  ends_so most w v begun now Spent e = (e.0, e.1, takes_just most w v begun now e.2)
-  ends_so most w v begun now Resting e = e
+  -- it breaks off before it has taken all
+  pub breaks_early : (most : ℕ) (w v : World) (begun now : ℕ) (result : Result RunEnd RunError) → Ends known most w v begun now result → OnErr result (TakesFewer most w v)
+  breaks_early most w v begun now (Ok end) e = tt
+  breaks_early most w v begun now (Err error) e = takes_fewer most w v begun now e
 
-  -- how it ends, or that it breaks off
-  pub ends_as_told : (most : ℕ) (w v : World) (begun now : ℕ) (result : Result RunEnd RunError) → Ends known most w v begun now result
-      → IfOk result (EndsSo most w v) × OnErr result (TakesFewer most w v)
-  ends_as_told most w v begun now (Ok end) e = (ends_so most w v begun now end e, tt)
-  ends_as_told most w v begun now (Err error) e = (tt, takes_fewer most w v begun now e)
+  -- and with enough turns no process is live where it ends
+  pub ends_all : (most seed : ℕ) (w v : World) (begun now : ℕ) (journal : Journal) (result : Result RunEnd RunError) → IsReached w → HasEnough h k tr pa w most
+      → Went h k limits tr pa w seed most result journal tr_new pa_new v → Ends known most w v begun now result → IfOk result (EndsAll v)
+  ends_all most seed w v begun now journal (Ok end) reached enough went ends =
+      let all : end ≡ AllEnded = enough_turns_end h k limits most tr tr_new pa pa_new w v end begun now reached enough went.0 ends in
+      (all, subst (EndsAs known most w v begun now) all ends)
+  ends_all most seed w v begun now journal (Err error) reached enough went ends = tt
 
   -- what it leaves
   pub some_turns : (most : ℕ) (w v : World) (journal : Journal) → TakesWithin known most w v journal → SomeTurns outside most w v

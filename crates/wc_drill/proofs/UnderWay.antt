@@ -8,8 +8,8 @@ use Rattle.wc_store.specs.declared.store.Store.{Store}
 use Rattle.wc_store.specs.Stepped.{IsAsBefore, Stepped, of_world}
 use Rattle.wc_store.specs.Stores.{StandsFor}
 use Rattle.wc_store.proofs.Stepping.{not_stepped, stepped_then}
-use Rattle.wc_runner.specs.declared.error.RunError.{RunError}
-use Rattle.wc_runner.specs.declared.error.RunError.TheVariants.{DiskFault, Full, OutOfMemory}
+use Rattle.wc_ends.specs.Runner.declared.error.RunError.{RunError}
+use Rattle.wc_ends.specs.Runner.declared.error.RunError.TheVariants.{DiskFault, Full, OutOfMemory}
 use Rattle.wc_drill.specs.Draws.{first_number, second_number}
 use Rattle.wc_drill.specs.Drilled.{IsSubmitted, Submitted, none, one_more}
 use Rattle.wc_drill.specs.Refusals.{RefusesChains}

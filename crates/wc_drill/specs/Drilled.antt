@@ -6,10 +6,10 @@ use Rattle.wc_world.specs.World.{World, empty}
 use Rattle.wc_world.specs.Accepted.{IsAccepted}
 use Rattle.wc_world.specs.Applied.{applied}
 use Rattle.wc_machine.specs.Machine.{Event, Leads, submit}
-use Rattle.wc_runner.specs.Standing.{is_any_live}
-use Rattle.wc_runner.specs.Leaves.{SomeTurns}
-use Rattle.wc_runner.specs.Outside.{Outside}
-use Rattle.wc_runner.specs.Runs.{TakesTurns}
+use Rattle.wc_ends.specs.Runner.Standing.{is_any_live}
+use Rattle.wc_ends.specs.Runner.Leaves.{SomeTurns}
+use Rattle.wc_ends.specs.Runner.Outside.{Outside}
+use Rattle.wc_ends.specs.Runner.Runs.{TakesTurns}
 use Rattle.wc_drill.specs.Draws.{first_number, second_number}
 use Rattle.wc_drill.specs.Library.{library, chain_name, chain_inputs}
 use Rattle.wc_drill.specs.Squares.{IsSquared}

@@ -12,7 +12,7 @@ use Rattle.wc_store.specs.Stores.{InOnePart, InTwoParts, AreImages, IsOfImages}
 use Rattle.wc_store.specs.declared.place.Place.TheVariants.{One}
 use Rattle.wc_store.specs.declared.store.Store.{Store}
 use Rattle.wc_drill.specs.declared.error.DrillError.{DrillError}
-use Rattle.wc_drill.specs.declared.error.DrillError.TheVariants.{DiskFault, Damaged, Full, AlreadyThere, Spent, Resting, OutOfMemory}
+use Rattle.wc_drill.specs.declared.error.DrillError.TheVariants.{DiskFault, Damaged, Full, AlreadyThere, OutOfMemory}
 use Rattle.wc_drill.specs.Drilled.{Drills}
 
 -- An image of disk one, beside one of disk two, is one of a drill: where the disks held nothing, the two hold nothing, or a world that the drill
@@ -72,8 +72,6 @@ IsBegun (Err DiskFault) = ⊥
 IsBegun (Err (Damaged number at found)) = ⊥
 IsBegun (Err (Full what count limit)) = Unit {0}
 IsBegun (Err AlreadyThere) = ⊥
-IsBegun (Err Spent) = Unit {0}
-IsBegun (Err Resting) = Unit {0}
 IsBegun (Err OutOfMemory) = ⊥
 
 -- what a drill leaves that wasn't begun, since there is a store, or damage

@@ -1,28 +1,24 @@
 -- Why a drill has no end, and what is counted.
-use Rattle.std.specs.Prelude.{◌≡◌, ◌⊎◌, ◌<◌, ℕ, true, false, Result, Ok, Err}
+use Rattle.std.specs.Prelude.{◌≡◌, ◌⊎◌, ◌<◌, ℕ, Result, Err}
 use Rattle.wc_io.specs.Counts.{EitherFailedLast}
 use Rattle.wc_disk.specs.declared.disk.Disk as disk
 use Rattle.wc_journal.specs.declared.journal.Journal.{Journal}
 use Rattle.wc_world.specs.World.{World, empty}
-use Rattle.wc_runner.specs.Standing.{is_any_live, is_resting}
 use Rattle.wc_store.specs.Held.{IsHeld, damage}
 use Rattle.wc_store.specs.Sights.{OfImages}
 use Rattle.wc_store.specs.Stores.{HoldsAWorld}
 use Rattle.wc_store.specs.declared.store.Store.{Store}
 use Rattle.wc_store.specs.declared.error.StoreError.{StoreError}
 use Rattle.wc_store.specs.declared.error.StoreError.TheVariants as store_error
-use Rattle.wc_runner.specs.declared.runs.RunEnd.{RunEnd}
-use Rattle.wc_runner.specs.declared.runs.RunEnd.TheVariants as end
-use Rattle.wc_runner.specs.Refusals.{RefusesStep}
-use Rattle.wc_runner.specs.Runs.{TakesTurns}
-use Rattle.wc_runner.specs.declared.error.RunError.{RunError}
-use Rattle.wc_runner.specs.declared.error.RunError.TheVariants as run
+use Rattle.wc_ends.specs.Runner.Refusals.{RefusesStep}
+use Rattle.wc_ends.specs.Runner.declared.error.RunError.{RunError}
+use Rattle.wc_ends.specs.Runner.declared.error.RunError.TheVariants as run
 use Rattle.wc_drill.specs.Draws.{first_number, second_number}
 use Rattle.wc_drill.specs.declared.error.DrillError.{DrillError}
-use Rattle.wc_drill.specs.declared.error.DrillError.TheVariants.{DiskFault, Damaged, Full, AlreadyThere, Spent, Resting, OutOfMemory}
+use Rattle.wc_drill.specs.declared.error.DrillError.TheVariants.{DiskFault, Damaged, Full, AlreadyThere, OutOfMemory}
 use Rattle.wc_drill.specs.Drilled.{Submitted, Drills, outside, turns_of}
 use Rattle.wc_drill.specs.Leaves.{IsFilled}
-use Rattle.wc_drill.specs.Runs.{TakesFewer, TakesJust}
+use Rattle.wc_drill.specs.Runs.{TakesFewer}
 use Rattle.wc_drill.specs.Submissions.{RefusesChain}
 
 -- what a drill tells of what breaks off a run
@@ -42,12 +38,6 @@ of_init (store_error.Damaged number at found) = Damaged number at found
 of_init (store_error.Full what count limit) = OutOfMemory
 of_init store_error.AlreadyThere = AlreadyThere
 of_init store_error.OutOfMemory = OutOfMemory
-
--- what is told of the end of a run: how many batches there are, where no process is live
-abbrev pub EndsDrill : RunEnd → World → Result ℕ DrillError → Type 0
-EndsDrill end.AllEnded w result = result ≡ Ok w.batches
-EndsDrill end.Spent w result = result ≡ Err Spent
-EndsDrill end.Resting w result = result ≡ Err Resting
 
 -- ---- fullness
 
@@ -86,24 +76,6 @@ pub record IsDrillFull (Holds : World → Journal → Type 0) (seed count : ℕ)
   pub holds : Holds world journal
   pub refused : IsTooFullFor seed count journal world e
 
--- ---- a run that doesn't come to its end
-
--- All chains are submitted, as many turns and rests are taken as there are, and some process could go on.
-pub record IsSpent (seed count : ℕ) (v : World) : Type 0 where
-  pub begun : World
-  pub submitted : Submitted seed count empty begun
-  pub takes : TakesJust (turns_of count) begun v
-  pub live : is_any_live v ≡ true
-  pub goes : is_resting v ≡ false
-
--- All chains are submitted, turns and rests follow, some process is live, and each live one is held up.
-pub record IsHeldUp (seed count : ℕ) (v : World) : Type 0 where
-  pub begun : World
-  pub submitted : Submitted seed count empty begun
-  pub takes : TakesTurns outside (turns_of count) begun v
-  pub live : is_any_live v ≡ true
-  pub held_up : is_resting v ≡ true
-
 -- ---- all of them
 
 -- of a store that was made, with how a world is held by a journal. Faults and want of memory may come at any time.
@@ -112,8 +84,6 @@ RefusesDrilled Holds seed count DiskFault = Unit {0}
 RefusesDrilled Holds seed count (Damaged number at found) = ⊥
 RefusesDrilled Holds seed count (Full what many limit) = IsDrillFull Holds seed count (run.Full what many limit)
 RefusesDrilled Holds seed count AlreadyThere = ⊥
-RefusesDrilled Holds seed count Spent = (v : World) × IsSpent seed count v × ((journal : Journal) × Holds v journal)
-RefusesDrilled Holds seed count Resting = (v : World) × IsHeldUp seed count v × ((journal : Journal) × Holds v journal)
 RefusesDrilled Holds seed count OutOfMemory = Unit {0}
 
 -- Damage is what some two images hold, and a store is there in some two: those that the disks read as, where they tell their bytes. Else

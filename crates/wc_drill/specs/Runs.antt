@@ -1,10 +1,10 @@
 -- How the run of a drill ends.
-use Rattle.std.specs.Prelude.{◌≡◌, ℕ, ◌+◌, ◌<◌, true, false}
+use Rattle.std.specs.Prelude.{◌≡◌, ℕ, ◌+◌, ◌<◌, false}
 use Rattle.wc_world.specs.World.{World}
-use Rattle.wc_runner.specs.Standing.{is_any_live, is_resting}
-use Rattle.wc_runner.specs.declared.runs.RunEnd.{RunEnd}
-use Rattle.wc_runner.specs.declared.runs.RunEnd.TheVariants.{AllEnded, Spent, Resting}
-use Rattle.wc_runner.specs.Trips.{Turns}
+use Rattle.wc_ends.specs.Runner.Standing.{is_any_live}
+use Rattle.wc_ends.specs.Runner.declared.runs.RunEnd.{RunEnd}
+use Rattle.wc_ends.specs.Runner.declared.runs.RunEnd.TheVariants.{AllEnded}
+use Rattle.wc_ends.specs.Runner.Trips.{Turns}
 use Rattle.wc_drill.specs.Drilled.{outside}
 
 -- so many turns and rests in all lead from one world to the other
@@ -18,8 +18,6 @@ pub record TakesJust (all : ℕ) (w v : World) : Type 0 where
 abbrev pub TakesFewer : (most : ℕ) → World → World → Type 0
 TakesFewer most w v = (all : ℕ) × (all < most) × TakesJust all w v
 
--- no process is live, or else each live one is held up, or else as many turns and rests were taken as are given
-abbrev pub EndsSo : (turns : ℕ) → World → World → RunEnd → Type 0
-EndsSo turns w v AllEnded = is_any_live v ≡ false
-EndsSo turns w v Spent = (is_any_live v ≡ true) × (is_resting v ≡ false) × TakesJust turns w v
-EndsSo turns w v Resting = (is_any_live v ≡ true) × (is_resting v ≡ true)
+-- the run came to an end at which no process is live
+abbrev pub EndsAll : World → RunEnd → Type 0
+EndsAll v end = (end ≡ AllEnded) × (is_any_live v ≡ false)

@@ -11,8 +11,8 @@ use Rattle.wc_machine.specs.Refusals.{HasRoom, IsFull}
 use Rattle.wc_store.specs.Held.{is_plain}
 use Rattle.wc_store.specs.Refusals.{RefusesCommit}
 use Rattle.wc_store.specs.declared.error.StoreError.TheVariants as store_error
-use Rattle.wc_runner.specs.declared.error.RunError.{RunError}
-use Rattle.wc_runner.specs.declared.error.RunError.TheVariants.{DiskFault, Full, OutOfMemory}
+use Rattle.wc_ends.specs.Runner.declared.error.RunError.{RunError}
+use Rattle.wc_ends.specs.Runner.declared.error.RunError.TheVariants.{DiskFault, Full, OutOfMemory}
 use Rattle.wc_drill.specs.Drilled.{usual_limits, submits_chain, IsSubmitted, Submitted}
 
 -- The changes are those of the submission of a chain with these numbers, and a store may commit them.

@@ -1,6 +1,6 @@
 //! Drills.
 
-ghost use Rattle.std.specs.Prelude.{◌≡◌, ◌≤◌, true, IsTrue, IfOk, IfErr, OnErr};
+ghost use Rattle.std.specs.Prelude.{◌≡◌, ◌≤◌, ℕ, true, IsTrue, IfOk, IfErr, OnErr};
 ghost use Rattle.wc_world.specs.World.{World as AWorld, empty};
 ghost use Rattle.wc_disk.specs.Images.{LeavesOnly};
 ghost use Rattle.wc_store.specs.Held.{IsHeld, nothing};
@@ -8,14 +8,14 @@ ghost use Rattle.wc_journal.specs.declared.journal.Journal.{Journal as AJournal}
 ghost use Rattle.wc_store.specs.Stepped.{LeavesWorlds, Stepped, of_world};
 ghost use Rattle.wc_store.specs.Stores.{StandsFor};
 ghost use Rattle.wc_store.specs.declared.place.Place.TheVariants.{One};
-ghost use Rattle.wc_runner.specs.Leaves.{SomeTurns};
-ghost use Rattle.wc_runner.specs.Refusals.{RefusesRun, is_live_after};
+ghost use Rattle.wc_ends.specs.Runner.Leaves.{SomeTurns};
+ghost use Rattle.wc_ends.specs.Runner.Refusals.{RefusesRun, is_live_after};
 ghost use Rattle.wc_drill.specs.Library.{library};
 ghost use Rattle.wc_drill.specs.Squares.{square_rows};
-ghost use Rattle.wc_drill.specs.Drilled.{Drills, HasDrilled, outside, turns_of};
+ghost use Rattle.wc_drill.specs.Drilled.{Drills, HasDrilled, Submitted, outside, turns_of};
 ghost use Rattle.wc_drill.specs.Leaves.{AreDurable, DrilledBeside, DrilledOr, IsBegun, IsFilled, IsFirst, IsHeldAfter, RefusedLeaves};
-ghost use Rattle.wc_drill.specs.Refusals.{Counts, EndsDrill, IsOfInit, RefusesDrill, RefusesDrilled, of_init};
-ghost use Rattle.wc_drill.specs.Runs.{EndsSo, TakesFewer};
+ghost use Rattle.wc_drill.specs.Refusals.{Counts, IsOfInit, RefusesDrill, RefusesDrilled, of_init};
+ghost use Rattle.wc_drill.specs.Runs.{EndsAll, TakesFewer};
 
 use crate::error::DrillError;
 use crate::runs::run_chains;
@@ -23,8 +23,8 @@ use crate::submissions::submit_chains;
 use crate::{chain_library, square_table};
 use std::alloc::Global;
 use wc_disk::Disk;
+use wc_ends::{RunEnd, RunError};
 use wc_io::{Failing, MemoryPacer};
-use wc_runner::{RunEnd, RunError};
 use wc_store::{Store, StoreError};
 use wc_syntax::Checked;
 use wc_transport::{Busy, TableTransport};
@@ -44,18 +44,7 @@ fn of_init(error: StoreError) -> DrillError
     }
 }
 
-/// What is told of a run of chains that ended so, at a store: how many batches it has, where no process is live.
-fn ended(end: RunEnd, store: &Store) -> Result<u32, DrillError>
-    ensures { EndsDrill end store.now.world.world result }
-{
-    match end {
-        RunEnd::AllEnded => Ok(store.world().batches()),
-        RunEnd::Spent => Err(DrillError::Spent),
-        RunEnd::Resting => Err(DrillError::Resting),
-    }
-}
-
-/// Lets the chains that were submitted take their turns, by the table, from the moment 0 on.
+/// Lets the chains that were submitted take their turns, by the table, from the moment 0 on: 17 for each, with which all end.
 fn run_all<D: Disk>(
     alloc: Global,
     store: &mut Store,
@@ -67,9 +56,10 @@ fn run_all<D: Disk>(
     requires few { count ≤ 10000 }
     requires table { table ≡ square_rows 100 }
     requires live { store.old.live ≡ true }
+    requires submitted { (seed : ℕ) × Submitted seed count empty store.old.world.world }
     requires stands { IsTrue (D.tells one.old) → IsTrue (D.tells two.old) → StandsFor D.Disk store.old one.old two.old }
     ensures stepped { Stepped D.Disk (of_world (SomeTurns outside (turns_of count) store.old.world.world)) (is_live_after result) store.old one.old two.old store.new one.new two.new }
-    ensures ends { IfOk result (EndsSo (turns_of count) store.old.world.world store.new.world.world) }
+    ensures ends { IfOk result (EndsAll store.new.world.world) }
     ensures early { OnErr result (TakesFewer (turns_of count) store.old.world.world store.new.world.world) }
     ensures refused { IfErr result (RefusesRun outside store.new) }
 {
@@ -110,7 +100,7 @@ fn drilled<D: Disk>(
         Err(error) => return Err(DrillError::from(error)),
     }
     match run_all(alloc, &mut store, one, two, table, count) {
-        Ok(end) => ended(end, &store),
+        Ok(_) => Ok(store.world().batches()),
         Err(error) => Err(DrillError::from(error)),
     }
 }

@@ -6,8 +6,8 @@ ghost use Rattle.wc_drill.specs.Refusals.{of_run};
 
 use std::alloc::AllocError;
 use thiserror::Error;
+use wc_ends::RunError;
 use wc_journal::Found;
-use wc_runner::RunError;
 use wc_state::What;
 
 /// Why a drill was not made, or didn't come to its end.
@@ -25,12 +25,6 @@ pub enum DrillError {
     /// A store is there already.
     #[error("a store is there")]
     AlreadyThere,
-    /// All turns were taken, and some process could go on.
-    #[error("all turns were taken")]
-    Spent,
-    /// Each live process is held up.
-    #[error("each live process is held up")]
-    Resting,
     /// Memory ran out.
     #[error("out of memory")]
     OutOfMemory,

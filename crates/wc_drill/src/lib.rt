@@ -16,8 +16,12 @@ mod text;
 pub use drills::drill;
 pub use error::DrillError;
 pub use inputs::{chain_inputs, chain_name};
-pub use laws::drills_are_sound;
+pub use laws::{drills_are_sound, pair_costs_seventeen};
 pub use library::chain_library;
 pub use numbers::{next_numbers, sum_of_squares};
 pub use squares::square_table;
 pub use text::drilled_text;
+pub use wc_ends::{
+    RunEnd, RunError, TurnError, kill_changes, pause_changes, play_changes, run, submit_changes,
+    turns_keep_sound, worlds_continue_themselves,
+};

@@ -4,8 +4,8 @@ ghost use Rattle.std.specs.Prelude.{◌≡◌, true, IsTrue, IfOk, IfErr, OnOk, 
 ghost use Rattle.wc_state.specs.Ranges.{AreLimits};
 ghost use Rattle.wc_store.specs.Stepped.{IsAsBefore, Stepped, of_world};
 ghost use Rattle.wc_store.specs.Stores.{StandsFor};
-ghost use Rattle.wc_runner.specs.Refusals.{is_live_after};
-ghost use Rattle.wc_runner.specs.Turns.{IsRoomOrMemory, of_turn};
+ghost use Rattle.wc_ends.specs.Runner.Refusals.{is_live_after};
+ghost use Rattle.wc_ends.specs.Runner.Turns.{IsRoomOrMemory, of_turn};
 ghost use Rattle.wc_drill.specs.Library.{library};
 ghost use Rattle.wc_drill.specs.Drilled.{IsSubmitted, Submitted, usual_limits};
 ghost use Rattle.wc_drill.specs.Refusals.{RefusesChains};
@@ -14,8 +14,8 @@ ghost use Rattle.wc_drill.specs.Submissions.{IsCrowded, IsOrSubmitted, IsStorabl
 use crate::{chain_inputs, chain_name, next_numbers};
 use std::alloc::Global;
 use wc_disk::Disk;
+use wc_ends::{RunError, commit_changes, submit_changes};
 use wc_machine::TurnError;
-use wc_runner::{RunError, commit_changes, submit_changes};
 use wc_state::Limits;
 use wc_store::Store;
 use wc_syntax::Checked;

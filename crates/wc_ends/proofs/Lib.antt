@@ -1,3 +1,5 @@
+pub use Rattle.wc_runner.proofs as Runner
+pub use Rattle.wc_cost.proofs as Costs
 pub mod Counts
 pub mod Rows
 pub mod HeldUp

@@ -1,13 +1,16 @@
 //! The top call.
 
-ghost use Rattle.std.specs.Prelude.{◌≡◌, IsTrue, IfOk};
+ghost use Rattle.std.specs.Prelude.{◌≡◌, IsTrue, IfErr, IfOk};
 ghost use Rattle.wc_cli.specs.Words.{command_of};
 ghost use Rattle.wc_io.specs.Counts.{RisesByOne, EitherFailedLast};
 ghost use Rattle.wc_io.specs.Forms.{TakesPart};
 ghost use Rattle.wc_act.specs.Asked.{IsAskedFor};
 ghost use Rattle.wc_act.specs.Counts.{CountsReply, status_of};
 ghost use Rattle.wc_act.specs.Crashes.{AreDurable, EachPair, HoldsSound, HoldsTheSame, LeavesMade, Stands, StaySound};
-ghost use Rattle.wc_act.specs.Outside.{exchange, turns_of, ServesOutside, TakesNoTurns};
+ghost use Rattle.wc_act.specs.Aborted.{ServesAborted};
+ghost use Rattle.wc_act.specs.Enough.{EndsOrBreaks, HasEnoughToRun};
+ghost use Rattle.wc_act.specs.Exchanges.{exchange};
+ghost use Rattle.wc_act.specs.Outside.{turns_of, ServesOutside, TakesNoTurns};
 ghost use Rattle.wc_act.specs.Owed.{visit, AskNoDisk, IsCertain, IsNoDeeds, IsOwed, LeaveUndone, NeedDisks};
 ghost use Rattle.wc_plan.specs.Naming.{files_named, AsksFirst};
 ghost use Rattle.wc_plan.specs.Plans.{NamesNoFile};
@@ -50,7 +53,11 @@ fn answer<R: Shelf, D: Disk, T: Transport, P: Pacer>(
     ensures unasked { AskNoDisk (R.contents shelf.old) words.now → (one.new ≡ one.old) × (two.new ≡ two.old) × (status_of result ≡ Status.DiskFault → ⊥) }
     ensures early { (c : ACause) → status_of result ≡ Status.Refused c → IsNoDeeds (R.contents shelf.old) words.now c → (one.new ≡ one.old) × (two.new ≡ two.old) }
     ensures undone { LeaveUndone (R.contents shelf.old) words.now (status_of result) → IsTrue (D.tells one.old) → IsTrue (D.tells two.old) → LeavesUnwritten D.Disk one.old two.old one.new two.new }
-    ensures made { IsTrue (D.tells one.old) → IsTrue (D.tells two.old) → LeavesMade D.Disk (R.contents shelf.old) words.now one.old two.old one.new two.new }
+    ensures made { IsTrue (D.tells one.old) → IsTrue (D.tells two.old) → LeavesMade D.Disk (R.contents shelf.old) words.now
+        (exchange T.Transport P.Pacer transport.old transport.new pacer.old pacer.new) one.old two.old one.new two.new }
+    ensures broken { IfErr result (λ e. IsTrue (D.tells one.old) → IsTrue (D.tells two.old) → ServesAborted D.Disk (R.contents shelf.old) words.now
+        (exchange T.Transport P.Pacer transport.old transport.new pacer.old pacer.new) one.old two.old one.new two.new (status_of result)
+        ((transport.new ≡ transport.old) × (pacer.new ≡ pacer.old))) }
     ensures durable { IfOk result (λ r. NeedDisks (R.contents shelf.old) words.now → IsDoneOrFull r.status → IsTrue (D.tells one.old) → IsTrue (D.tells two.old) → AreDurable D.Disk one.new two.new) }
 {
     match plan(alloc, words, shelf)? {
@@ -92,9 +99,12 @@ pub fn serve<R: Shelf, W: Sink, D: Disk, T: Transport, P: Pacer>(
     // begin a store, nothing or a world with which they begin it, which is sound, for `init` the empty one, and for `drill` what submissions of its
     // first chains, and turns once all are submitted, make of that; of a world, the same world, or what a deed that they plan makes of it, which
     // for `submit` is the one submission as which its words are prepared, within its settings' limit of nodes, for `pause`, `play` and `kill` that
-    // event, and for `run` what at most as many turns and rests as are given make, within the limits of its settings, with some
-    // answers, which this clause doesn't tie to the transport. What is made of a sound world is sound, and continues it.
-    ensures crash { IsTrue (D.tells one.old) → IsTrue (D.tells two.old) → LeavesMade D.Disk (R.contents shelf.old) words.now one.old two.old one.new two.new }
+    // event, and for `run` what at most as many turns and rests as are given led to, within the limits of its settings, each turn with the answer that this
+    // transport gave to its own call, at a moment that this clock was asked for. The journal by which the images hold it is of the same version and generation, at
+    // the same place, and within the limit of bytes where the event or a turn was committed; of `pack`, and of a store that is begun, it isn't said by which.
+    // What is made of a sound world is sound, and continues it.
+    ensures crash { IsTrue (D.tells one.old) → IsTrue (D.tells two.old) → LeavesMade D.Disk (R.contents shelf.old) words.now
+        (exchange T.Transport P.Pacer transport.old transport.new pacer.old pacer.new) one.old two.old one.new two.new }
     // Once a deed was done, or found the store too full, nothing is pending, and each pair of images holds what the disks then read as.
     ensures durable { NeedDisks (R.contents shelf.old) words.now → IsDoneOrFull result → IsTrue (D.tells one.old) → IsTrue (D.tells two.old) → AreDurable D.Disk one.new two.new
         × EachPair D.Disk one.new two.new (HoldsTheSame D.Disk one.new two.new) }
@@ -128,7 +138,7 @@ pub fn serve<R: Shelf, W: Sink, D: Disk, T: Transport, P: Pacer>(
     ensures asked { IsAskedFor T.Transport (turns_of (command_of words.now)) transport.old transport.new }
     // Where a `run` was done, or found the store too full, the world that the disks hold then is what turns and rests make of the one that they
     // held at entry, at most as many as it may take, all of them with Spent, and fewer with Full. They follow each other from the transport and the clock as they were
-    // to those that are left: each turn has the answer to its own call of the transport, or none where nothing is needed, at a moment that the clock was asked for once, also the
+    // to those that are left, in the order of the seed: each turn has the answer to its own call of the transport, or none where nothing is needed, at a moment that the clock was asked for once, also the
     // last one, which is refused, with Full; each rest was counted, and none was taken where a process was ready. Each exit code that is kept since, of a sound
     // world, is that of the job's recorded result for its request, which is the table's where it is told. Where no call of the
     // transport failed, no process got the pause mark and none failed more often. Where each placed directory belonged to a process, each does.
@@ -138,12 +148,26 @@ pub fn serve<R: Shelf, W: Sink, D: Disk, T: Transport, P: Pacer>(
     ensures outside_at_fault { result ≡ Status.WriteFault → (r : AReply) × IsOwed (R.contents shelf.old) (visit D.Disk one.old two.old one.new two.new) words.now r
         × (NeedDisks (R.contents shelf.old) words.now → IsDoneOrFull r.status → IsTrue (D.tells one.old) → IsTrue (D.tells two.old)
         → ServesOutside (R.contents shelf.old) words.now (exchange T.Transport P.Pacer transport.old transport.new pacer.old pacer.new) (visit D.Disk one.old two.old one.new two.new) r.status) }
-    ensures memory { result ≡ Status.OutOfMemory → W.taken sink.new ≡ W.taken sink.old }
+    // A `run` whose turns are enough (each live process that nothing called means a tree by the table that the transport tells, the transport and
+    // the clock oblige, no live process is paused, and there is a turn for each that is left and one for each job that waits) never ends as Spent or
+    // Resting: no process is live then, or the store would be too full, memory ran out, or the shelf, a disk or the sink failed.
+    ensures enough { HasEnoughToRun D.Disk T.Transport P.Pacer (R.contents shelf.old) words.now one.old two.old transport.old pacer.old → EndsOrBreaks (D.seen one.new, D.seen two.new) result }
+    // Nothing was written on a disk then, and the transport and the clock are as they were; or a deed that the words plan has come to the disks. Then nothing is
+    // pending on them, unless it begins a store. If it is a `run`, they read as the world to which turns and rests led from the one at entry, with this transport and this clock and in the
+    // order of the seed, whether memory ran out in the run or for its reply; exit codes, marks and directories are as `outside` says.
+    ensures memory { result ≡ Status.OutOfMemory → (W.taken sink.new ≡ W.taken sink.old)
+        × (IsTrue (D.tells one.old) → IsTrue (D.tells two.old) → ServesAborted D.Disk (R.contents shelf.old) words.now
+        (exchange T.Transport P.Pacer transport.old transport.new pacer.old pacer.new) one.old two.old one.new two.new Status.OutOfMemory
+        ((transport.new ≡ transport.old) × (pacer.new ≡ pacer.old))) }
     // One call of the shelf failed, the last one that was made, and the disks are as they were.
     ensures read_fault { result ≡ Status.ReadFault → RisesByOne (R.faults shelf.old) (R.faults shelf.new) × R.failed shelf.new × (W.taken sink.new ≡ W.taken sink.old) × (one.new ≡ one.old) × (two.new ≡ two.old) }
-    // One call of one of the disks failed, the last one that was made of it, and none of the other.
+    // One call of one of the disks failed, the last one that was made of it, and none of the other. A `run` broke off there: turns and rests, with this transport
+    // and this clock and in the order of the seed, had led to the world that it held then, as where memory ran out; what the disks hold is in `crash`.
     ensures disk_fault { result ≡ Status.DiskFault → EitherFailedLast (D.faults one.old) (D.faults one.new) (D.faults two.old) (D.faults two.new) (D.failed one.new) (D.failed two.new)
-        × (W.taken sink.new ≡ W.taken sink.old) }
+        × (W.taken sink.new ≡ W.taken sink.old)
+        × (IsTrue (D.tells one.old) → IsTrue (D.tells two.old) → ServesAborted D.Disk (R.contents shelf.old) words.now
+        (exchange T.Transport P.Pacer transport.old transport.new pacer.old pacer.new) one.old two.old one.new two.new Status.DiskFault
+        ((transport.new ≡ transport.old) × (pacer.new ≡ pacer.old))) }
     // One call of the sink failed, the last one that was made, and it took a part of what is owed. What was done stays, also where the store was found too full; where
     // what is owed is a reply that writes no disk, none was written; and where it refuses or tells damage, the transport and the clock are as they were.
     ensures write_fault { result ≡ Status.WriteFault → RisesByOne (W.faults sink.old) (W.faults sink.new) × W.failed sink.new

@@ -1,15 +1,19 @@
-use Rattle.std.proofs.Common.{Bool, IsTrue, sym, subst}
+use Rattle.std.proofs.Common.{◌≡◌, Bool, IsTrue, inl, refl, sym, subst}
 use Rattle.std.proofs.lemmas.Result.{IfOk-weaker}
-use Rattle.wc_act.specs.Crashes.{AreDurable}
+use Rattle.wc_act.specs.Aborted.{Aborts}
+use Rattle.wc_act.specs.Exchanges.{exchange}
 use Rattle.wc_act.specs.Opened.{HasNoWorld, Opens, IsToldUndone}
 use Rattle.wc_act.specs.Owed.{visit, Done}
-use Rattle.wc_act.specs.Outside.{exchange, ActsOutside, WorksOutside}
+use Rattle.wc_act.specs.Outside.{ActsOutside, WorksOutside}
+use Rattle.wc_act.specs.Undone.{ended_by}
+use Rattle.wc_act.specs.declared.error.ActError.{ActError}
 use Rattle.wc_act.specs.Statuses.{IsDoneOrFull}
 use Rattle.wc_act.specs.Rows.{row, work_row}
 use Rattle.wc_act.specs.StoreDeeds.{Images}
 use Rattle.wc_plan.specs.declared.deed.Deed.TheVariants as deed
 use Rattle.wc_act.specs.declared.opened.Opened.{Opened}
 use Rattle.wc_plan.specs.declared.reply.Reply.{Reply}
+use Rattle.wc_act.proofs.Broken.{done_durable, each_error, opened_aborts}
 use Rattle.wc_act.proofs.Doing.{held_before, goes_does, no_world}
 use Rattle.wc_act.proofs.Exchanged.{work_unasked}
 use Rattle.wc_act.proofs.Leaving.{goes_on, unwritten}
@@ -20,13 +24,15 @@ use Rattle.wc_act.proofs.deeds.work_reply.Goals as goal
 pub returns-in_err-reply-clause-kept : goal.returns-in_err-reply-clause-kept
 returns-in_err-reply-clause-kept g c =
     λ told told_too.
-    unwritten g.D.Disk g.met.D.Disk.only_now g.met.D.Disk.counts_now (λ v. ⊥) (work_row c.args.work).makes c.args.one.now c.args.two.now c.open_store.new.one c.open_store.new.two
+    let e = exchange g.T.Transport g.P.Pacer c.args.transport.now c.args.transport.now c.args.pacer.now c.args.pacer.now in
+    unwritten g.D.Disk g.met.D.Disk.only_now g.met.D.Disk.counts_now (λ v. ⊥) ((work_row c.args.work).makes e) c.args.one.now c.args.two.now c.open_store.new.one c.open_store.new.two
     c.open_store.ensures.any_moment_one c.open_store.ensures.any_moment_two
 
 pub returns-in-Reply-clause-kept : goal.returns-in-Reply-clause-kept
 returns-in-Reply-clause-kept g c =
     λ told told_too.
-    unwritten g.D.Disk g.met.D.Disk.only_now g.met.D.Disk.counts_now (λ v. ⊥) (work_row c.args.work).makes c.args.one.now c.args.two.now c.open_store.new.one c.open_store.new.two
+    let e = exchange g.T.Transport g.P.Pacer c.args.transport.now c.args.transport.now c.args.pacer.now c.args.pacer.now in
+    unwritten g.D.Disk g.met.D.Disk.only_now g.met.D.Disk.counts_now (λ v. ⊥) ((work_row c.args.work).makes e) c.args.one.now c.args.two.now c.open_store.new.one c.open_store.new.two
     c.open_store.ensures.any_moment_one c.open_store.ensures.any_moment_two
 
 pub returns-in-Reply-clause-does : goal.returns-in-Reply-clause-does
@@ -53,8 +59,9 @@ returns-in-Store-clause-kept g c =
     let store = c.in-Store.store in
     let opens = (subst (Opens g.D.Disk one two c.open_store.new.one c.open_store.new.two) c.in-Store.is c.in_ok-reply.ensures.opens).0 told told_too in
     let tells = c.open_store.ensures.tells in
-    goes_on g.D.Disk g.met.D.Disk.only_now g.met.D.Disk.counts_now (λ v. ⊥) (work_row c.args.work).makes store.world.world one two c.open_store.new.one c.open_store.new.two c.worked.new.one c.worked.new.two
-    (held_before g.D.Disk store one two c.open_store.new.one c.open_store.new.two opens) c.open_store.ensures.any_moment_one c.open_store.ensures.any_moment_two
+    let e = exchange g.T.Transport g.P.Pacer c.args.transport.now c.worked.new.transport c.args.pacer.now c.worked.new.pacer in
+    goes_on g.D.Disk g.met.D.Disk.only_now g.met.D.Disk.counts_now (λ v. ⊥) ((work_row c.args.work).makes e) store.world.world one two c.open_store.new.one c.open_store.new.two c.worked.new.one c.worked.new.two
+    (held_before g.D.Disk store one two c.open_store.new.one c.open_store.new.two opens) opens.seen_one opens.seen_two c.open_store.ensures.any_moment_one c.open_store.ensures.any_moment_two
     (c.worked.ensures.kept (subst (λ (b : Bool). IsTrue b) (sym tells.0) told) (subst (λ (b : Bool). IsTrue b) (sym tells.1) told_too))
 
 pub returns-in-Store-clause-undone : goal.returns-in-Store-clause-undone
@@ -97,7 +104,32 @@ returns-in-Store-clause-durable g c =
     let one = c.args.one.now in
     let two = c.args.two.now in
     let tells = c.open_store.ensures.tells in
-    let P : Reply → Type 0 = λ r. IsTrue (g.D.Disk.tells c.open_store.new.one) → IsTrue (g.D.Disk.tells c.open_store.new.two) → AreDurable g.D.Disk c.worked.new.one c.worked.new.two in
-    let Q : Reply → Type 0 = λ r. IsDoneOrFull r.status → IsTrue (g.D.Disk.tells one) → IsTrue (g.D.Disk.tells two) → AreDurable g.D.Disk c.worked.new.one c.worked.new.two in
-    IfOk-weaker c.worked.result P Q (λ r h done told told_too. h (subst (λ (b : Bool). IsTrue b) (sym tells.0) told) (subst (λ (b : Bool). IsTrue b) (sym tells.1) told_too))
-    c.worked.ensures.durable
+    done_durable g.D.Disk c.worked.new.one c.worked.new.two (IsTrue (g.D.Disk.tells one)) (IsTrue (g.D.Disk.tells two)) (IsTrue (g.D.Disk.tells c.open_store.new.one)) (IsTrue (g.D.Disk.tells c.open_store.new.two))
+    (λ told. subst (λ (b : Bool). IsTrue b) (sym tells.0) told) (λ told_too. subst (λ (b : Bool). IsTrue b) (sym tells.1) told_too) c.worked.result c.worked.ensures.durable
+
+-- ---- memory ran out, or a disk failed
+
+pub returns-in_err-reply-clause-broken : goal.returns-in_err-reply-clause-broken
+returns-in_err-reply-clause-broken g c =
+    let one = c.args.one.now in
+    let two = c.args.two.now in
+    let e = exchange g.T.Transport g.P.Pacer c.args.transport.now c.args.transport.now c.args.pacer.now c.args.pacer.now in
+    let Still : Type 0 = (c.args.transport.now ≡ c.args.transport.now) × (c.args.pacer.now ≡ c.args.pacer.now) in
+    let P : ActError → Type 0 = λ x. IsTrue (g.D.Disk.tells one) → IsTrue (g.D.Disk.tells two)
+    → Aborts g.D.Disk e (deed.Work c.args.work) one two c.open_store.new.one c.open_store.new.two (ended_by x) Still in
+    each_error c.from_residual.result P (λ x told told_too. inl (c.open_store.ensures.unwritten, (refl, refl)))
+
+pub returns-in-Store-clause-broken : goal.returns-in-Store-clause-broken
+returns-in-Store-clause-broken g c =
+    let one = c.args.one.now in
+    let two = c.args.two.now in
+    let store = c.in-Store.store in
+    let e = exchange g.T.Transport g.P.Pacer c.args.transport.now c.worked.new.transport c.args.pacer.now c.worked.new.pacer in
+    let opens = (subst (Opens g.D.Disk one two c.open_store.new.one c.open_store.new.two) c.in-Store.is c.in_ok-reply.ensures.opens).0 in
+    let tells = c.open_store.ensures.tells in
+    opened_aborts g.D.Disk e c.args.work store.world.world one two c.worked.new.one c.worked.new.two
+    (IsTrue (g.D.Disk.tells one)) (IsTrue (g.D.Disk.tells two)) (IsTrue (g.D.Disk.tells c.open_store.new.one)) (IsTrue (g.D.Disk.tells c.open_store.new.two))
+    ((c.worked.new.transport ≡ c.args.transport.now) × (c.worked.new.pacer ≡ c.args.pacer.now))
+    (λ told. subst (λ (b : Bool). IsTrue b) (sym tells.0) told) (λ told_too. subst (λ (b : Bool). IsTrue b) (sym tells.1) told_too)
+    (λ told told_too. held_before g.D.Disk store one two c.open_store.new.one c.open_store.new.two (opens told told_too))
+    c.worked.result c.worked.ensures.durable c.worked.ensures.broken

@@ -1,15 +1,20 @@
 use Rattle.std.proofs.Common.{refl, sym, subst, IfOk, IsTrue}
+use Rattle.std.specs.Prelude.{IfErr}
 use Rattle.wc_world.specs.World.{World}
 use Rattle.wc_plan.specs.declared.deed.Deed.TheVariants as deed
 use Rattle.wc_plan.specs.declared.deed.Work.{Work}
 use Rattle.wc_plan.specs.declared.reply.Reply.{Reply}
 use Rattle.wc_act.specs.Crashes.{HoldsKeeping, LeavesPairs}
 use Rattle.wc_act.specs.Owed.{visit, DoneOn, OfVisit}
-use Rattle.wc_act.specs.Outside.{exchange, AsksByTurns, WorksOutside, IsNoRun}
+use Rattle.wc_act.specs.Aborted.{WorkAborts}
+use Rattle.wc_act.specs.Exchanges.{exchange}
+use Rattle.wc_act.specs.Outside.{AsksByTurns, WorksOutside, IsNoRun}
 use Rattle.wc_act.specs.Rows.{Stays, view_row, work_row}
 use Rattle.wc_act.specs.StoreDeeds.{Images}
-use Rattle.wc_act.specs.Undone.{EndsWith}
+use Rattle.wc_act.specs.Undone.{EndsWith, ended_by}
+use Rattle.wc_act.specs.declared.error.ActError.{ActError}
 use Rattle.wc_act.specs.Views.{Shows}
+use Rattle.wc_act.proofs.Broken.{each_error, no_run_aborts}
 use Rattle.wc_act.proofs.Exchanged.{no_run_outside, of_each, work_unasked}
 use Rattle.wc_act.proofs.Leaving.{standing}
 use Rattle.wc_act.proofs.Visiting.{AreStill, are_still, visit_as}
@@ -21,9 +26,11 @@ returns-in_err-view_reply-in-View-clause-kept g c =
     let one = c.args.one.now in
     let two = c.args.two.now in
     let w = c.args.store.now.world.world in
-    let P : Work → Type 0 = λ k. LeavesPairs g.D.Disk one two one two (HoldsKeeping (work_row k).makes w) in
+    let e = exchange g.T.Transport g.P.Pacer c.args.transport.now c.args.transport.now c.args.pacer.now c.args.pacer.now in
+    let P : Work → Type 0 = λ k. LeavesPairs g.D.Disk one two one two (HoldsKeeping ((work_row k).makes e) (g.D.Disk.seen one, g.D.Disk.seen two) w) in
     subst P (sym c.in-View.is)
-    (standing g.D.Disk g.met.D.Disk.only_now c.worlds_are_kept.ensures.reached c.worlds_are_kept.ensures.same c.args.store.now one two (c.requires.stands told told_too) Stays (λ images. refl))
+    (standing g.D.Disk g.met.D.Disk.only_now c.worlds_are_kept.ensures.reached c.worlds_are_kept.ensures.same c.args.store.now one two (c.requires.stands told told_too) Stays
+    (λ goes. record { same = refl; journal = c.args.store.now.journal; next = c.args.store.now.journal; goes = goes }))
 
 pub returns-in_ok-view_reply-in-View-clause-kept : goal.returns-in_ok-view_reply-in-View-clause-kept
 returns-in_ok-view_reply-in-View-clause-kept g c =
@@ -31,9 +38,11 @@ returns-in_ok-view_reply-in-View-clause-kept g c =
     let one = c.args.one.now in
     let two = c.args.two.now in
     let w = c.args.store.now.world.world in
-    let P : Work → Type 0 = λ k. LeavesPairs g.D.Disk one two one two (HoldsKeeping (work_row k).makes w) in
+    let e = exchange g.T.Transport g.P.Pacer c.args.transport.now c.args.transport.now c.args.pacer.now c.args.pacer.now in
+    let P : Work → Type 0 = λ k. LeavesPairs g.D.Disk one two one two (HoldsKeeping ((work_row k).makes e) (g.D.Disk.seen one, g.D.Disk.seen two) w) in
     subst P (sym c.in-View.is)
-    (standing g.D.Disk g.met.D.Disk.only_now c.worlds_are_kept.ensures.reached c.worlds_are_kept.ensures.same c.args.store.now one two (c.requires.stands told told_too) Stays (λ images. refl))
+    (standing g.D.Disk g.met.D.Disk.only_now c.worlds_are_kept.ensures.reached c.worlds_are_kept.ensures.same c.args.store.now one two (c.requires.stands told told_too) Stays
+    (λ goes. record { same = refl; journal = c.args.store.now.journal; next = c.args.store.now.journal; goes = goes }))
 
 pub returns-in_ok-view_reply-in-View-clause-does : goal.returns-in_ok-view_reply-in-View-clause-does
 returns-in_ok-view_reply-in-View-clause-does g c =
@@ -46,11 +55,47 @@ returns-in_ok-view_reply-in-View-clause-does g c =
     (visit_as v (AreStill s) (DoneOn (view_row c.in-View.view) w r) (λ before after still. (still.1.held, (still.0, shows)))
     (are_still g.D.Disk c.args.one.now c.args.two.now c.args.one.now c.args.two.now s c.requires.stands c.requires.images refl refl))
 
-pub returns-in_ok-view_reply-in-View-clause-durable : goal.returns-in_ok-view_reply-in-View-clause-durable
-returns-in_ok-view_reply-in-View-clause-durable g c =
-    λ told told_too.
+pub returns-in_err-view_reply-in-View-clause-durable : goal.returns-in_err-view_reply-in-View-clause-durable
+returns-in_err-view_reply-in-View-clause-durable g c =
+    λ unbroken told told_too.
     let s = c.requires.stands told told_too in
     record { durable_one = s.durable_one; durable_two = s.durable_two }
+
+pub returns-in_ok-view_reply-in-View-clause-durable : goal.returns-in_ok-view_reply-in-View-clause-durable
+returns-in_ok-view_reply-in-View-clause-durable g c =
+    λ unbroken told told_too.
+    let s = c.requires.stands told told_too in
+    record { durable_one = s.durable_one; durable_two = s.durable_two }
+
+pub returns-in-Event-clause-kept : goal.returns-in-Event-clause-kept
+returns-in-Event-clause-kept g c =
+    λ told told_too.
+    let one = c.args.one.now in
+    let two = c.args.two.now in
+    let e = exchange g.T.Transport g.P.Pacer c.args.transport.now c.args.transport.now c.args.pacer.now c.args.pacer.now in
+    let P : Work → Type 0 = λ k.
+    LeavesPairs g.D.Disk one two c.event_reply.new.one c.event_reply.new.two (HoldsKeeping ((work_row k).makes e) (g.D.Disk.seen one, g.D.Disk.seen two) c.args.store.now.world.world) in
+    subst P (sym c.in-Event.is) (c.event_reply.ensures.kept told told_too)
+
+pub returns-in-Run-clause-kept : goal.returns-in-Run-clause-kept
+returns-in-Run-clause-kept g c =
+    λ told told_too.
+    let one = c.args.one.now in
+    let two = c.args.two.now in
+    let e = exchange g.T.Transport g.P.Pacer c.args.transport.now c.run_reply.new.transport c.args.pacer.now c.run_reply.new.pacer in
+    let P : Work → Type 0 = λ k.
+    LeavesPairs g.D.Disk one two c.run_reply.new.one c.run_reply.new.two (HoldsKeeping ((work_row k).makes e) (g.D.Disk.seen one, g.D.Disk.seen two) c.args.store.now.world.world) in
+    subst P (sym c.in-Run.is) (c.run_reply.ensures.kept told told_too)
+
+pub returns-in-Pack-clause-kept : goal.returns-in-Pack-clause-kept
+returns-in-Pack-clause-kept g c =
+    λ told told_too.
+    let one = c.args.one.now in
+    let two = c.args.two.now in
+    let e = exchange g.T.Transport g.P.Pacer c.args.transport.now c.args.transport.now c.args.pacer.now c.args.pacer.now in
+    let P : Work → Type 0 = λ k.
+    LeavesPairs g.D.Disk one two c.pack_reply.new.one c.pack_reply.new.two (HoldsKeeping ((work_row k).makes e) (g.D.Disk.seen one, g.D.Disk.seen two) c.args.store.now.world.world) in
+    subst P (sym c.in-Pack.is) (c.pack_reply.ensures.kept told told_too)
 
 pub returns-in-Event-clause-does : goal.returns-in-Event-clause-does
 returns-in-Event-clause-does g c =
@@ -123,3 +168,36 @@ returns-in-Run-clause-outside g c =
     let after : Images = (g.D.Disk.seen c.run_reply.new.one, g.D.Disk.seen c.run_reply.new.two) in
     let P : Work → Type 0 = λ k. IfOk c.run_reply.result (λ (r : Reply). IsTrue (g.D.Disk.tells c.args.one.now) → IsTrue (g.D.Disk.tells c.args.two.now) → WorksOutside e k w after r.status) in
     subst P (sym c.in-Run.is) c.run_reply.ensures.outside
+
+-- ---- memory ran out, or a disk failed
+
+pub returns-in_err-view_reply-in-View-clause-broken : goal.returns-in_err-view_reply-in-View-clause-broken
+returns-in_err-view_reply-in-View-clause-broken g c =
+    let e = exchange g.T.Transport g.P.Pacer c.args.transport.now c.args.transport.now c.args.pacer.now c.args.pacer.now in
+    let P : ActError → Type 0 = λ x. IsTrue (g.D.Disk.tells c.args.one.now) → IsTrue (g.D.Disk.tells c.args.two.now)
+    → WorkAborts g.D.Disk e c.args.work c.args.store.now.world.world c.args.one.now c.args.two.now (ended_by x) in
+    each_error c.from_residual.result P (λ x told told_too.
+    no_run_aborts g.D.Disk e c.args.work c.args.store.now.world.world c.args.one.now c.args.two.now (ended_by x) (subst (λ (k : Work). IsNoRun k) (sym c.in-View.is) tt))
+
+pub returns-in-Event-clause-broken : goal.returns-in-Event-clause-broken
+returns-in-Event-clause-broken g c =
+    let e = exchange g.T.Transport g.P.Pacer c.args.transport.now c.args.transport.now c.args.pacer.now c.args.pacer.now in
+    let P : ActError → Type 0 = λ x. IsTrue (g.D.Disk.tells c.args.one.now) → IsTrue (g.D.Disk.tells c.args.two.now)
+    → WorkAborts g.D.Disk e c.args.work c.args.store.now.world.world c.event_reply.new.one c.event_reply.new.two (ended_by x) in
+    each_error c.event_reply.result P (λ x told told_too.
+    no_run_aborts g.D.Disk e c.args.work c.args.store.now.world.world c.event_reply.new.one c.event_reply.new.two (ended_by x) (subst (λ (k : Work). IsNoRun k) (sym c.in-Event.is) tt))
+
+pub returns-in-Pack-clause-broken : goal.returns-in-Pack-clause-broken
+returns-in-Pack-clause-broken g c =
+    let e = exchange g.T.Transport g.P.Pacer c.args.transport.now c.args.transport.now c.args.pacer.now c.args.pacer.now in
+    let P : ActError → Type 0 = λ x. IsTrue (g.D.Disk.tells c.args.one.now) → IsTrue (g.D.Disk.tells c.args.two.now)
+    → WorkAborts g.D.Disk e c.args.work c.args.store.now.world.world c.pack_reply.new.one c.pack_reply.new.two (ended_by x) in
+    each_error c.pack_reply.result P (λ x told told_too.
+    no_run_aborts g.D.Disk e c.args.work c.args.store.now.world.world c.pack_reply.new.one c.pack_reply.new.two (ended_by x) (subst (λ (k : Work). IsNoRun k) (sym c.in-Pack.is) tt))
+
+pub returns-in-Run-clause-broken : goal.returns-in-Run-clause-broken
+returns-in-Run-clause-broken g c =
+    let e = exchange g.T.Transport g.P.Pacer c.args.transport.now c.run_reply.new.transport c.args.pacer.now c.run_reply.new.pacer in
+    let P : Work → Type 0 = λ k. IfErr c.run_reply.result (λ (x : ActError). IsTrue (g.D.Disk.tells c.args.one.now) → IsTrue (g.D.Disk.tells c.args.two.now)
+    → WorkAborts g.D.Disk e k c.args.store.now.world.world c.run_reply.new.one c.run_reply.new.two (ended_by x)) in
+    subst P (sym c.in-Run.is) c.run_reply.ensures.broken

@@ -1,8 +1,9 @@
-use Rattle.std.proofs.Common.{◌≡◌, inl, inr, IsTrue, refl, sym, ap, subst, ◌∙◌}
+use Rattle.std.proofs.Common.{◌≡◌, IsTrue, refl, ap, subst, ◌∙◌}
 use Rattle.wc_state.specs.declared.record.Limits.{Limits}
 use Rattle.wc_world.specs.World.{World}
 use Rattle.wc_store.specs.Refusals.{RefusesCommit}
 use Rattle.wc_store.specs.Stepped.{IsCommitted}
+use Rattle.wc_store.specs.Stores.{IsLonger}
 use Rattle.wc_act.specs.declared.events.Entry.TheVariants as entry
 use Rattle.wc_plan.specs.declared.reply.Reply.{Reply}
 use Rattle.wc_act.specs.Entries.{IsEntryOf}
@@ -10,8 +11,9 @@ use Rattle.wc_act.specs.Events.{MayHappen, TellsAlone}
 use Rattle.wc_plan.specs.Replies.{prints}
 use Rattle.wc_act.specs.Owed.{visit, DoneOn}
 use Rattle.wc_act.specs.Rows.{event_row}
+use Rattle.wc_act.specs.StoreDeeds.{Images}
 use Rattle.wc_act.specs.Undone.{IsBeforeStoring}
-use Rattle.wc_act.proofs.Entries.{has_entered, made_by, refused_durable, refused_entry, stays_alone}
+use Rattle.wc_act.proofs.Entries.{has_entered, not_yet, refused_durable, refused_entry, stays_alone, then_made}
 use Rattle.wc_act.proofs.Leaving.{standing, committed}
 use Rattle.wc_act.proofs.Told.{counts_refused}
 use Rattle.wc_act.proofs.Visiting.{AreOfStores, AreStill, are_of_stores, are_still, visit_as}
@@ -24,7 +26,14 @@ pub returns-in_err-reply-clause-kept : goal.returns-in_err-reply-clause-kept
 returns-in_err-reply-clause-kept g c =
     λ told told_too.
     standing g.D.Disk g.met.D.Disk.only_now c.worlds_are_kept.ensures.reached c.worlds_are_kept.ensures.same c.args.store.now c.args.one.now c.args.two.now (c.requires.stands told told_too)
-    (MayHappen c.args.asked) (λ images. inl refl)
+    (MayHappen c.args.asked)
+    (λ goes.
+    let s = c.args.store.now in
+    let seen : Images = (g.D.Disk.seen c.args.one.now, g.D.Disk.seen c.args.two.now) in
+    not_yet c.args.asked seen seen s.world.world s.journal s.journal goes refl)
+
+pub returns-in_err-reply-clause-durable : goal.returns-in_err-reply-clause-durable
+returns-in_err-reply-clause-durable g c = λ unbroken told told_too. let s = c.requires.stands told told_too in record { durable_one = s.durable_one; durable_two = s.durable_two }
 
 -- ---- nothing is stored
 
@@ -41,10 +50,14 @@ pub returns-in-Reply-clause-kept : goal.returns-in-Reply-clause-kept
 returns-in-Reply-clause-kept g c =
     λ told told_too.
     standing g.D.Disk g.met.D.Disk.only_now c.worlds_are_kept.ensures.reached c.worlds_are_kept.ensures.same c.args.store.now c.args.one.now c.args.two.now (c.requires.stands told told_too)
-    (MayHappen c.args.asked) (λ images. inl refl)
+    (MayHappen c.args.asked)
+    (λ goes.
+    let s = c.args.store.now in
+    let seen : Images = (g.D.Disk.seen c.args.one.now, g.D.Disk.seen c.args.two.now) in
+    not_yet c.args.asked seen seen s.world.world s.journal s.journal goes refl)
 
 pub returns-in-Reply-clause-durable : goal.returns-in-Reply-clause-durable
-returns-in-Reply-clause-durable g c = λ told told_too. let s = c.requires.stands told told_too in record { durable_one = s.durable_one; durable_two = s.durable_two }
+returns-in-Reply-clause-durable g c = λ unbroken told told_too. let s = c.requires.stands told told_too in record { durable_one = s.durable_one; durable_two = s.durable_two }
 
 -- ---- changes are stored
 
@@ -72,7 +85,12 @@ returns-in-Ok-clause-kept g c =
     let w : c.world.result.now.world ≡ s.world.world = λ i. (c.world.ensures i).world in
     let e = subst (λ (v : World). IsEntryOf a v (entry.Commits cs c.in-Commits.line)) w (subst (IsEntryOf a c.world.result.now.world) c.in-Commits.is c.in_ok-reply.ensures) in
     committed g.D.Disk g.met.D.Disk.only_now c.worlds_are_kept.ensures.reached c.worlds_are_kept.ensures.same s c.args.one.now c.args.two.now (c.requires.stands told told_too)
-    (MayHappen a) c.limits_of-limits.result cs c.commit.new.one c.commit.new.two (λ images. inl refl) (λ images. inr (made_by a s.world.world cs e.0)) e.0.keeps (c.commit.ensures.stepped.moments told told_too)
+    (MayHappen a) c.limits_of-limits.result cs c.commit.new.one c.commit.new.two
+    (λ journal images goes same. not_yet a (g.D.Disk.seen c.args.one.now, g.D.Disk.seen c.args.two.now) images s.world.world s.journal journal goes same)
+    (λ journal images goes longer.
+    then_made a (g.D.Disk.seen c.args.one.now, g.D.Disk.seen c.args.two.now) images s.world.world cs s.journal journal e.0 goes
+    (subst (λ (l : Limits). IsLonger l s.journal cs journal) c.limits_of-limits.ensures.value longer))
+    e.0.keeps (c.commit.ensures.stepped.moments told told_too)
 
 pub returns-in-Ok-clause-untouched : goal.returns-in-Ok-clause-untouched
 returns-in-Ok-clause-untouched g c = λ ends. absurd (subst (λ (r : Reply). IsBeforeStoring r.status) c.print.ensures ends)
@@ -99,13 +117,18 @@ returns-in-Err-clause-kept g c =
     let w : c.world.result.now.world ≡ s.world.world = λ i. (c.world.ensures i).world in
     let e = subst (λ (v : World). IsEntryOf a v (entry.Commits cs c.in-Commits.line)) w (subst (IsEntryOf a c.world.result.now.world) c.in-Commits.is c.in_ok-reply.ensures) in
     committed g.D.Disk g.met.D.Disk.only_now c.worlds_are_kept.ensures.reached c.worlds_are_kept.ensures.same s c.args.one.now c.args.two.now (c.requires.stands told told_too)
-    (MayHappen a) c.limits_of-limits.result cs c.commit.new.one c.commit.new.two (λ images. inl refl) (λ images. inr (made_by a s.world.world cs e.0)) e.0.keeps (c.commit.ensures.stepped.moments told told_too)
+    (MayHappen a) c.limits_of-limits.result cs c.commit.new.one c.commit.new.two
+    (λ journal images goes same. not_yet a (g.D.Disk.seen c.args.one.now, g.D.Disk.seen c.args.two.now) images s.world.world s.journal journal goes same)
+    (λ journal images goes longer.
+    then_made a (g.D.Disk.seen c.args.one.now, g.D.Disk.seen c.args.two.now) images s.world.world cs s.journal journal e.0 goes
+    (subst (λ (l : Limits). IsLonger l s.journal cs journal) c.limits_of-limits.ensures.value longer))
+    e.0.keeps (c.commit.ensures.stepped.moments told told_too)
 
 pub returns-in-Err-clause-durable : goal.returns-in-Err-clause-durable
 returns-in-Err-clause-durable g c =
     let call = c.in-Err.ensures.stepped.call in
     refused_durable g.D.Disk (Unit {0}) c.in-Err.error c.commit.new.self (IsTrue (g.D.Disk.tells c.args.one.now)) (IsTrue (g.D.Disk.tells c.args.two.now)) c.commit.new.one c.commit.new.two
-    c.refused.result c.refused.ensures.reply call.live (λ live. call.stands (sym call.live ∙ live))
+    c.refused.result c.refused.ensures.cause (λ whole. call.stands whole)
 
 pub returns-in-Err-clause-untouched : goal.returns-in-Err-clause-untouched
 returns-in-Err-clause-untouched g c =
@@ -115,7 +138,7 @@ returns-in-Err-clause-untouched g c =
 -- ---- what is kept of the disks, and counted
 
 pub returns-in-Ok-clause-durable : goal.returns-in-Ok-clause-durable
-returns-in-Ok-clause-durable g c = λ told told_too.
+returns-in-Ok-clause-durable g c = λ unbroken told told_too.
     let s = c.in-Ok.ensures.stepped.call.stands refl told told_too in
     record { durable_one = s.durable_one; durable_two = s.durable_two }
 

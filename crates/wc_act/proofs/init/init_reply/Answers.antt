@@ -9,7 +9,7 @@ use Rattle.wc_plan.specs.Replies.{prints}
 use Rattle.wc_act.proofs.Doing.{has_begun, refused_init}
 use Rattle.wc_act.proofs.Leaving.{begun, unasked}
 use Rattle.wc_act.specs.Owed.{visit, Done}
-use Rattle.wc_act.specs.Rows.{IsEmpty, Stays, row}
+use Rattle.wc_act.specs.Rows.{IsEmpty, MakesNothing, row}
 use Rattle.wc_plan.specs.declared.deed.Begin.TheVariants as begin
 use Rattle.wc_plan.specs.declared.deed.Deed.TheVariants as deed
 use Rattle.wc_act.proofs.Visiting.{AreOfNew, are_of_new, visit_as}
@@ -49,7 +49,7 @@ returns-in-Err-clause-kept g c =
     (g.met.D.Disk.reads_as c.args.one.now told) (g.met.D.Disk.reads_as c.args.two.now told_too) (c.init.ensures.parts told told_too) c.init.ensures.any_moment_two
 
 pub returns-in_err-text-clause-kept : goal.returns-in_err-text-clause-kept
-returns-in_err-text-clause-kept g c = λ told told_too. unasked g.D.Disk g.met.D.Disk.only_now g.met.D.Disk.counts_now IsEmpty Stays c.args.one.now c.args.two.now
+returns-in_err-text-clause-kept g c = λ told told_too. unasked g.D.Disk g.met.D.Disk.only_now g.met.D.Disk.counts_now IsEmpty MakesNothing c.args.one.now c.args.two.now
 
 pub returns-in_err-text-clause-unwritten : goal.returns-in_err-text-clause-unwritten
 returns-in_err-text-clause-unwritten g c = λ ends told told_too. none_asked g.D.Disk g.met.D.Disk.only_now c.args.one.now c.args.two.now

@@ -1,4 +1,4 @@
-use Rattle.std.proofs.Common.{ℕ, IsTrue, refl, sym, ap, subst, ◌∙◌}
+use Rattle.std.proofs.Common.{ℕ, IsTrue, refl, ap, subst, ◌∙◌}
 use Rattle.wc_plan.specs.Replies.{prints}
 use Rattle.wc_act.proofs.Doing.{has_packed, refused_pack}
 use Rattle.wc_act.proofs.Entries.{refused_durable}
@@ -42,7 +42,7 @@ pub returns-in-Err-clause-durable : goal.returns-in-Err-clause-durable
 returns-in-Err-clause-durable g c =
     let call = c.in-Err.ensures.call in
     refused_durable g.D.Disk ℕ c.in-Err.error c.pack.new.self (IsTrue (g.D.Disk.tells c.args.one.now)) (IsTrue (g.D.Disk.tells c.args.two.now)) c.pack.new.one c.pack.new.two
-    c.refused.result c.refused.ensures.reply call.live (λ live. call.stands (sym call.live ∙ live))
+    c.refused.result c.refused.ensures.cause (λ whole. call.stands whole)
 
 pub returns-in-Err-clause-kept : goal.returns-in-Err-clause-kept
 returns-in-Err-clause-kept g c =
@@ -60,8 +60,13 @@ returns-in-Err-clause-untouched g c =
 
 -- ---- what is kept of the disks, and counted
 
+pub returns-in_err-packed_text-in-Ok-clause-durable : goal.returns-in_err-packed_text-in-Ok-clause-durable
+returns-in_err-packed_text-in-Ok-clause-durable g c = λ unbroken told told_too.
+    let s = c.in-Ok.ensures.call.stands refl told told_too in
+    record { durable_one = s.durable_one; durable_two = s.durable_two }
+
 pub returns-in_ok-packed_text-in-Ok-clause-durable : goal.returns-in_ok-packed_text-in-Ok-clause-durable
-returns-in_ok-packed_text-in-Ok-clause-durable g c = λ told told_too.
+returns-in_ok-packed_text-in-Ok-clause-durable g c = λ unbroken told told_too.
     let s = c.in-Ok.ensures.call.stands refl told told_too in
     record { durable_one = s.durable_one; durable_two = s.durable_two }
 

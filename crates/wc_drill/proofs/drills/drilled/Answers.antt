@@ -1,8 +1,11 @@
-use Rattle.std.proofs.Common.{Bool, true, Err, refl, subst}
+use Rattle.std.proofs.Common.{Bool, true, Err, refl, ap, subst, ◌∙◌}
 use Rattle.std.specs.Prelude.{IsTrue}
-use Rattle.wc_runner.specs.Refusals.{is_live_after}
-use Rattle.wc_runner.specs.declared.runs.RunEnd.{RunEnd}
-use Rattle.wc_drill.proofs.Ran.{broken_counts, broken_durable, broken_refused, drilled_moments, drilled_tells, ended_counts, ended_done, ended_durable, ended_refused, running, stopped_refused, submitting}
+use Rattle.wc_ends.specs.Runner.Refusals.{is_live_after}
+use Rattle.wc_ends.specs.Runner.declared.runs.RunEnd.{RunEnd}
+use Rattle.wc_world.specs.Room.{Holding}
+use Rattle.wc_world.specs.World.{World}
+use Rattle.wc_drill.specs.Drilled.{Submitted}
+use Rattle.wc_drill.proofs.Ran.{broken_counts, broken_durable, broken_refused, drilled_moments, drilled_tells, ended_done, ended_durable, running, stopped_refused, submitting}
 use Rattle.wc_drill.proofs.drills.drilled.Goals as goal
 
 pub run_all-requires : goal.run_all-requires
@@ -12,6 +15,7 @@ run_all-requires g c =
       few = c.requires.few;
       table = c.requires.table;
       live = call.live;
+      submitted = (c.args.seed, subst (λ (w : World). Submitted c.args.seed c.args.count w c.submit_chains.new.store.world.world) c.requires.empty c.in-Ok.ensures.all);
       stands = λ told told_too. call.stands refl (subst (λ (b : Bool). IsTrue b) call.tells_one told) (subst (λ (b : Bool). IsTrue b) call.tells_two told_too);
     }
 
@@ -77,19 +81,13 @@ returns-clause-cause g c =
     let step = running g.D.Disk c.args.seed c.args.count c.args.store c.args.one.now c.args.two.now c.requires.empty c.requires.made whole c.submit_chains.new.store c.submit_chains.new.one c.submit_chains.new.two c.run_all.new.store c.run_all.new.one c.run_all.new.two c.in-Ok.ensures.all c.in-Ok.ensures.stepped c.in-Err-run_all.ensures.stepped in
     broken_counts g.D.Disk c.args.seed c.args.count c.args.store c.args.one.now c.args.two.now c.requires.empty c.requires.made RunEnd c.in-Err-run_all.error c.from-in-Err-run_all.result c.from-in-Err-run_all.ensures c.run_all.new.store c.run_all.new.one c.run_all.new.two step
 
--- ---- it came to an end
+-- ---- it ended every process
 
 pub returns-in-Ok-run_all-clause-done : goal.returns-in-Ok-run_all-clause-done
 returns-in-Ok-run_all-clause-done g c =
     let e = c.in-Ok-run_all.ensures in
     ended_done g.D.Disk c.args.seed c.args.count c.args.store c.args.one.now c.args.two.now c.requires.empty c.requires.made c.submit_chains.new.store c.submit_chains.new.one c.submit_chains.new.two c.in-Ok.ensures.all c.in-Ok.ensures.stepped true c.run_all.new.store c.run_all.new.one c.run_all.new.two e.stepped
-    e.stepped.call.live c.in-Ok-run_all.end c.ended.result e.ends c.ended.ensures
-
-pub returns-in-Ok-run_all-clause-refused : goal.returns-in-Ok-run_all-clause-refused
-returns-in-Ok-run_all-clause-refused g c =
-    let e = c.in-Ok-run_all.ensures in
-    ended_refused g.D.Disk c.args.seed c.args.count c.args.store c.args.one.now c.args.two.now c.requires.empty c.requires.made c.submit_chains.new.store c.submit_chains.new.one c.submit_chains.new.two c.in-Ok.ensures.all c.in-Ok.ensures.stepped true c.run_all.new.store c.run_all.new.one c.run_all.new.two e.stepped
-    e.stepped.call.live c.in-Ok-run_all.end c.ended.result e.ends c.ended.ensures
+    e.stepped.call.live c.in-Ok-run_all.field-0 e.ends c.batches.result (c.batches.ensures ∙ ap (λ (h : Holding). h.world.batches) c.world.ensures)
 
 pub returns-in-Ok-run_all-clause-durable : goal.returns-in-Ok-run_all-clause-durable
 returns-in-Ok-run_all-clause-durable g c =
@@ -109,4 +107,4 @@ returns-in-Ok-run_all-clause-tells g c =
 pub returns-in-Ok-run_all-clause-cause : goal.returns-in-Ok-run_all-clause-cause
 returns-in-Ok-run_all-clause-cause g c =
     let step = running g.D.Disk c.args.seed c.args.count c.args.store c.args.one.now c.args.two.now c.requires.empty c.requires.made true c.submit_chains.new.store c.submit_chains.new.one c.submit_chains.new.two c.run_all.new.store c.run_all.new.one c.run_all.new.two c.in-Ok.ensures.all c.in-Ok.ensures.stepped c.in-Ok-run_all.ensures.stepped in
-    ended_counts g.D.Disk c.args.seed c.args.count c.args.store c.args.one.now c.args.two.now c.requires.empty c.requires.made c.run_all.new.store c.run_all.new.one c.run_all.new.two step c.in-Ok-run_all.end c.ended.result c.ended.ensures
+    step.call.counts

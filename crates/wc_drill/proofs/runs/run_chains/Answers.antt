@@ -1,10 +1,10 @@
-use Rattle.wc_runner.specs.Leaves.{IsLedWithin, SomeTurns}
-use Rattle.wc_runner.specs.Refusals.{is_live_after}
-use Rattle.wc_runner.proofs.Led.{led_is_taken}
+use Rattle.wc_ends.specs.Runner.Leaves.{IsLedWithin, SomeTurns}
+use Rattle.wc_ends.specs.Runner.Refusals.{is_live_after}
+use Rattle.wc_ends.proofs.Runner.Led.{led_is_taken}
 use Rattle.wc_store.specs.Stepped.{of_world}
 use Rattle.wc_store.proofs.Stepping.{weaker_step}
 use Rattle.wc_drill.specs.Drilled.{outside}
-use Rattle.wc_drill.proofs.Turned.{ends_as_told, refuses_run, some_turns}
+use Rattle.wc_drill.proofs.Turned.{breaks_early, ends_all, refuses_run, some_turns}
 use Rattle.wc_drill.proofs.Results.{if_err}
 use Rattle.wc_drill.proofs.runs.run_chains.Goals as goal
 
@@ -14,17 +14,20 @@ returns-clause-stepped g c =
     let limits = c.usual_limits-limits.result in
     weaker_step g.D.Disk (IsLedWithin g.T.Transport g.P.Pacer limits c.args.turns c.args.transport.now c.args.pacer.now w c.run.new.transport c.run.new.pacer)
     (of_world (SomeTurns outside c.args.turns w)) (is_live_after c.run.result) c.args.store.now c.run.new.store c.args.one.now c.args.two.now c.run.new.one c.run.new.two
-    (λ x journal h. some_turns g.T.Transport g.P.Pacer c.usual_limits-limits.result c.usual_limits-limits.ensures.value c.args.transport.now c.run.new.transport c.run.new.pacer c.requires.table c.args.turns w x journal
+    (λ x journal h. some_turns g.T.Transport g.P.Pacer c.usual_limits-limits.result c.usual_limits-limits.ensures.value c.args.transport.now c.run.new.transport c.args.pacer.now c.run.new.pacer c.requires.table c.args.turns w x journal
     (led_is_taken g.T.Transport g.P.Pacer limits c.args.turns c.args.transport.now c.args.pacer.now w c.run.new.transport c.run.new.pacer x journal h.holds)) c.run.ensures.stepped
 
 pub returns-clause-ends : goal.returns-clause-ends
 returns-clause-ends g c =
-    (ends_as_told g.T.Transport g.P.Pacer c.usual_limits-limits.result c.usual_limits-limits.ensures.value c.args.transport.now c.run.new.transport c.run.new.pacer c.requires.table c.args.turns c.args.store.now.world.world c.run.new.store.world.world (g.P.Pacer.rests c.args.pacer.now) (g.P.Pacer.rests c.run.new.pacer) c.run.result c.run.ensures.ends).0
+    ends_all g.T.Transport g.P.Pacer c.usual_limits-limits.result c.usual_limits-limits.ensures.value c.args.transport.now c.run.new.transport c.args.pacer.now c.run.new.pacer c.requires.table
+    c.args.turns 0 c.args.store.now.world.world c.run.new.store.world.world (g.P.Pacer.rests c.args.pacer.now) (g.P.Pacer.rests c.run.new.pacer) c.run.new.store.journal c.run.result
+    c.requires.reached c.requires.enough c.run.ensures.went c.run.ensures.ends
 
 pub returns-clause-early : goal.returns-clause-early
 returns-clause-early g c =
-    (ends_as_told g.T.Transport g.P.Pacer c.usual_limits-limits.result c.usual_limits-limits.ensures.value c.args.transport.now c.run.new.transport c.run.new.pacer c.requires.table c.args.turns c.args.store.now.world.world c.run.new.store.world.world (g.P.Pacer.rests c.args.pacer.now) (g.P.Pacer.rests c.run.new.pacer) c.run.result c.run.ensures.ends).1
+    breaks_early g.T.Transport g.P.Pacer c.usual_limits-limits.result c.usual_limits-limits.ensures.value c.args.transport.now c.run.new.transport c.args.pacer.now c.run.new.pacer c.requires.table
+    c.args.turns c.args.store.now.world.world c.run.new.store.world.world (g.P.Pacer.rests c.args.pacer.now) (g.P.Pacer.rests c.run.new.pacer) c.run.result c.run.ensures.ends
 
 pub returns-clause-refused : goal.returns-clause-refused
 returns-clause-refused g c =
-    if_err c.run.result _ _ (λ e. refuses_run g.T.Transport g.P.Pacer c.usual_limits-limits.result c.usual_limits-limits.ensures.value c.args.transport.now c.run.new.transport c.run.new.pacer c.requires.table c.run.new.store e) c.run.ensures.refused
+    if_err c.run.result _ _ (λ e. refuses_run g.T.Transport g.P.Pacer c.usual_limits-limits.result c.usual_limits-limits.ensures.value c.args.transport.now c.run.new.transport c.args.pacer.now c.run.new.pacer c.requires.table c.run.new.store e) c.run.ensures.refused

@@ -3,7 +3,7 @@ use Rattle.wc_state.specs.declared.record.Limits.{Limits}
 use Rattle.wc_world.specs.Room.{Holding}
 use Rattle.wc_store.specs.Stepped.{IsCommitted, IsOrCommitted, Stepped, of_world}
 use Rattle.wc_store.proofs.Stepping.{not_stepped, weaker_step}
-use Rattle.wc_runner.specs.Refusals.{RefusesStored, is_live_after}
+use Rattle.wc_ends.specs.Runner.Refusals.{RefusesStored, is_live_after}
 use Rattle.wc_drill.specs.Drilled.{IsSubmitted}
 use Rattle.wc_drill.specs.Submissions.{IsCrowded, IsOrSubmitted, IsStorable, RefusesChain}
 use Rattle.wc_drill.proofs.Chains.{chain_refused, crowd_live, crowd_refused, submitted}

@@ -1,12 +1,17 @@
-use Rattle.std.proofs.Common.{refl, subst}
+use Rattle.std.proofs.Common.{◌≡◌, IsTrue, inl, refl, subst}
 use Rattle.wc_cli.specs.Words.{command_of}
+use Rattle.wc_act.specs.Aborted.{ServesAborted}
+use Rattle.wc_act.specs.Counts.{status_of}
+use Rattle.wc_act.specs.Exchanges.{exchange}
 use Rattle.wc_act.specs.Outside.{turns_of}
 use Rattle.wc_act.specs.Undone.{IsBeforeTurns}
 use Rattle.wc_plan.specs.Plans.{Plans}
 use Rattle.wc_plan.specs.declared.deed.Plan.{Plan}
 use Rattle.wc_plan.specs.declared.deed.Plan.TheVariants as plan
 use Rattle.wc_plan.specs.declared.reply.Reply.{Reply}
-use Rattle.wc_act.proofs.Answered.{plan_counts, plan_no_fault, told_no_fault, act_counts, act_no_refusal, act_ends, act_undone}
+use Rattle.wc_act.specs.declared.error.ReplyError.{ReplyError}
+use Rattle.wc_act.proofs.Broken.{each_error}
+use Rattle.wc_act.proofs.Answered.{act_aborts, plan_counts, plan_no_fault, told_no_fault, act_counts, act_no_refusal, act_ends, act_undone}
 use Rattle.wc_act.proofs.Exchanged.{asked_by, asked_none}
 use Rattle.wc_act.proofs.Moments.{made, made_unasked}
 use Rattle.wc_act.proofs.Unwriting.{none_asked}
@@ -29,10 +34,22 @@ returns-in_err-reply-clause-undone g c = λ ends told told_too. none_asked g.D.D
 
 pub returns-in_err-reply-clause-made : goal.returns-in_err-reply-clause-made
 returns-in_err-reply-clause-made g c =
-    λ told told_too. made_unasked g.D.Disk g.met.D.Disk.only_now g.met.D.Disk.counts_now (g.R.Shelf.contents c.args.shelf.now) c.args.words.now c.args.one.now c.args.two.now
+    λ told told_too.
+    let e = exchange g.T.Transport g.P.Pacer c.args.transport.now c.args.transport.now c.args.pacer.now c.args.pacer.now in
+    made_unasked g.D.Disk g.met.D.Disk.only_now g.met.D.Disk.counts_now (g.R.Shelf.contents c.args.shelf.now) c.args.words.now e c.args.one.now c.args.two.now
 
 pub returns-in_err-reply-clause-asked : goal.returns-in_err-reply-clause-asked
 returns-in_err-reply-clause-asked g c = asked_none g.T.Transport (turns_of (command_of c.args.words.now)) c.args.transport.now
+
+pub returns-in_err-reply-clause-broken : goal.returns-in_err-reply-clause-broken
+returns-in_err-reply-clause-broken g c =
+    let one = c.args.one.now in
+    let two = c.args.two.now in
+    let e = exchange g.T.Transport g.P.Pacer c.args.transport.now c.args.transport.now c.args.pacer.now c.args.pacer.now in
+    let Still : Type 0 = (c.args.transport.now ≡ c.args.transport.now) × (c.args.pacer.now ≡ c.args.pacer.now) in
+    let P : ReplyError → Type 0 = λ x. IsTrue (g.D.Disk.tells one) → IsTrue (g.D.Disk.tells two)
+    → ServesAborted g.D.Disk (g.R.Shelf.contents c.args.shelf.now) c.args.words.now e one two one two (status_of c.from_residual.result) Still in
+    each_error c.from_residual.result P (λ x told told_too. inl (none_asked g.D.Disk g.met.D.Disk.only_now one two, (refl, refl)))
 
 -- ---- a reply is told
 
@@ -57,7 +74,9 @@ returns-in-Reply-clause-undone g c = λ ends told told_too. none_asked g.D.Disk 
 
 pub returns-in-Reply-clause-made : goal.returns-in-Reply-clause-made
 returns-in-Reply-clause-made g c =
-    λ told told_too. made_unasked g.D.Disk g.met.D.Disk.only_now g.met.D.Disk.counts_now (g.R.Shelf.contents c.args.shelf.now) c.args.words.now c.args.one.now c.args.two.now
+    λ told told_too.
+    let e = exchange g.T.Transport g.P.Pacer c.args.transport.now c.args.transport.now c.args.pacer.now c.args.pacer.now in
+    made_unasked g.D.Disk g.met.D.Disk.only_now g.met.D.Disk.counts_now (g.R.Shelf.contents c.args.shelf.now) c.args.words.now e c.args.one.now c.args.two.now
 
 pub returns-in-Reply-clause-durable : goal.returns-in-Reply-clause-durable
 returns-in-Reply-clause-durable g c =
@@ -100,7 +119,8 @@ pub returns-in_err-act-in-On-clause-made : goal.returns-in_err-act-in-On-clause-
 returns-in_err-act-in-On-clause-made g c =
     λ told told_too.
     let plans = subst (λ (p : Plan). Plans (g.R.Shelf.contents c.args.shelf.now) (command_of c.args.words.now) p) c.in-On.is c.in_ok-reply.ensures.plans in
-    made g.D.Disk g.met.D.Disk.only_now g.met.D.Disk.counts_now (g.R.Shelf.contents c.args.shelf.now) c.args.words.now c.in-On.deed c.args.one.now c.args.two.now c.act.new.one c.act.new.two plans
+    let e = exchange g.T.Transport g.P.Pacer c.args.transport.now c.act.new.transport c.args.pacer.now c.act.new.pacer in
+    made g.D.Disk g.met.D.Disk.only_now g.met.D.Disk.counts_now (g.R.Shelf.contents c.args.shelf.now) c.args.words.now e c.in-On.deed c.args.one.now c.args.two.now c.act.new.one c.act.new.two plans
     (c.act.ensures.kept told told_too)
 
 pub returns-in_err-act-in-On-clause-idle : goal.returns-in_err-act-in-On-clause-idle
@@ -118,6 +138,16 @@ returns-in_err-act-in-On-clause-asked g c =
     let plans = subst (λ (p : Plan). Plans (g.R.Shelf.contents c.args.shelf.now) (command_of c.args.words.now) p) c.in-On.is c.in_ok-reply.ensures.plans in
     asked_by g.T.Transport (g.R.Shelf.contents c.args.shelf.now) (command_of c.args.words.now) c.in-On.deed c.args.transport.now c.act.new.transport plans c.act.ensures.asked
     (λ idle. (c.act.ensures.idle idle).0)
+
+pub returns-in_err-act-in-On-clause-broken : goal.returns-in_err-act-in-On-clause-broken
+returns-in_err-act-in-On-clause-broken g c =
+    let one = c.args.one.now in
+    let two = c.args.two.now in
+    let e = exchange g.T.Transport g.P.Pacer c.args.transport.now c.act.new.transport c.args.pacer.now c.act.new.pacer in
+    let plans = subst (λ (p : Plan). Plans (g.R.Shelf.contents c.args.shelf.now) (command_of c.args.words.now) p) c.in-On.is c.in_ok-reply.ensures.plans in
+    act_aborts g.D.Disk (g.R.Shelf.contents c.args.shelf.now) c.args.words.now e c.in-On.deed one two c.act.new.one c.act.new.two
+    (IsTrue (g.D.Disk.tells one)) (IsTrue (g.D.Disk.tells two)) ((c.act.new.transport ≡ c.args.transport.now) × (c.act.new.pacer ≡ c.args.pacer.now))
+    c.from_residual-in_err-act-in-On.result c.in_err-act-in-On.field-0.0 c.from_residual-in_err-act-in-On.ensures plans c.in_err-act-in-On.ensures.broken
 
 -- ---- a deed has its reply
 
@@ -147,7 +177,8 @@ pub returns-in_ok-act-in-On-clause-made : goal.returns-in_ok-act-in-On-clause-ma
 returns-in_ok-act-in-On-clause-made g c =
     λ told told_too.
     let plans = subst (λ (p : Plan). Plans (g.R.Shelf.contents c.args.shelf.now) (command_of c.args.words.now) p) c.in-On.is c.in_ok-reply.ensures.plans in
-    made g.D.Disk g.met.D.Disk.only_now g.met.D.Disk.counts_now (g.R.Shelf.contents c.args.shelf.now) c.args.words.now c.in-On.deed c.args.one.now c.args.two.now c.act.new.one c.act.new.two plans
+    let e = exchange g.T.Transport g.P.Pacer c.args.transport.now c.act.new.transport c.args.pacer.now c.act.new.pacer in
+    made g.D.Disk g.met.D.Disk.only_now g.met.D.Disk.counts_now (g.R.Shelf.contents c.args.shelf.now) c.args.words.now e c.in-On.deed c.args.one.now c.args.two.now c.act.new.one c.act.new.two plans
     (c.act.ensures.kept told told_too)
 
 pub returns-in_ok-act-in-On-clause-durable : goal.returns-in_ok-act-in-On-clause-durable

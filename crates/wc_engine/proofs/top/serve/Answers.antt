@@ -1,13 +1,18 @@
-use Rattle.std.proofs.Common.{◌≡◌, sym, subst, ◌∙◌}
+use Rattle.std.proofs.Common.{◌≡◌, Err, refl, sym, subst, ◌∙◌}
 use Rattle.wc_cli.specs.Words.{command_of}
-use Rattle.wc_act.specs.Outside.{exchange, ServesOutside}
+use Rattle.wc_act.specs.Aborted.{ServesAborted}
+use Rattle.wc_act.specs.Counts.{CountsReply, status_of}
+use Rattle.wc_act.specs.Exchanges.{exchange}
+use Rattle.wc_act.specs.Outside.{ServesOutside}
 use Rattle.wc_act.specs.Owed.{visit}
 use Rattle.wc_plan.specs.Replies.{OwesStatus}
 use Rattle.wc_act.specs.Statuses.{IsDoneOrFull}
 use Rattle.wc_act.specs.Undone.{IsBeforeTurns}
+use Rattle.wc_act.specs.declared.error.ReplyError.{ReplyError}
 use Rattle.wc_plan.specs.declared.reply.Reply.{Reply}
 use Rattle.wc_plan.specs.declared.status.Status.{Status}
 use Rattle.wc_plan.specs.declared.status.Status.TheVariants as status
+use Rattle.wc_act.proofs.Ending.{ends_or_breaks, ends_told}
 use Rattle.wc_act.proofs.Acknowledging.{owed_ok, stands_done}
 use Rattle.wc_act.proofs.Exchanged.{owed_done}
 use Rattle.wc_act.proofs.Exits.{durable_same, stay_sound}
@@ -40,7 +45,8 @@ returns-in-Ok-clause-sound g c =
     let owed = c.in-Ok.ensures.owed in
     let whole = owed_tells c.worlds_are_kept.ensures.one (g.R.Shelf.contents c.args.shelf.now) (command_of c.args.words.now) (visit g.D.Disk c.args.one.now c.args.two.now c.answer.new.one c.answer.new.two) owed.0 c.in-Ok.reply
     (entry (g.D.Disk.seen c.args.one.now) (g.D.Disk.seen c.args.two.now) reads reads_too) told told_too owed.1 owed.2 in
-    stay_sound g.D.Disk c.worlds_are_kept.ensures.one g.met.D.Disk.only_now g.met.D.Disk.counts_now (g.R.Shelf.contents c.args.shelf.now) c.args.words.now c.args.one.now c.args.two.now c.answer.new.one c.answer.new.two
+    let e = exchange g.T.Transport g.P.Pacer c.args.transport.now c.answer.new.transport c.args.pacer.now c.answer.new.pacer in
+    stay_sound g.D.Disk c.worlds_are_kept.ensures.one g.met.D.Disk.only_now g.met.D.Disk.counts_now (g.R.Shelf.contents c.args.shelf.now) c.args.words.now e c.args.one.now c.args.two.now c.answer.new.one c.answer.new.two
     c.finish.result entry reads reads_too (c.answer.ensures.made told told_too) (ends_whole c.in-Ok.reply.status c.finish.result c.finish.ensures.status whole)
     (ends_faultless c.in-Ok.reply.status c.finish.result c.finish.ensures.status whole)
 
@@ -103,20 +109,72 @@ pub returns-in-Ok-clause-outside_at_fault : goal.returns-in-Ok-clause-outside_at
 returns-in-Ok-clause-outside_at_fault g c =
     λ fault. (c.in-Ok.reply, c.in-Ok.ensures.owed, λ needs done told told_too. c.in-Ok.ensures.outside needs done told told_too)
 
+pub returns-in-Ok-clause-enough : goal.returns-in-Ok-clause-enough
+returns-in-Ok-clause-enough g c =
+    λ e. ends_told (g.D.Disk.seen c.answer.new.one, g.D.Disk.seen c.answer.new.two) c.in-Ok.reply.status c.finish.result c.finish.ensures.status
+    (ends_or_breaks g.D.Disk g.T.Transport g.P.Pacer c.worlds_are_kept.ensures.one c.worlds_are_kept.ensures.reached (g.R.Shelf.contents c.args.shelf.now) c.args.words.now
+    c.args.one.now c.args.two.now c.answer.new.one c.answer.new.two c.args.transport.now c.answer.new.transport c.args.pacer.now c.answer.new.pacer e
+    c.in-Ok.reply c.in-Ok.ensures.owed c.in-Ok.ensures.outside)
+
 pub returns-in-Err-OutOfMemory-clause-sound : goal.returns-in-Err-OutOfMemory-clause-sound
 returns-in-Err-OutOfMemory-clause-sound g c =
     λ told told_too entry.
-    stay_sound g.D.Disk c.worlds_are_kept.ensures.one g.met.D.Disk.only_now g.met.D.Disk.counts_now (g.R.Shelf.contents c.args.shelf.now) c.args.words.now c.args.one.now c.args.two.now c.answer.new.one c.answer.new.two
+    let e = exchange g.T.Transport g.P.Pacer c.args.transport.now c.answer.new.transport c.args.pacer.now c.answer.new.pacer in
+    stay_sound g.D.Disk c.worlds_are_kept.ensures.one g.met.D.Disk.only_now g.met.D.Disk.counts_now (g.R.Shelf.contents c.args.shelf.now) c.args.words.now e c.args.one.now c.args.two.now c.answer.new.one c.answer.new.two
     status.OutOfMemory entry (g.met.D.Disk.reads_as c.args.one.now told) (g.met.D.Disk.reads_as c.args.two.now told_too) (c.answer.ensures.made told told_too) (λ disk at found is. cc) (λ f is. cc)
 
 pub returns-in-Err-ReadFault-clause-sound : goal.returns-in-Err-ReadFault-clause-sound
 returns-in-Err-ReadFault-clause-sound g c =
     λ told told_too entry.
-    stay_sound g.D.Disk c.worlds_are_kept.ensures.one g.met.D.Disk.only_now g.met.D.Disk.counts_now (g.R.Shelf.contents c.args.shelf.now) c.args.words.now c.args.one.now c.args.two.now c.answer.new.one c.answer.new.two
+    let e = exchange g.T.Transport g.P.Pacer c.args.transport.now c.answer.new.transport c.args.pacer.now c.answer.new.pacer in
+    stay_sound g.D.Disk c.worlds_are_kept.ensures.one g.met.D.Disk.only_now g.met.D.Disk.counts_now (g.R.Shelf.contents c.args.shelf.now) c.args.words.now e c.args.one.now c.args.two.now c.answer.new.one c.answer.new.two
     status.ReadFault entry (g.met.D.Disk.reads_as c.args.one.now told) (g.met.D.Disk.reads_as c.args.two.now told_too) (c.answer.ensures.made told told_too) (λ disk at found is. cc) (λ f is. cc)
 
 pub returns-in-Err-DiskFault-clause-sound : goal.returns-in-Err-DiskFault-clause-sound
 returns-in-Err-DiskFault-clause-sound g c =
     λ told told_too entry.
-    stay_sound g.D.Disk c.worlds_are_kept.ensures.one g.met.D.Disk.only_now g.met.D.Disk.counts_now (g.R.Shelf.contents c.args.shelf.now) c.args.words.now c.args.one.now c.args.two.now c.answer.new.one c.answer.new.two
+    let e = exchange g.T.Transport g.P.Pacer c.args.transport.now c.answer.new.transport c.args.pacer.now c.answer.new.pacer in
+    stay_sound g.D.Disk c.worlds_are_kept.ensures.one g.met.D.Disk.only_now g.met.D.Disk.counts_now (g.R.Shelf.contents c.args.shelf.now) c.args.words.now e c.args.one.now c.args.two.now c.answer.new.one c.answer.new.two
     status.DiskFault entry (g.met.D.Disk.reads_as c.args.one.now told) (g.met.D.Disk.reads_as c.args.two.now told_too) (c.answer.ensures.made told told_too) (λ disk at found is. cc) (λ f is. cc)
+
+-- ---- memory ran out, or a disk failed
+
+pub returns-in-Ok-clause-memory : goal.returns-in-Ok-clause-memory
+returns-in-Ok-clause-memory g c = λ is. absurd (c.finish.ensures.memory is)
+
+pub returns-in-Err-OutOfMemory-clause-memory : goal.returns-in-Err-OutOfMemory-clause-memory
+returns-in-Err-OutOfMemory-clause-memory g c =
+    λ is. (
+      refl,
+      λ told told_too.
+          let e = exchange g.T.Transport g.P.Pacer c.args.transport.now c.answer.new.transport c.args.pacer.now c.answer.new.pacer in
+          let P : ReplyError → Type 0 = λ x. ServesAborted g.D.Disk (g.R.Shelf.contents c.args.shelf.now) c.args.words.now e c.args.one.now c.args.two.now c.answer.new.one c.answer.new.two (status_of (Err x)) ((c.answer.new.transport ≡ c.args.transport.now) × (c.answer.new.pacer ≡ c.args.pacer.now)) in
+          subst P c.in-Err-OutOfMemory.field-0-is (c.in-Err-OutOfMemory.ensures.broken told told_too),
+    )
+
+pub returns-in-Err-OutOfMemory-clause-disk_fault : goal.returns-in-Err-OutOfMemory-clause-disk_fault
+returns-in-Err-OutOfMemory-clause-disk_fault g c = λ is. absurd (cc)
+
+pub returns-in-Err-ReadFault-clause-memory : goal.returns-in-Err-ReadFault-clause-memory
+returns-in-Err-ReadFault-clause-memory g c = λ is. absurd (cc)
+
+pub returns-in-Err-ReadFault-clause-disk_fault : goal.returns-in-Err-ReadFault-clause-disk_fault
+returns-in-Err-ReadFault-clause-disk_fault g c = λ is. absurd (cc)
+
+pub returns-in-Err-DiskFault-clause-disk_fault : goal.returns-in-Err-DiskFault-clause-disk_fault
+returns-in-Err-DiskFault-clause-disk_fault g c =
+    let counts = subst (λ (x : ReplyError). CountsReply (Err x) (g.R.Shelf.faults c.args.shelf.now) (g.R.Shelf.faults c.answer.new.shelf) (g.D.Disk.faults c.args.one.now) (g.D.Disk.faults c.answer.new.one)
+    (g.D.Disk.faults c.args.two.now) (g.D.Disk.faults c.answer.new.two) c.args.one.now c.answer.new.one c.args.two.now c.answer.new.two
+    (g.R.Shelf.failed c.answer.new.shelf) (g.D.Disk.failed c.answer.new.one) (g.D.Disk.failed c.answer.new.two)) c.in-Err-DiskFault.field-0-is c.in-Err-DiskFault.ensures.counts in
+    λ is. (
+      counts.1,
+      refl,
+      λ told told_too.
+          let e = exchange g.T.Transport g.P.Pacer c.args.transport.now c.answer.new.transport c.args.pacer.now c.answer.new.pacer in
+          let P : ReplyError → Type 0 = λ x. ServesAborted g.D.Disk (g.R.Shelf.contents c.args.shelf.now) c.args.words.now e c.args.one.now c.args.two.now c.answer.new.one c.answer.new.two (status_of (Err x))
+          ((c.answer.new.transport ≡ c.args.transport.now) × (c.answer.new.pacer ≡ c.args.pacer.now)) in
+          subst P c.in-Err-DiskFault.field-0-is (c.in-Err-DiskFault.ensures.broken told told_too),
+    )
+
+pub returns-in-Err-DiskFault-clause-memory : goal.returns-in-Err-DiskFault-clause-memory
+returns-in-Err-DiskFault-clause-memory g c = λ is. absurd (cc)

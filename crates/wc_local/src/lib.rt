@@ -2,16 +2,10 @@
 //! node of a cluster.
 #![tactic(auto)]
 
-mod fault;
-mod folder;
 mod local;
-mod mark;
-mod random;
 mod settlement;
-mod shell;
 mod slurm;
 mod squeue;
-mod submission;
 
-pub use fault::{Failure, Fault};
 pub use local::LocalTransport;
+pub use wc_folders::{Failure, Fault};

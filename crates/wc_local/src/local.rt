@@ -3,38 +3,57 @@ ghost use Rattle.std.specs.Prelude.{◌≡◌, None, false};
 ghost use Rattle.wc_io.specs.Counts.{RisesByOne};
 ghost use Rattle.wc_transport.specs.Outside.{CountsTaskFault};
 
-use crate::fault::{Failure, Fault, called};
-use crate::folder::{
-    has_ended, holds, is_alive, is_locked, must_hold, note, place, result_of, sync_names,
-    sync_placed,
-};
-use crate::mark::claim;
 use crate::slurm::{Job, followed, is_on_slurm, submitted};
 use crate::squeue::Squeue;
 use std::alloc::{AllocError, Global};
 use std::env::Env;
 use std::fs::File;
-use std::io;
-use std::process::{Command, Processes, Stdio};
+use std::process::Processes;
 use std::rt::Files;
 use std::string::String;
+use wc_folders::{
+    Failure, Fault, claim, has_ended, holds, is_alive, is_locked, must_hold, note, place,
+    result_of, start, sync_names, sync_placed,
+};
 use wc_slurm::Queue;
 use wc_transport::{Progress, TaskError, Transport};
 use wc_value::{JobResult, Request, Text};
 
-/// Starts the script in the background, in a session of its own where the command `setsid` is there.
-const START: &str = "\
-if command -v setsid >/dev/null; then setsid sh ./_wc_run.sh & else sh ./_wc_run.sh & fi";
+/// Places a request, where the folder doesn't hold it yet. The names of one that is there may not be on the disk yet.
+fn uploaded_to<R: Files<File = File>>(
+    rt: &R,
+    alloc: Global,
+    folder: &str,
+    request: &Request,
+) -> Result<(), Fault> {
+    if holds(rt, alloc, folder, request)? {
+        return sync_placed(rt, folder);
+    }
+    place(rt, alloc, folder, request)
+}
 
-/// The command that starts the script in a folder, which says and hears nothing.
-fn starter(alloc: Global, folder: &str) -> Result<Command, AllocError> {
-    let mut command = Command::new(alloc, "sh")?;
-    command.arg("-c")?.arg(START)?;
-    command.current_dir(folder)?;
-    command.stdin(Stdio::null());
-    command.stdout(Stdio::null());
-    command.stderr(Stdio::null());
-    Ok(command)
+/// Looks at a job of this machine whose program hasn't ended. Where no run has begun, or its user took that back, the script is started
+/// again, unless one lives, as one that waits for a slot: then nothing is started.
+fn pursued_here<R: Files<File = File> + Processes>(
+    rt: &R,
+    alloc: Global,
+    folder: &str,
+) -> Result<(), Fault> {
+    if is_locked(rt, alloc, folder)? || is_alive(rt, alloc, folder)? {
+        return Ok(());
+    }
+    start(rt, alloc, folder)
+}
+
+/// What the program of a job left.
+fn retrieved_from<R: Files<File = File>>(
+    rt: &R,
+    alloc: Global,
+    folder: &str,
+    request: &Request,
+) -> Result<JobResult, Fault> {
+    must_hold(rt, alloc, folder, request)?;
+    result_of(rt, alloc, folder, request)
 }
 
 /// Programs of this machine, or of a cluster, each in a folder below this one that is named by its number. A program is run by a script,
@@ -116,9 +135,8 @@ impl<R: Files<File = File> + Processes + Env + Drop> LocalTransport<R> {
         Err(TaskError::Failed)
     }
 
-    /// Places a request, where the folder doesn't hold it yet. The names of one that is there may not be on the disk yet. Before the
-    /// first one the folder of jobs is seen to be this store's.
-    fn uploaded(&mut self, dir: u32, request: &Request) -> Result<(), Fault>
+    /// Sees to it, before the first request is placed, that the folder of jobs is this store's.
+    fn claimed(&mut self) -> Result<(), Fault>
         ensures asked { self.new.asked ≡ self.old.asked }
         ensures faults { self.new.faults ≡ self.old.faults }
     {
@@ -126,52 +144,48 @@ impl<R: Files<File = File> + Processes + Env + Drop> LocalTransport<R> {
             claim(&self.rt, self.alloc, self.folder.as_str())?;
             self.is_claimed = true;
         }
+        Ok(())
+    }
+
+    /// Places a request.
+    fn uploaded(&mut self, dir: u32, request: &Request) -> Result<(), Fault>
+        ensures asked { self.new.asked ≡ self.old.asked }
+        ensures faults { self.new.faults ≡ self.old.faults }
+    {
+        self.claimed()?;
         let folder = self.folder_of(dir)?;
-        if holds(&self.rt, self.alloc, folder.as_str(), request)? {
-            return sync_placed(&self.rt, folder.as_str());
-        }
-        place(&self.rt, self.alloc, folder.as_str(), request)
+        uploaded_to(&self.rt, self.alloc, folder.as_str(), request)
     }
 
-    /// Starts the script, and doesn't wait for it: the `sh` that is waited for starts another in the background.
-    fn started(&self, folder: &str) -> Result<io::Result<bool>, AllocError> {
-        let mut command = starter(self.alloc, folder)?;
-        match command.status(&self.rt) {
-            Ok(status) => Ok(Ok(status.success())),
-            Err(error) => Ok(Err(error)),
+    /// Starts the program of a job in a folder that holds its request, here or on a cluster.
+    fn submitted_in(&mut self, dir: u32, folder: &str, request: &Request) -> Result<(), Fault>
+        ensures asked { self.new.asked ≡ self.old.asked }
+        ensures faults { self.new.faults ≡ self.old.faults }
+    {
+        let job = Job {
+            jobs: self.folder.as_str(),
+            dir,
+            folder,
+            request,
+        };
+        must_hold(&self.rt, self.alloc, folder, request)?;
+        if is_on_slurm(&self.rt, self.alloc, job)? {
+            let mut squeue = Squeue::new(&self.rt);
+            return submitted(&self.rt, self.alloc, &mut self.queue, &mut squeue, job);
         }
+        start(&self.rt, self.alloc, folder)
     }
 
-    /// Starts the script, or fails.
-    fn start(&self, folder: &str) -> Result<(), Fault> {
-        if called("starting sh", self.started(folder)?)? {
-            return Ok(());
-        }
-        Err(Fault::Start)
-    }
-
-    /// Starts the program of a job, here or on a cluster.
+    /// Starts the program of a job.
     fn submitted(&mut self, dir: u32, request: &Request) -> Result<(), Fault>
         ensures asked { self.new.asked ≡ self.old.asked }
         ensures faults { self.new.faults ≡ self.old.faults }
     {
         let folder = self.folder_of(dir)?;
-        must_hold(&self.rt, self.alloc, folder.as_str(), request)?;
-        let job = Job {
-            jobs: self.folder.as_str(),
-            dir,
-            folder: folder.as_str(),
-            request,
-        };
-        if is_on_slurm(&self.rt, self.alloc, job)? {
-            let mut squeue = Squeue::new(&self.rt);
-            return submitted(&self.rt, self.alloc, &mut self.queue, &mut squeue, job);
-        }
-        self.start(folder.as_str())
+        self.submitted_in(dir, folder.as_str(), request)
     }
 
-    /// Looks at a job whose program hasn't ended. Where no run has begun, or its user took that back, the script is started again, unless
-    /// one lives, as one that waits for a slot: then nothing is started. On a cluster Slurm is asked about it.
+    /// Looks at a job whose program hasn't ended. On a cluster Slurm is asked about it.
     fn pursued(&mut self, dir: u32, folder: &str, request: &Request) -> Result<(), Fault>
         ensures asked { self.new.asked ≡ self.old.asked }
         ensures faults { self.new.faults ≡ self.old.faults }
@@ -186,10 +200,21 @@ impl<R: Files<File = File> + Processes + Env + Drop> LocalTransport<R> {
             let mut squeue = Squeue::new(&self.rt);
             return followed(&self.rt, self.alloc, &mut self.queue, &mut squeue, job);
         }
-        if is_locked(&self.rt, self.alloc, folder)? || is_alive(&self.rt, self.alloc, folder)? {
-            return Ok(());
+        pursued_here(&self.rt, self.alloc, folder)
+    }
+
+    /// Whether the program of a job in a folder has ended.
+    fn progress_in(&mut self, dir: u32, folder: &str, request: &Request) -> Result<Progress, Fault>
+        ensures asked { self.new.asked ≡ self.old.asked }
+        ensures faults { self.new.faults ≡ self.old.faults }
+    {
+        must_hold(&self.rt, self.alloc, folder, request)?;
+        if !has_ended(&self.rt, self.alloc, folder)? {
+            self.pursued(dir, folder, request)?;
+            return Ok(Progress::Running);
         }
-        self.start(folder)
+        sync_names(&self.rt, folder)?;
+        Ok(Progress::Done)
     }
 
     /// Whether the program of a job has ended.
@@ -198,20 +223,13 @@ impl<R: Files<File = File> + Processes + Env + Drop> LocalTransport<R> {
         ensures faults { self.new.faults ≡ self.old.faults }
     {
         let folder = self.folder_of(dir)?;
-        must_hold(&self.rt, self.alloc, folder.as_str(), request)?;
-        if !has_ended(&self.rt, self.alloc, folder.as_str())? {
-            self.pursued(dir, folder.as_str(), request)?;
-            return Ok(Progress::Running);
-        }
-        sync_names(&self.rt, folder.as_str())?;
-        Ok(Progress::Done)
+        self.progress_in(dir, folder.as_str(), request)
     }
 
     /// What the program of a job left.
     fn retrieved(&self, alloc: Global, dir: u32, request: &Request) -> Result<JobResult, Fault> {
         let folder = self.folder_of(dir)?;
-        must_hold(&self.rt, self.alloc, folder.as_str(), request)?;
-        result_of(&self.rt, alloc, folder.as_str(), request)
+        retrieved_from(&self.rt, alloc, folder.as_str(), request)
     }
 }
 

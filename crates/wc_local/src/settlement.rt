@@ -1,18 +1,15 @@
 //! A job whose run the scheduler has ended, or doesn't know any more.
 
-use crate::fault::{Fault, called};
-use crate::folder::{
-    FAILED, LOCK, STATUS, content_of, has_ended, is_alive, length_of, path_in, place_file,
-    sync_names, write_file,
-};
-use crate::shell::output_of;
-use crate::submission::{put_line, put_over};
 use std::alloc::{AllocError, Global};
 use std::fs::File;
 use std::process::Processes;
 use std::rt::Files;
+use std::str;
 use std::string::String;
-use std::{fs, io, str};
+use wc_folders::{
+    Fault, append_line, content_in, has_ended, is_alive, make_lock, modified_in, output_of,
+    place_file, put_code, put_over, remove_in, sync_names, tell_open,
+};
 use wc_slurm::{End, code_under_lock, end_in, is_other_run, told_in};
 
 /// Asks the accounting for the state, the first node, the number and the exit code of the last job of a name, and lays them out as the queue
@@ -69,6 +66,21 @@ impl<'a> Settled<'a> {
         text.trim()
     }
 
+    /// Whether the scheduler says that it was cancelled.
+    fn is_cancelled(&self) -> bool {
+        match self.told {
+            Some(told) => end_in(told) == Some(End::Cancelled),
+            None => false,
+        }
+    }
+
+    /// What is written down of its end: the name and the state.
+    fn seen(&self, alloc: Global) -> Result<String, AllocError> {
+        let name = self.name;
+        let state = self.part(0);
+        format!(in alloc; "{name} {state}\n")
+    }
+
     /// The scheduler's words: the state and the reason.
     fn words(&self, alloc: Global) -> Result<String, AllocError> {
         if self.told.is_none() {
@@ -80,53 +92,24 @@ impl<'a> Settled<'a> {
     }
 }
 
-/// Writes into the folder what keeps a job open.
-pub fn tell_open<R: Files<File = File>>(
-    rt: &R,
-    alloc: Global,
-    folder: &str,
-    dir: u32,
-    why: &str,
-) -> Result<(), Fault> {
-    let line = format!(in alloc; "the update of job {dir} is open: {why}\n")?;
-    write_file(rt, alloc, folder, FAILED, line.as_bytes())?;
-    Ok(())
-}
-
 /// Forgets an end that was seen: the job goes on.
 pub fn forget_end<R: Files>(rt: &R, alloc: Global, folder: &str) -> Result<(), Fault> {
-    let path = path_in(alloc, folder, ENDED)?;
-    match fs::remove_file(rt, path.as_str()) {
-        Err(error) if error.kind() != io::ErrorKind::NotFound => called(
-            "removing a file",
-            Err(error),
-        ),
-        _ => Ok(()),
-    }
+    remove_in(rt, alloc, folder, ENDED)
 }
 
 /// Whether the file of an end has these words.
-fn has_seen<R: Files>(rt: &R, alloc: Global, path: &str, words: &str) -> Result<bool, Fault> {
-    if length_of(rt, path)?.is_none() {
-        return Ok(false);
+fn has_seen<R: Files>(rt: &R, alloc: Global, folder: &str, words: &str) -> Result<bool, Fault> {
+    match content_in(rt, alloc, folder, ENDED, MOST_ENDED)? {
+        Some(content) => Ok(content.as_slice() == words.as_bytes()),
+        None => Ok(false),
     }
-    let content = content_of(rt, alloc, path, MOST_ENDED)?;
-    Ok(content.as_slice() == words.as_bytes())
 }
 
-/// How many seconds have gone by since a file was written, by the times of the file server alone.
-fn age_of<R: Files<File = File>>(
-    rt: &R,
-    alloc: Global,
-    folder: &str,
-    path: &str,
-) -> Result<u64, Fault> {
+/// How many seconds have gone by since an end was first seen, by the times of the file server alone.
+fn age_of<R: Files<File = File>>(rt: &R, alloc: Global, folder: &str) -> Result<u64, Fault> {
     place_file(rt, alloc, folder, NOW, b"now\n")?;
-    let now = path_in(alloc, folder, NOW)?;
-    let now = called("looking for a file", fs::metadata(rt, now.as_str()))?;
-    let then = called("looking for a file", fs::metadata(rt, path))?;
-    let now = called("asking for a time", now.modified())?;
-    let then = called("asking for a time", then.modified())?;
+    let now = modified_in(rt, alloc, folder, NOW)?;
+    let then = modified_in(rt, alloc, folder, ENDED)?;
     match now.duration_since(then) {
         Ok(age) => Ok(age.as_secs()),
         Err(_) => Ok(0),
@@ -140,32 +123,17 @@ fn is_minute_over<R: Files<File = File>>(
     folder: &str,
     words: &str,
 ) -> Result<bool, Fault> {
-    let path = path_in(alloc, folder, ENDED)?;
-    if has_seen(rt, alloc, path.as_str(), words)? {
-        return Ok(age_of(rt, alloc, folder, path.as_str())? >= GRACE);
+    if has_seen(rt, alloc, folder, words)? {
+        return Ok(age_of(rt, alloc, folder)? >= GRACE);
     }
     place_file(rt, alloc, folder, ENDED, words.as_bytes())?;
     Ok(false)
 }
 
-/// Writes an exit code, in place of the script, unless the script has: the link never replaces its file.
-fn put_code<R: Files<File = File>>(
-    rt: &R,
-    alloc: Global,
-    folder: &str,
-    code: u32,
-) -> Result<(), Fault> {
-    let line = format!(in alloc; "{code}\n")?;
-    place_file(rt, alloc, folder, "_wc_status.slurm", line.as_bytes())?;
-    let part = path_in(alloc, folder, "_wc_status.slurm")?;
-    let whole = path_in(alloc, folder, STATUS)?;
-    match fs::hard_link(rt, part.as_str(), whole.as_str()) {
-        Err(error) if error.kind() != io::ErrorKind::AlreadyExists => called(
-            "linking a file",
-            Err(error),
-        ),
-        _ => sync_names(rt, folder),
-    }
+/// Puts the scheduler's words behind what it wrote itself.
+fn put_words<R: Files<File = File>>(rt: &R, alloc: Global, job: Settled<'_>) -> Result<(), Fault> {
+    let words = job.words(alloc)?;
+    append_line(rt, alloc, job.folder, WORDS, words.as_str())
 }
 
 /// Settles a job with an exit code, unless the folder, opened once more, has one, or a script lives.
@@ -179,7 +147,7 @@ fn settle_with<R: Files<File = File>>(
     if has_ended(rt, alloc, job.folder)? || is_alive(rt, alloc, job.folder)? {
         return Ok(());
     }
-    put_line(rt, alloc, job.folder, WORDS, job.words(alloc)?.as_str())?;
+    put_words(rt, alloc, job)?;
     put_code(rt, alloc, job.folder, code)
 }
 
@@ -189,24 +157,19 @@ fn settle_cancelled<R: Files<File = File>>(
     alloc: Global,
     job: Settled<'_>,
 ) -> Result<(), Fault> {
-    let lock = path_in(alloc, job.folder, LOCK)?;
-    match fs::create_dir(rt, lock.as_str()) {
-        Ok(()) => {
-            sync_names(rt, job.folder)?;
-            settle_with(rt, alloc, job, 143)
-        }
-        Err(error) if error.kind() == io::ErrorKind::AlreadyExists => Ok(()),
-        Err(error) => called("making the lock", Err(error)),
+    if !make_lock(rt, alloc, job.folder)? {
+        return Ok(());
     }
+    sync_names(rt, job.folder)?;
+    settle_with(rt, alloc, job, 143)
 }
 
 /// What the run that made the lock wrote of itself, nothing where it hasn't.
 fn holder_of<R: Files>(rt: &R, alloc: Global, folder: &str) -> Result<Vec<u8>, Fault> {
-    let path = path_in(alloc, folder, RUNS)?;
-    if length_of(rt, path.as_str())?.is_none() {
-        return Ok(Vec::new(alloc));
+    match content_in(rt, alloc, folder, RUNS, MOST_ENDED)? {
+        Some(content) => Ok(content),
+        None => Ok(Vec::new(alloc)),
     }
-    content_of(rt, alloc, path.as_str(), MOST_ENDED)
 }
 
 /// The exit code for the run with the lock, by what is told of an end, if one is to be written.
@@ -244,7 +207,36 @@ fn why_open(told: Option<&[u8]>, holder: &[u8]) -> &'static str {
     }
 }
 
-/// Settles a job whose lock is there, a minute after its end was seen. An end of another run than the one with the lock leaves it open.
+/// The exit code for the run with the lock, if one is to be written.
+fn code_for<R: Processes>(
+    rt: &R,
+    alloc: Global,
+    job: Settled<'_>,
+    holder: &[u8],
+) -> Result<Option<u32>, AllocError> {
+    match job.told {
+        Some(told) => Ok(code_by(told, holder)),
+        None => code_by_accounts(rt, alloc, job.name, holder),
+    }
+}
+
+/// Settles a job whose lock is there by what the run that made it wrote of itself. An end of another run leaves it open.
+fn settle_held<R: Files<File = File> + Processes>(
+    rt: &R,
+    alloc: Global,
+    job: Settled<'_>,
+    seen: &str,
+    holder: &[u8],
+) -> Result<(), Fault> {
+    if let Some(code) = code_for(rt, alloc, job, holder)? {
+        return settle_with(rt, alloc, job, code);
+    }
+    // The next look that asks comes a minute later.
+    place_file(rt, alloc, job.folder, ENDED, seen.as_bytes())?;
+    tell_open(rt, alloc, job.folder, job.dir, why_open(job.told, holder))
+}
+
+/// Settles a job whose lock is there, a minute after its end was seen.
 fn settle_locked<R: Files<File = File> + Processes>(
     rt: &R,
     alloc: Global,
@@ -252,22 +244,7 @@ fn settle_locked<R: Files<File = File> + Processes>(
     seen: &str,
 ) -> Result<(), Fault> {
     let holder = holder_of(rt, alloc, job.folder)?;
-    let code = match job.told {
-        Some(told) => code_by(told, holder.as_slice()),
-        None => code_by_accounts(rt, alloc, job.name, holder.as_slice())?,
-    };
-    if let Some(code) = code {
-        return settle_with(rt, alloc, job, code);
-    }
-    // The next look that asks comes a minute later.
-    place_file(rt, alloc, job.folder, ENDED, seen.as_bytes())?;
-    tell_open(
-        rt,
-        alloc,
-        job.folder,
-        job.dir,
-        why_open(job.told, holder.as_slice()),
-    )
+    settle_held(rt, alloc, job, seen, holder.as_slice())
 }
 
 /// Settles a job without a lock, a minute after its end was seen: this submission is over, and another may follow.
@@ -276,10 +253,27 @@ fn settle_unstarted<R: Files<File = File>>(
     alloc: Global,
     job: Settled<'_>,
 ) -> Result<(), Fault> {
-    put_line(rt, alloc, job.folder, WORDS, job.words(alloc)?.as_str())?;
+    put_words(rt, alloc, job)?;
     put_over(rt, alloc, job.folder)?;
     forget_end(rt, alloc, job.folder)?;
     Err(Fault::Unstarted)
+}
+
+/// Settles a job whose end was seen, where that was a minute ago or earlier.
+fn settle_after<R: Files<File = File> + Processes>(
+    rt: &R,
+    alloc: Global,
+    job: Settled<'_>,
+    is_locked: bool,
+    seen: &str,
+) -> Result<(), Fault> {
+    if !is_minute_over(rt, alloc, job.folder, seen)? {
+        return Ok(());
+    }
+    if is_locked {
+        return settle_locked(rt, alloc, job, seen);
+    }
+    settle_unstarted(rt, alloc, job)
 }
 
 /// Settles a job that the scheduler has ended, or doesn't know, as far as that can be said. `is_locked`: a run of the script has begun.
@@ -289,21 +283,9 @@ pub fn settle<R: Files<File = File> + Processes>(
     job: Settled<'_>,
     is_locked: bool,
 ) -> Result<(), Fault> {
-    let end = match job.told {
-        Some(told) => end_in(told),
-        None => None,
-    };
-    if end == Some(End::Cancelled) && !is_locked {
+    if job.is_cancelled() && !is_locked {
         return settle_cancelled(rt, alloc, job);
     }
-    let name = job.name;
-    let state = job.part(0);
-    let seen = format!(in alloc; "{name} {state}\n")?;
-    if !is_minute_over(rt, alloc, job.folder, seen.as_str())? {
-        return Ok(());
-    }
-    if is_locked {
-        return settle_locked(rt, alloc, job, seen.as_str());
-    }
-    settle_unstarted(rt, alloc, job)
+    let seen = job.seen(alloc)?;
+    settle_after(rt, alloc, job, is_locked, seen.as_str())
 }

@@ -3,23 +3,19 @@
 
 ghost use Rattle.wc_slurm.specs.Queue.{AsksOnceAtMost};
 
-use crate::fault::Fault;
-use crate::folder::{
-    content_of, has_ended, is_alive, is_locked, length_of, path_in, place_file, write_file,
-};
-use crate::mark::beside;
-use crate::settlement::{Settled, forget_end, settle, tell_open};
-use crate::shell::output_of;
-use crate::submission::{
-    has_submission, new_name, place_name, put_number, put_over, submission_of,
-};
-use std::alloc::Global;
+use crate::settlement::{Settled, forget_end, settle};
+use std::alloc::{AllocError, Global};
 use std::env::Env;
 use std::fs::File;
 use std::path::Path;
 use std::process::{Output, Processes};
 use std::rt::Files;
 use std::str;
+use wc_folders::{
+    Fault, content_in, folder_of, has_ended, has_submission, is_alive, is_locked, length_in,
+    new_name, output_of, place_file, place_name, put_number, put_over, submission_of, tell_open,
+    write_file,
+};
 use wc_slurm::{Queue, Scheduler, Submission, batch_for, end_in, lines_of};
 use wc_value::{Bytes, List, Request, Text};
 
@@ -30,8 +26,9 @@ const HEAD: &str = "wc.slurm";
 const MOST_HEAD: u64 = 1024 * 1024;
 
 /// Gives the batch script to Slurm. Words: the folder and the name. In the path of the output, and there alone, a `%` stands for
-/// something, unless it is written twice.
-const SUBMIT: &str = r#"unset CDPATH
+/// something, unless it is written twice. Neither the surroundings nor lines of other schedulers in the user's files make an array of it.
+const SUBMIT: &str = r#"unset CDPATH SBATCH_ARRAY_INX SBATCH_WAIT
+export SBATCH_IGNORE_PBS=1
 cd -- "$1" || exit 1
 rest=$PWD
 out=
@@ -60,8 +57,7 @@ pub struct Job<'a> {
 
 /// Whether the file is there that chooses Slurm.
 fn is_chosen<R: Files<File = File>>(rt: &R, alloc: Global, jobs: &str) -> Result<bool, Fault> {
-    let head = beside(alloc, jobs, HEAD)?;
-    Ok(length_of(rt, head.as_str())?.is_some())
+    Ok(length_in(rt, alloc, folder_of(jobs), HEAD)?.is_some())
 }
 
 /// Whether a job is Slurm's: it was meant for it, or nothing has begun and the file is there that chooses it.
@@ -94,38 +90,79 @@ fn most_jobs<R: Env>(rt: &R) -> Option<u32> {
     }
 }
 
-/// The lines of a file, none where it isn't there.
-fn head_lines<R: Files>(rt: &R, alloc: Global, path: &str) -> Result<List<Bytes>, Fault> {
-    if length_of(rt, path)?.is_none() {
-        return Ok(List::new(alloc));
-    }
-    let content = content_of(rt, alloc, path, MOST_HEAD)?;
+/// The lines of a file's content, which may be so long.
+fn head_in(alloc: Global, content: &[u8]) -> Result<List<Bytes>, Fault> {
     if content.len() as u64 > MOST_HEAD {
         return Err(Fault::Head);
     }
-    Ok(lines_of(alloc, content.as_slice())?)
+    Ok(lines_of(alloc, content)?)
+}
+
+/// The lines of a file, none where it isn't there.
+fn head_lines<R: Files>(
+    rt: &R,
+    alloc: Global,
+    folder: &str,
+    name: &str,
+) -> Result<List<Bytes>, Fault> {
+    match content_in(rt, alloc, folder, name, MOST_HEAD)? {
+        Some(content) => head_in(alloc, content.as_slice()),
+        None => Ok(List::new(alloc)),
+    }
+}
+
+/// The lines of all jobs of a program, none where there is no file with its name.
+fn program_lines<R: Files>(
+    rt: &R,
+    alloc: Global,
+    folder: &str,
+    program: &str,
+) -> Result<List<Bytes>, Fault> {
+    let Some(program) = Path::new(program).file_name() else {
+        return Ok(List::new(alloc));
+    };
+    let name = format!(in alloc; "{HEAD}.{program}")?;
+    head_lines(rt, alloc, folder, name.as_str())
+}
+
+/// The lines of a job itself, which its request brings.
+fn own_lines(alloc: Global, request: &Request) -> Result<List<Bytes>, AllocError> {
+    match request.files.find(HEAD.as_bytes()) {
+        Some(content) => lines_of(alloc, content.bytes()),
+        None => Ok(List::new(alloc)),
+    }
+}
+
+/// The batch script of a job by the lines of all jobs and of its program.
+fn batch_with(
+    alloc: Global,
+    all: &[Bytes],
+    program: &[Bytes],
+    request: &Request,
+) -> Result<Bytes, Fault> {
+    let own = own_lines(alloc, request)?;
+    match batch_for(alloc, all, program, own.as_slice())? {
+        Some(batch) => Ok(batch),
+        None => Err(Fault::Directive),
+    }
+}
+
+/// The batch script of a job by the lines of all jobs.
+fn batch_behind<R: Files>(
+    rt: &R,
+    alloc: Global,
+    all: &[Bytes],
+    job: Job<'_>,
+) -> Result<Bytes, Fault> {
+    let folder = folder_of(job.jobs);
+    let program = program_lines(rt, alloc, folder, job.request.program.as_str())?;
+    batch_with(alloc, all, program.as_slice(), job.request)
 }
 
 /// The batch script of a job.
 fn batch<R: Files>(rt: &R, alloc: Global, job: Job<'_>) -> Result<Bytes, Fault> {
-    let path = beside(alloc, job.jobs, HEAD)?;
-    let all = head_lines(rt, alloc, path.as_str())?;
-    let program = match Path::new(job.request.program.as_str()).file_name() {
-        Some(name) => {
-            let path = path.as_str();
-            let path = format!(in alloc; "{path}.{name}")?;
-            head_lines(rt, alloc, path.as_str())?
-        }
-        None => List::new(alloc),
-    };
-    let own = match job.request.files.find(HEAD.as_bytes()) {
-        Some(content) => lines_of(alloc, content.bytes())?,
-        None => List::new(alloc),
-    };
-    match batch_for(alloc, all.as_slice(), program.as_slice(), own.as_slice())? {
-        Some(batch) => Ok(batch),
-        None => Err(Fault::Directive),
-    }
+    let all = head_lines(rt, alloc, folder_of(job.jobs), HEAD)?;
+    batch_behind(rt, alloc, all.as_slice(), job)
 }
 
 /// Keeps the number that Slurm gave, or its words where it refused.
@@ -163,7 +200,68 @@ impl Try {
     }
 }
 
+/// Brings a name to the disk, and writes the batch script.
+fn place_batch<R: Files<File = File>>(
+    rt: &R,
+    alloc: Global,
+    folder: &str,
+    batch: &[u8],
+    name: &str,
+    tries: u32,
+) -> Result<(), Fault> {
+    place_name(rt, alloc, folder, name, tries)?;
+    forget_end(rt, alloc, folder)?;
+    place_file(rt, alloc, folder, "_wc_batch.sh", batch)
+}
+
+/// Makes ready what Slurm is to get under a name, which is on the disk then.
+fn prepare<R: Files<File = File>>(
+    rt: &R,
+    alloc: Global,
+    job: Job<'_>,
+    name: &str,
+    tries: u32,
+) -> Result<(), Fault> {
+    let batch = batch(rt, alloc, job)?;
+    place_batch(rt, alloc, job.folder, batch.bytes(), name, tries)
+}
+
+/// Gives the batch script of a folder to Slurm, and keeps what it answers.
+fn give<R: Files<File = File> + Processes>(
+    rt: &R,
+    alloc: Global,
+    folder: &str,
+    name: &str,
+) -> Result<(), Fault> {
+    match output_of(rt, alloc, SUBMIT, folder, name)? {
+        Some(output) => answered(rt, alloc, folder, &output),
+        None => Err(Fault::Scheduler),
+    }
+}
+
 /// Gives a job to Slurm, under a name that is on the disk before.
+fn send_as<R: Files<File = File> + Processes>(
+    rt: &R,
+    alloc: Global,
+    queue: &mut Queue,
+    job: Job<'_>,
+    name: &str,
+    tries: u32,
+) -> Result<(), Fault> {
+    prepare(rt, alloc, job, name, tries)?;
+    queue.count_sent();
+    give(rt, alloc, job.folder, name)
+}
+
+/// The name of a submission that is to be made.
+fn name_of<R: Files>(rt: &R, alloc: Global, dir: u32, name: Option<Text>) -> Result<Text, Fault> {
+    match name {
+        Some(name) => Ok(name),
+        None => new_name(rt, alloc, dir),
+    }
+}
+
+/// Gives a job to Slurm.
 fn send<R: Files<File = File> + Processes>(
     rt: &R,
     alloc: Global,
@@ -171,20 +269,9 @@ fn send<R: Files<File = File> + Processes>(
     job: Job<'_>,
     next: Try,
 ) -> Result<(), Fault> {
-    let batch = batch(rt, alloc, job)?;
     let Try { name, tries } = next;
-    let name = match name {
-        Some(name) => name,
-        None => new_name(rt, alloc, job.dir)?,
-    };
-    place_name(rt, alloc, job.folder, name.as_str(), tries)?;
-    forget_end(rt, alloc, job.folder)?;
-    place_file(rt, alloc, job.folder, "_wc_batch.sh", batch.bytes())?;
-    queue.count_sent();
-    match output_of(rt, alloc, SUBMIT, job.folder, name.as_str())? {
-        Some(output) => answered(rt, alloc, job.folder, &output),
-        None => Err(Fault::Scheduler),
-    }
+    let name = name_of(rt, alloc, job.dir, name)?;
+    send_as(rt, alloc, queue, job, name.as_str(), tries)
 }
 
 /// Gives a job to Slurm where it may have one more. Where not, a later look does.
@@ -246,6 +333,22 @@ fn next_submission(
     }
 }
 
+/// Makes a submission, unless Slurm has the job, whose folder counts as asked about and as submitted.
+fn proceed<R: Files<File = File> + Processes + Env>(
+    rt: &R,
+    alloc: Global,
+    queue: &mut Queue,
+    job: Job<'_>,
+    next: Option<Try>,
+) -> Result<(), Fault> {
+    queue.note(job.dir)?;
+    match next {
+        Some(next) => send_where_room(rt, alloc, queue, job, next)?,
+        None => {}
+    }
+    Ok(queue.note_submitted(job.dir)?)
+}
+
 /// Submits a job to Slurm behind an earlier submission, unless Slurm has that.
 fn submitted_behind<R: Files<File = File> + Processes + Env>(
     rt: &R,
@@ -255,12 +358,38 @@ fn submitted_behind<R: Files<File = File> + Processes + Env>(
     earlier: Option<Submission>,
 ) -> Result<(), Fault> {
     let next = next_submission(alloc, queue, earlier)?;
-    queue.note(job.dir)?;
-    if let Some(next) = next {
-        send_where_room(rt, alloc, queue, job, next)?;
+    proceed(rt, alloc, queue, job, next)
+}
+
+/// Asks Slurm once where it has to be asked before a submission.
+fn ask_where_needed<R: Env, S: Scheduler>(
+    rt: &R,
+    alloc: Global,
+    queue: &mut Queue,
+    scheduler: &mut S,
+    earlier: &Option<Submission>,
+) -> Result<(), AllocError>
+    ensures { AsksOnceAtMost (S.answers scheduler.old) (S.answers scheduler.new) }
+{
+    if must_ask(rt, queue, earlier) {
+        return queue.ask(scheduler, alloc);
     }
-    queue.note_submitted(job.dir)?;
     Ok(())
+}
+
+/// Submits a job of which no run has begun to Slurm, unless Slurm has it.
+fn submitted_anew<R: Files<File = File> + Processes + Env, S: Scheduler>(
+    rt: &R,
+    alloc: Global,
+    queue: &mut Queue,
+    scheduler: &mut S,
+    job: Job<'_>,
+) -> Result<(), Fault>
+    ensures { AsksOnceAtMost (S.answers scheduler.old) (S.answers scheduler.new) }
+{
+    let earlier = submission_of(rt, alloc, job.folder)?;
+    ask_where_needed(rt, alloc, queue, scheduler, &earlier)?;
+    submitted_behind(rt, alloc, queue, job, earlier)
 }
 
 /// Submits a job to Slurm, unless a run has begun or Slurm has it.
@@ -276,11 +405,20 @@ pub fn submitted<R: Files<File = File> + Processes + Env, S: Scheduler>(
     if has_ended(rt, alloc, job.folder)? || is_locked(rt, alloc, job.folder)? {
         return Ok(());
     }
-    let earlier = submission_of(rt, alloc, job.folder)?;
-    if must_ask(rt, queue, &earlier) {
-        queue.ask(scheduler, alloc)?;
+    submitted_anew(rt, alloc, queue, scheduler, job)
+}
+
+/// Looks at a submission by what Slurm says of it.
+fn judge_told<R: Files<File = File> + Processes>(
+    rt: &R,
+    alloc: Global,
+    job: Settled<'_>,
+    is_locked: bool,
+) -> Result<(), Fault> {
+    match job.told {
+        Some(told) if end_in(told).is_none() => forget_end(rt, alloc, job.folder),
+        _ => settle(rt, alloc, job, is_locked),
     }
-    submitted_behind(rt, alloc, queue, job, earlier)
 }
 
 /// Looks at a submission by the last answer.
@@ -293,44 +431,29 @@ fn judge<R: Files<File = File> + Processes>(
     is_locked: bool,
 ) -> Result<(), Fault> {
     if !queue.is_answered() {
-        return tell_open(
-            rt,
-            alloc,
-            job.folder,
-            job.dir,
-            "the scheduler doesn't answer",
-        );
+        let why = "the scheduler doesn't answer";
+        return tell_open(rt, alloc, job.folder, job.dir, why);
     }
     let told = queue.told(name.bytes());
-    if let Some(told) = told {
-        if end_in(told).is_none() {
-            return forget_end(rt, alloc, job.folder);
-        }
-    }
-    let settled = Settled {
+    let submitted = Settled {
         dir: job.dir,
         folder: job.folder,
         name: name.as_str(),
         told,
     };
-    settle(rt, alloc, settled, is_locked)
+    judge_told(rt, alloc, submitted, is_locked)
 }
 
-/// Looks at a job by the last answer: one that waits or runs is left alone, one that Slurm ended is settled, and one that it doesn't have
-/// is submitted.
-fn judged<R: Files<File = File> + Processes + Env>(
+/// Looks at a job by the last answer: one that waits or runs is left alone, one that Slurm ended is settled, and one whose submission is over
+/// gets another.
+fn judge_submission<R: Files<File = File> + Processes + Env>(
     rt: &R,
     alloc: Global,
     queue: &mut Queue,
     job: Job<'_>,
+    submission: &Submission,
+    is_locked: bool,
 ) -> Result<(), Fault> {
-    let is_locked = is_locked(rt, alloc, job.folder)?;
-    let Some(submission) = submission_of(rt, alloc, job.folder)? else {
-        if is_locked {
-            return Ok(());
-        }
-        return send_where_room(rt, alloc, queue, job, Try::new(1));
-    };
     if is_locked || !submission.is_over() {
         return judge(rt, alloc, queue, job, &submission.name, is_locked);
     }
@@ -340,6 +463,21 @@ fn judged<R: Files<File = File> + Processes + Env>(
     }
     let next = Try::new(submission.next_try());
     send_where_room(rt, alloc, queue, job, next)
+}
+
+/// Looks at a job by the last answer. One that has no submission is submitted, unless a run has begun.
+fn judged<R: Files<File = File> + Processes + Env>(
+    rt: &R,
+    alloc: Global,
+    queue: &mut Queue,
+    job: Job<'_>,
+) -> Result<(), Fault> {
+    let is_locked = is_locked(rt, alloc, job.folder)?;
+    match submission_of(rt, alloc, job.folder)? {
+        Some(submission) => judge_submission(rt, alloc, queue, job, &submission, is_locked),
+        None if is_locked => Ok(()),
+        None => send_where_room(rt, alloc, queue, job, Try::new(1)),
+    }
 }
 
 /// Looks at a job of Slurm's that has no exit code. Slurm is asked once at most, for all jobs.

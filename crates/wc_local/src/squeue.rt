@@ -1,8 +1,8 @@
 //! The question that `squeue` answers. What it printed is kept in a record, which only clauses read.
 
-use crate::shell::output_of;
 use std::alloc::{AllocError, Global};
 use std::process::Processes;
+use wc_folders::output_of;
 use wc_io::Record;
 use wc_slurm::Scheduler;
 use wc_value::Bytes;

@@ -4,10 +4,10 @@ use Rattle.std.specs.Prelude.{cond}
 use Rattle.std.specs.List.{slice_split, onto_first}
 use Rattle.std.proofs.lemmas.List.{append-nil, drop_all}
 use Rattle.std.proofs.Math.Seq.{drop-cons}
-use Rattle.wc_slurm.specs.Lines.{is_feed, is_blank, parts_after, part_after, ReadsByte}
+use Rattle.wc_slurm.specs.Lines.{is_feed, parts_after, part_after, ReadsByte}
 
 -- a part that was begun, before what follows
-abbrev begun : List ℕ → List (List ℕ) → List (List ℕ)
+abbrev pub begun : List ℕ → List (List ℕ) → List (List ℕ)
 begun line [] = line ∷ []
 begun line (part ∷ parts) = (line ++ part) ∷ parts
 
@@ -24,7 +24,7 @@ begun_none p (x ∷ rest) = at (p x) (slice_split p rest)
     at false [] = refl
     at false (part ∷ parts) = refl
 
-begun_more : (line : List ℕ) (x : ℕ) (parts : List (List ℕ)) → begun line (onto_first x parts) ≡ begun (line ++ x ∷ []) parts
+pub begun_more : (line : List ℕ) (x : ℕ) (parts : List (List ℕ)) → begun line (onto_first x parts) ≡ begun (line ++ x ∷ []) parts
 begun_more line x [] = refl
 begun_more line x (part ∷ parts) = ap (λ (l : List ℕ). l ∷ parts) (sym (append_assoc line (x ∷ []) part))
 
@@ -67,10 +67,6 @@ pub next_of_line : (text : List ℕ) (lines more : List (List ℕ)) (line longer
     → HasParts is_feed text lines line (drop i text) → HasParts is_feed text more longer (drop (i + 1) text)
 next_of_line text lines more line longer i x h is reads so_far = next_byte is_feed text lines more line longer i x (x == 10) h is refl reads so_far
 
-pub next_of_word : (text : List ℕ) (lines more : List (List ℕ)) (line longer : List ℕ) (i x : ℕ) (b : Bool) → i < length text → x ≡ get_or text i 0 → b ≡ is_blank x → ReadsByte b x lines line more longer
-    → HasParts is_blank text lines line (drop i text) → HasParts is_blank text more longer (drop (i + 1) text)
-next_of_word text lines more line longer i x b h is ends reads so_far = next_byte is_blank text lines more line longer i x b h is ends reads so_far
-
 -- the end
 last_part : (p : ℕ → Bool) (text : List ℕ) (lines all : List (List ℕ)) (line : List ℕ) (i : ℕ) → length text ≤ i → all ≡ lines ++ line ∷ [] → HasParts p text lines line (drop i text) → all ≡ slice_split p text
 last_part p text lines all line i end grown so_far =
@@ -81,6 +77,3 @@ last_part p text lines all line i end grown so_far =
 
 pub last_of_lines : (text : List ℕ) (lines all : List (List ℕ)) (line : List ℕ) (i : ℕ) → length text ≤ i → all ≡ lines ++ line ∷ [] → HasParts is_feed text lines line (drop i text) → all ≡ slice_split is_feed text
 last_of_lines text lines all line i end grown so_far = last_part is_feed text lines all line i end grown so_far
-
-pub last_of_words : (text : List ℕ) (lines all : List (List ℕ)) (line : List ℕ) (i : ℕ) → length text ≤ i → all ≡ lines ++ line ∷ [] → HasParts is_blank text lines line (drop i text) → all ≡ slice_split is_blank text
-last_of_words text lines all line i end grown so_far = last_part is_blank text lines all line i end grown so_far

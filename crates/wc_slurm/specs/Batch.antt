@@ -1,30 +1,23 @@
 -- The batch script of a job on a cluster.
-use Rattle.std.specs.Prelude.{◌≡◌, ◌++◌, ◌||◌, ◌&&◌, ℕ, Bool, true, false, not, if◌then◌else◌, List, [], ◌∷◌, Option, Some, None, map, codes, nat_eq}
+use Rattle.std.specs.Prelude.{◌≡◌, ◌++◌, ◌||◌, ◌&&◌, ℕ, Bool, true, false, not, if◌then◌else◌, List, [], ◌∷◌, Option, Some, None, drop, map, codes, nat_eq}
 use Rattle.std.specs.List.{concat, filter, list_any, starts_with}
-use Rattle.std.specs.Str.{bytes_eq}
-use Rattle.wc_slurm.specs.Lines.{words_of}
+use Rattle.wc_slurm.specs.Options.{words_read, words_ask}
 
--- a line for the scheduler begins with #SBATCH
+-- a line for the scheduler begins with #SBATCH, or, as long ago, with #SLURM
 abbrev pub is_directive : List ℕ → Bool
-is_directive line = starts_with nat_eq line (codes "#SBATCH")
+is_directive line = starts_with nat_eq line (codes "#SBATCH") || starts_with nat_eq line (codes "#SLURM")
+
+-- what it says, behind that sign
+abbrev pub said_in : List ℕ → List ℕ
+said_in line = if starts_with nat_eq line (codes "#SBATCH") then drop 7 line else drop 6 line
 
 -- any other line
 abbrev pub is_command : List ℕ → Bool
 is_command line = not (is_directive line)
 
--- a word of a line for the scheduler that asks for an array of jobs, for a job of several parts, or to wait for the job's end
-abbrev pub asks_for_more : List ℕ → Bool
-asks_for_more word =
-    starts_with nat_eq word (codes "--ar")
-    || (starts_with nat_eq word (codes "-a")
-    || (bytes_eq word (codes "hetjob")
-    || (bytes_eq word (codes "packjob")
-    || (bytes_eq word (codes "--wait")
-    || bytes_eq word (codes "-W")))))
-
 -- a line for the scheduler that asks for what a job can't be
 abbrev pub is_refused : List ℕ → Bool
-is_refused line = is_directive line && list_any asks_for_more (words_of line)
+is_refused line = is_directive line && words_ask (words_read (said_in line))
 
 -- a line with its line feed, where it is taken
 abbrev pub taken : Bool → List ℕ → List ℕ

@@ -18,10 +18,6 @@ is_bar b = b == 124
 abbrev pub lines_of : List ℕ → List (List ℕ)
 lines_of text = slice_split is_feed text
 
--- the words of a line; one between two blanks side by side is empty
-abbrev pub words_of : List ℕ → List (List ℕ)
-words_of line = slice_split is_blank line
-
 -- a byte more of a text: one that ends a part ends the one that was begun, and any other byte belongs to it
 abbrev pub parts_after : Bool → List (List ℕ) → List ℕ → List (List ℕ)
 parts_after is_end parts part = if is_end then parts ++ part ∷ [] else parts

@@ -1,15 +1,18 @@
 //! The batch script of a job on a cluster, from the user's lines.
-ghost use Rattle.std.specs.Prelude.{◌≡◌, ◌++◌, IfOk, OnOk};
+ghost use Rattle.std.specs.Prelude.{◌≡◌, ◌++◌, drop, IfOk, OnOk};
 ghost use Rattle.std.specs.List.{filter, list_any};
-ghost use Rattle.wc_slurm.specs.Lines.{words_of as words_in};
-ghost use Rattle.wc_slurm.specs.Batch.{IsBatchOf, HasScript, is_directive as is_directive_line, is_command, asks_for_more as asks, is_refused as is_refused_line, taken, text_of};
+ghost use Rattle.wc_slurm.specs.Batch.{IsBatchOf, HasScript, is_directive as is_directive_line, is_command, said_in as said_behind, is_refused as is_refused_line, taken, text_of};
 
-use crate::lines::{copied, words_of};
+use crate::lines::copied;
+use crate::options::line_asks;
 use std::alloc::{AllocError, Global};
 use wc_value::Bytes;
 
 /// What a line for the scheduler begins with.
 const DIRECTIVE: &[u8] = b"#SBATCH";
+
+/// What one began with long ago, which is read as well.
+const OLD_DIRECTIVE: &[u8] = b"#SLURM";
 
 /// What comes first.
 const SHELL: &[u8] = b"#!/bin/sh\n";
@@ -28,7 +31,7 @@ exec /bin/sh ./_wc_run.sh slurm
 fn is_directive(line: &[u8]) -> bool
     ensures { result ≡ is_directive_line line.now }
 {
-    line.starts_with(DIRECTIVE)
+    line.starts_with(DIRECTIVE) || line.starts_with(OLD_DIRECTIVE)
 }
 
 /// Puts a line with its line feed behind a text, where it is taken.
@@ -87,39 +90,36 @@ fn batch_of(
     Ok(batch)
 }
 
-/// Whether a word of a line for the scheduler asks for more than one job, or for a submission that waits for the job's end.
-fn asks_for_more(word: &[u8]) -> bool
-    ensures { result ≡ asks word.now }
+/// What is left of a line behind so many bytes.
+fn dropped(line: &[u8], count: usize) -> &[u8]
+    ensures { result.now ≡ drop count line.now }
 {
-    word.starts_with(b"--ar".as_slice())
-        || word.starts_with(b"-a".as_slice())
-        || word == b"hetjob".as_slice()
-        || word == b"packjob".as_slice()
-        || word == b"--wait".as_slice()
-        || word == b"-W".as_slice()
+    if count < line.len() {
+        &line[count..]
+    } else {
+        &[]
+    }
 }
 
-/// Whether one of these words asks for more.
-fn has_asking(words: &[Bytes]) -> bool
-    ensures { result ≡ list_any asks words.now }
+/// What a line for the scheduler says, behind its sign.
+fn said_in(line: &[u8]) -> &[u8]
+    ensures { result.now ≡ said_behind line.now }
 {
-    for word in words {
-        if asks_for_more(word.bytes()) {
-            return true;
-        }
+    if line.starts_with(DIRECTIVE) {
+        dropped(line, 7)
+    } else {
+        dropped(line, 6)
     }
-    false
 }
 
 /// Whether a line for the scheduler asks for what a job can't be. Its bytes may be any.
 fn is_refused(alloc: Global, line: &[u8]) -> Result<bool, AllocError>
     ensures { IfOk result (λ refused. refused ≡ is_refused_line line.now) }
 {
-    if !is_directive(line) {
-        return Ok(false);
+    if is_directive(line) {
+        return line_asks(alloc, said_in(line));
     }
-    let words = words_of(alloc, line)?;
-    Ok(has_asking(words.as_slice()))
+    Ok(false)
 }
 
 /// Whether one of these lines asks the scheduler for what a job can't be.

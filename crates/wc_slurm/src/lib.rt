@@ -5,6 +5,7 @@
 mod batch;
 mod end;
 mod lines;
+mod options;
 mod queue;
 mod quoting;
 mod rounds;

@@ -1,6 +1,6 @@
-//! Texts by their lines, and lines by their words.
+//! Texts by their lines, and lines by their fields.
 ghost use Rattle.std.specs.Prelude.{◌≡◌, IfOk, OnOk};
-ghost use Rattle.wc_slurm.specs.Lines.{is_feed, is_blank as is_blank_byte, lines_of as lines_in, words_of as words_in, part_in, rest_in, word_in, behind_word, field_in, ReadsByte};
+ghost use Rattle.wc_slurm.specs.Lines.{is_feed, is_blank as is_blank_byte, lines_of as lines_in, part_in, rest_in, word_in, behind_word, field_in, ReadsByte};
 
 use std::alloc::{AllocError, Global};
 use std::mem;
@@ -52,20 +52,6 @@ pub fn lines_of(alloc: Global, text: &[u8]) -> Result<List<Bytes>, AllocError>
     }
     lines.push(line)?;
     Ok(lines)
-}
-
-/// The words of a line, of which some are empty where blanks stand side by side.
-#[tactic(auto, using(crate::proofs::Parts::no_parts, crate::proofs::Parts::next_of_word, crate::proofs::Parts::last_of_words))]
-pub fn words_of(alloc: Global, line: &[u8]) -> Result<List<Bytes>, AllocError>
-    ensures { IfOk result (λ words. words ≡ words_in line.now) }
-{
-    let mut words = List::new(alloc);
-    let mut word = Bytes::new(alloc);
-    for byte in line {
-        read_byte(alloc, &mut words, &mut word, *byte, is_blank(*byte))?;
-    }
-    words.push(word)?;
-    Ok(words)
 }
 
 /// What stands before the first bar, and what behind it.

@@ -5,6 +5,27 @@ use std::alloc::{AllocError, Global};
 use std::io;
 use std::process::{Command, Output, Processes};
 
+/// Puts a word behind those of a command.
+fn put_word(command: &mut Command, word: &str) -> Result<(), AllocError> {
+    command.arg(word)?;
+    Ok(())
+}
+
+/// The command that runs a text of the shell.
+pub fn shell(alloc: Global, text: &str) -> Result<Command, AllocError> {
+    let mut command = Command::new(alloc, "sh")?;
+    put_word(&mut command, "-c")?;
+    put_word(&mut command, text)?;
+    Ok(command)
+}
+
+/// Puts the two words of a text of the shell behind it.
+fn put_words(command: &mut Command, first: &str, second: &str) -> Result<(), AllocError> {
+    put_word(command, "sh")?;
+    put_word(command, first)?;
+    put_word(command, second)
+}
+
 /// Runs a text of the shell with two words, and collects what it writes.
 fn collected<R: Processes>(
     rt: &R,
@@ -13,9 +34,8 @@ fn collected<R: Processes>(
     first: &str,
     second: &str,
 ) -> Result<io::Result<Output>, AllocError> {
-    let mut command = Command::new(alloc, "sh")?;
-    command.arg("-c")?.arg(text)?.arg("sh")?;
-    command.arg(first)?.arg(second)?;
+    let mut command = shell(alloc, text)?;
+    put_words(&mut command, first, second)?;
     Ok(command.output(rt))
 }
 

@@ -1,62 +1,87 @@
 //! Why a task of a job failed on this machine.
 
 use std::alloc::{AllocError, AllocFailed};
+use std::error::Error;
+use std::fmt::{self, Display, Formatter, Write};
 use std::io;
-use thiserror::Error;
 
 /// Why a task of a job failed on this machine.
-#[derive(Clone, Copy, Debug, Error)]
+#[derive(Clone, Copy, Debug)]
 pub enum Fault {
     /// Memory ran out.
-    #[error("out of memory")]
     OutOfMemory,
     /// The system refused a call.
-    #[error("{0}: {1}")]
     System(&'static str, io::Error),
     /// The program is empty or begins with `-`, or it or an argument has a byte of 0.
-    #[error("sh can't run such a program with such arguments")]
     Program,
     /// A file that is brought or asked for has a name that none in the folder may have.
-    #[error("a file has a name that isn't allowed")]
     Name,
     /// The folder holds no request.
-    #[error("the folder holds no request")]
     NoRequest,
     /// The folder holds another request.
-    #[error("the folder holds another request")]
     OtherRequest,
     /// The `sh` that starts the script failed.
-    #[error("sh couldn't start the script")]
     Start,
     /// The scheduler refused a job.
-    #[error("the scheduler refused: see slurm.err")]
     Scheduler,
     /// Whether the scheduler has a job isn't known.
-    #[error("the scheduler doesn't answer")]
     Silent,
     /// The scheduler ended a job before its program began, or doesn't know it.
-    #[error("the scheduler ended the job before its program began: see slurm.txt")]
     Unstarted,
     /// A line for the scheduler asks for what a job can't be.
-    #[error("a line of #SBATCH asks for an array, for several jobs or to wait")]
     Directive,
     /// The lines for the scheduler are too many.
-    #[error("a file wc.slurm has more than 1048576 bytes")]
     Head,
     /// The program hasn't ended.
-    #[error("the program hasn't ended")]
     Running,
     /// The exit code isn't a number.
-    #[error("the exit code isn't a number")]
     Code,
     /// A fetched file is too long.
-    #[error("a file to be fetched has more than 4194304 bytes")]
     Long,
 }
 
+impl Fault {
+    /// What is said of it, or before the system's own words.
+    fn text(&self) -> &'static str {
+        match self {
+            Fault::OutOfMemory => "out of memory",
+            Fault::System(call, _) => call,
+            Fault::Program => "sh can't run such a program with such arguments",
+            Fault::Name => "a file has a name that isn't allowed",
+            Fault::NoRequest => "the folder holds no request",
+            Fault::OtherRequest => "the folder holds another request",
+            Fault::Start => "sh couldn't start the script",
+            Fault::Scheduler => "the scheduler refused: see slurm.err",
+            Fault::Silent => "the scheduler doesn't answer",
+            Fault::Unstarted => {
+                "the scheduler ended the job before its program began: see slurm.txt"
+            }
+            Fault::Directive => {
+                "a line of #SBATCH asks for an array, for several jobs or to wait"
+            }
+            Fault::Head => "a file wc.slurm has more than 1048576 bytes",
+            Fault::Running => "the program hasn't ended",
+            Fault::Code => "the exit code isn't a number",
+            Fault::Long => "a file to be fetched has more than 4194304 bytes",
+        }
+    }
+}
+
+impl Display for Fault {
+    fn fmt<W: Write>(&self, f: &mut Formatter<W>) -> fmt::Result {
+        let text = self.text();
+        match self {
+            Fault::System(_, error) => write!(f, "{text}: {error}"),
+            _ => f.write_str(text),
+        }
+    }
+}
+
+impl Error for Fault {}
+
 impl From<AllocError> for Fault {
     ghost use Rattle.std.specs.Prelude.{◌≡◌};
-    ghost use Rattle.wc_local.specs.declared.fault.Fault.TheVariants.{OutOfMemory};
+    ghost use Rattle.wc_folders.specs.declared.fault.Fault.TheVariants.{OutOfMemory};
 
     ghost from_gives = { λ _ e. e ≡ OutOfMemory };
 
@@ -67,7 +92,7 @@ impl From<AllocError> for Fault {
 
 impl<T: Drop> From<AllocFailed<T>> for Fault {
     ghost use Rattle.std.specs.Prelude.{◌≡◌};
-    ghost use Rattle.wc_local.specs.declared.fault.Fault.TheVariants.{OutOfMemory};
+    ghost use Rattle.wc_folders.specs.declared.fault.Fault.TheVariants.{OutOfMemory};
 
     ghost from_gives = { λ _ e. e ≡ OutOfMemory };
 
@@ -91,8 +116,7 @@ pub fn called<T: Drop>(what: &'static str, outcome: io::Result<T>) -> Result<T, 
 }
 
 /// A task that failed.
-#[derive(Clone, Copy, Debug, Error)]
-#[error("the {task} of job {dir} failed: {fault}")]
+#[derive(Clone, Copy, Debug)]
 pub struct Failure {
     /// The number of the job's folder.
     pub dir: u32,
@@ -101,3 +125,12 @@ pub struct Failure {
     /// Why it failed.
     pub fault: Fault,
 }
+
+impl Display for Failure {
+    fn fmt<W: Write>(&self, f: &mut Formatter<W>) -> fmt::Result {
+        let Failure { dir, task, fault } = self;
+        write!(f, "the {task} of job {dir} failed: {fault}")
+    }
+}
+
+impl Error for Failure {}

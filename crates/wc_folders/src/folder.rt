@@ -1,12 +1,13 @@
 //! The folder of a job.
 
 use crate::fault::{Failure, Fault, called};
-use std::alloc::{AllocError, Global};
-use std::fs::{File, OpenOptions, TryLockError};
-use std::io::{Read, Write};
-use std::path::Path;
+use crate::file::{
+    content_in, folder_of, is_there, length_in, link_in, make_folder, path_in, place_file,
+    rename_in, sync_names, write_file,
+};
+use std::alloc::Global;
+use std::fs::{File, TryLockError};
 use std::rt::Files;
-use std::string::String;
 use std::{fs, io, str};
 use wc_slurm::script_of;
 use wc_value::{Bytes, JobResult, Keyed, Request, Text, encode_request};
@@ -18,79 +19,19 @@ const REQUEST: &str = "_wc_request";
 const SCRIPT: &str = "_wc_run.sh";
 
 /// The folder that the first run of the script makes.
-pub const LOCK: &str = "_wc_lock";
+const LOCK: &str = "_wc_lock";
 
 /// The exit code of the program, once it has ended.
-pub const STATUS: &str = "_wc_status";
+const STATUS: &str = "_wc_status";
 
 /// The last task that failed, and why.
-pub const FAILED: &str = "_wc_failed";
+const FAILED: &str = "_wc_failed";
 
 /// The most bytes that a fetched file may have.
 const MOST_FETCHED: u64 = 4 * 1024 * 1024;
 
 /// The most bytes of a status, which is a number and a line feed.
 const MOST_STATUS: u64 = 32;
-
-/// The path of a file in a folder.
-pub fn path_in(alloc: Global, folder: &str, name: &str) -> Result<String, AllocError> {
-    format!(in alloc; "{folder}/{name}")
-}
-
-/// The length of a file, or none where no file is there. What isn't a file, as a folder or a pipe, counts as none.
-pub fn length_of<R: Files>(rt: &R, path: &str) -> Result<Option<u64>, Fault> {
-    match fs::metadata(rt, path) {
-        Ok(found) if found.is_file() => Ok(Some(found.len())),
-        Ok(_) => Ok(None),
-        Err(error) if error.kind() == io::ErrorKind::NotFound => Ok(None),
-        Err(error) => called("looking for a file", Err(error)),
-    }
-}
-
-/// The content of a file, of which one byte more than may be is read at most.
-pub fn content_of<R: Files>(
-    rt: &R,
-    alloc: Global,
-    path: &str,
-    most: u64,
-) -> Result<Vec<u8>, Fault> {
-    let file = called("opening a file", fs::open(rt, path))?;
-    let mut content = Vec::new(alloc);
-    let count = file.take(most.saturating_add(1)).read_to_end(&mut content);
-    called("reading a file", count)?;
-    Ok(content)
-}
-
-/// Writes a file.
-pub fn write_file<R: Files<File = File>>(
-    rt: &R,
-    alloc: Global,
-    folder: &str,
-    name: &str,
-    content: &[u8],
-) -> Result<File, Fault> {
-    let path = path_in(alloc, folder, name)?;
-    let opened = OpenOptions::new()
-        .write(true)
-        .create(true)
-        .truncate(true)
-        .open(rt, path.as_str());
-    let mut file = called("making a file", opened)?;
-    called("writing a file", file.write_all(content))?;
-    Ok(file)
-}
-
-/// Writes a file, and brings its content to the disk.
-pub fn place_file<R: Files<File = File>>(
-    rt: &R,
-    alloc: Global,
-    folder: &str,
-    name: &str,
-    content: &[u8],
-) -> Result<(), Fault> {
-    let file = write_file(rt, alloc, folder, name, content)?;
-    called("bringing a file to the disk", file.sync_data())
-}
 
 /// Whether a name is that of a file in the folder itself, and none of the folder's own.
 fn is_file_name(name: &Text) -> bool {
@@ -127,20 +68,6 @@ fn names_are_of_files(request: &Request) -> bool {
     true
 }
 
-/// The folder that a path lies in.
-pub fn folder_of(path: &str) -> &str {
-    match Path::new(path).parent() {
-        Some(parent) if !parent.as_str().is_empty() => parent.as_str(),
-        _ => ".",
-    }
-}
-
-/// Brings the names in a folder to the disk.
-pub fn sync_names<R: Files<File = File>>(rt: &R, folder: &str) -> Result<(), Fault> {
-    let names = called("opening a folder", fs::open(rt, folder))?;
-    called("bringing a folder to the disk", names.sync_all())
-}
-
 /// Brings the names in the folder of a job to the disk, its own name, and that of the folder of jobs.
 pub fn sync_placed<R: Files<File = File>>(rt: &R, folder: &str) -> Result<(), Fault> {
     let jobs = folder_of(folder);
@@ -149,23 +76,36 @@ pub fn sync_placed<R: Files<File = File>>(rt: &R, folder: &str) -> Result<(), Fa
     sync_names(rt, folder_of(jobs))
 }
 
-/// Whether the folder holds this request. It fails where it holds another. One of another length isn't read.
+/// Whether a file of this length is the request of the folder. One of another length isn't read.
+fn is_same<R: Files>(
+    rt: &R,
+    alloc: Global,
+    folder: &str,
+    length: u64,
+    wanted: &[u8],
+) -> Result<bool, Fault> {
+    if length != wanted.len() as u64 {
+        return Ok(false);
+    }
+    match content_in(rt, alloc, folder, REQUEST, length)? {
+        Some(found) => Ok(found.as_slice() == wanted),
+        None => Ok(false),
+    }
+}
+
+/// Whether the folder holds this request. It fails where it holds another.
 pub fn holds<R: Files>(
     rt: &R,
     alloc: Global,
     folder: &str,
     request: &Request,
 ) -> Result<bool, Fault> {
-    let path = path_in(alloc, folder, REQUEST)?;
-    let Some(length) = length_of(rt, path.as_str())? else {
+    let Some(length) = length_in(rt, alloc, folder, REQUEST)? else {
         return Ok(false);
     };
     let wanted = encode_request(alloc, request)?;
-    if length == wanted.len() as u64 {
-        let found = content_of(rt, alloc, path.as_str(), length)?;
-        if found.as_slice() == wanted.bytes() {
-            return Ok(true);
-        }
+    if is_same(rt, alloc, folder, length, wanted.bytes())? {
+        return Ok(true);
     }
     Err(Fault::OtherRequest)
 }
@@ -183,6 +123,17 @@ pub fn must_hold<R: Files>(
     Err(Fault::NoRequest)
 }
 
+/// Writes the script of a request.
+fn place_script<R: Files<File = File>>(
+    rt: &R,
+    alloc: Global,
+    folder: &str,
+    request: &Request,
+) -> Result<(), Fault> {
+    let script = script_of(alloc, request)?;
+    place_file(rt, alloc, folder, SCRIPT, script.bytes())
+}
+
 /// Writes the files of a request and its script.
 fn place_files<R: Files<File = File>>(
     rt: &R,
@@ -193,8 +144,18 @@ fn place_files<R: Files<File = File>>(
     for (name, content) in request.files.as_slice() {
         place_file(rt, alloc, folder, name.as_str(), content.bytes())?;
     }
-    let script = script_of(alloc, request)?;
-    place_file(rt, alloc, folder, SCRIPT, script.bytes())
+    place_script(rt, alloc, folder, request)
+}
+
+/// Writes the request of a folder under a name of its own.
+fn place_request<R: Files<File = File>>(
+    rt: &R,
+    alloc: Global,
+    folder: &str,
+    request: &Request,
+) -> Result<(), Fault> {
+    let spelled = encode_request(alloc, request)?;
+    place_file(rt, alloc, folder, "_wc_request.tmp", spelled.bytes())
 }
 
 /// Makes the folder of a request. The request's own file comes by rename, when all others and their names are on the
@@ -211,18 +172,37 @@ pub fn place<R: Files<File = File>>(
     if !names_are_of_files(request) {
         return Err(Fault::Name);
     }
-    called("making the folder", fs::create_dir_all(rt, folder))?;
+    make_folder(rt, folder)?;
     place_files(rt, alloc, folder, request)?;
-    let spelled = encode_request(alloc, request)?;
-    place_file(rt, alloc, folder, "_wc_request.tmp", spelled.bytes())?;
+    place_request(rt, alloc, folder, request)?;
     sync_names(rt, folder)?;
-    let part = path_in(alloc, folder, "_wc_request.tmp")?;
-    let whole = path_in(alloc, folder, REQUEST)?;
-    called(
-        "renaming a file",
-        fs::rename(rt, part.as_str(), whole.as_str()),
-    )?;
+    rename_in(rt, alloc, folder, "_wc_request.tmp", REQUEST)?;
     sync_placed(rt, folder)
+}
+
+/// Writes down what keeps a job open.
+pub fn tell_open<R: Files<File = File>>(
+    rt: &R,
+    alloc: Global,
+    folder: &str,
+    dir: u32,
+    why: &str,
+) -> Result<(), Fault> {
+    let line = format!(in alloc; "the update of job {dir} is open: {why}\n")?;
+    write_file(rt, alloc, folder, FAILED, line.as_bytes())
+}
+
+/// Writes an exit code, in place of the script, unless the script has.
+pub fn put_code<R: Files<File = File>>(
+    rt: &R,
+    alloc: Global,
+    folder: &str,
+    code: u32,
+) -> Result<(), Fault> {
+    let line = format!(in alloc; "{code}\n")?;
+    place_file(rt, alloc, folder, "_wc_status.slurm", line.as_bytes())?;
+    link_in(rt, alloc, folder, "_wc_status.slurm", STATUS)?;
+    sync_names(rt, folder)
 }
 
 /// Writes down why a task failed.
@@ -232,21 +212,29 @@ pub fn note<R: Files<File = File>>(
     folder: &str,
     failure: Failure,
 ) -> Result<(), Fault> {
-    called("making the folder", fs::create_dir_all(rt, folder))?;
+    make_folder(rt, folder)?;
     let line = format!(in alloc; "{failure}\n")?;
-    write_file(rt, alloc, folder, FAILED, line.as_bytes())?;
-    Ok(())
-}
-
-/// Whether something of this name is in the folder.
-pub fn is_there<R: Files>(rt: &R, alloc: Global, folder: &str, name: &str) -> Result<bool, Fault> {
-    let path = path_in(alloc, folder, name)?;
-    called("looking for a file", fs::exists(rt, path.as_str()))
+    write_file(rt, alloc, folder, FAILED, line.as_bytes())
 }
 
 /// Whether a run of the script has begun that no one has taken back.
 pub fn is_locked<R: Files>(rt: &R, alloc: Global, folder: &str) -> Result<bool, Fault> {
     is_there(rt, alloc, folder, LOCK)
+}
+
+/// Makes the lock at a path. Whether it was made.
+fn make_lock_at<R: Files>(rt: &R, path: &str) -> Result<bool, Fault> {
+    match fs::create_dir(rt, path) {
+        Ok(()) => Ok(true),
+        Err(error) if error.kind() == io::ErrorKind::AlreadyExists => Ok(false),
+        Err(error) => called("making the lock", Err(error)),
+    }
+}
+
+/// Makes the lock of a folder, so that no run begins. Whether it was made: it isn't where one is there.
+pub fn make_lock<R: Files>(rt: &R, alloc: Global, folder: &str) -> Result<bool, Fault> {
+    let path = path_in(alloc, folder, LOCK)?;
+    make_lock_at(rt, path.as_str())
 }
 
 /// Whether a run of the script lives, as far as its lock tells: it is taken by a script that waits or whose program runs, where the command
@@ -264,14 +252,9 @@ pub fn has_ended<R: Files>(rt: &R, alloc: Global, folder: &str) -> Result<bool, 
     is_there(rt, alloc, folder, STATUS)
 }
 
-/// The exit code of a program that has ended.
-fn code_of<R: Files>(rt: &R, alloc: Global, folder: &str) -> Result<i64, Fault> {
-    let path = path_in(alloc, folder, STATUS)?;
-    if length_of(rt, path.as_str())?.is_none() {
-        return Err(Fault::Running);
-    }
-    let content = content_of(rt, alloc, path.as_str(), MOST_STATUS)?;
-    let Ok(text) = str::from_utf8(content.as_slice()) else {
+/// The exit code that a text tells.
+fn code_in(content: &[u8]) -> Result<i64, Fault> {
+    let Ok(text) = str::from_utf8(content) else {
         return Err(Fault::Code);
     };
     match text.trim().parse::<i64>() {
@@ -280,18 +263,66 @@ fn code_of<R: Files>(rt: &R, alloc: Global, folder: &str) -> Result<i64, Fault> 
     }
 }
 
-/// The content of a fetched file, or none where no file is there.
-fn fetched<R: Files>(rt: &R, alloc: Global, path: &str) -> Result<Option<Bytes>, Fault> {
-    if length_of(rt, path)?.is_none() {
-        return Ok(None);
+/// The exit code of a program that has ended.
+fn code_of<R: Files>(rt: &R, alloc: Global, folder: &str) -> Result<i64, Fault> {
+    match content_in(rt, alloc, folder, STATUS, MOST_STATUS)? {
+        Some(content) => code_in(content.as_slice()),
+        None => Err(Fault::Running),
     }
-    let found = content_of(rt, alloc, path, MOST_FETCHED)?;
-    if found.len() as u64 > MOST_FETCHED {
+}
+
+/// The content of a file as bytes, which may be so long.
+fn bytes_of(alloc: Global, content: &[u8]) -> Result<Bytes, Fault> {
+    if content.len() as u64 > MOST_FETCHED {
         return Err(Fault::Long);
     }
-    let mut content = Bytes::new(alloc);
-    content.extend(found.as_slice())?;
-    Ok(Some(content))
+    let mut bytes = Bytes::new(alloc);
+    bytes.extend(content)?;
+    Ok(bytes)
+}
+
+/// The content of a fetched file, or none where no file is there.
+fn fetched<R: Files>(
+    rt: &R,
+    alloc: Global,
+    folder: &str,
+    name: &Text,
+) -> Result<Option<Bytes>, Fault> {
+    if !is_file_name(name) {
+        return Err(Fault::Name);
+    }
+    match content_in(rt, alloc, folder, name.as_str(), MOST_FETCHED)? {
+        Some(content) => Ok(Some(bytes_of(alloc, content.as_slice())?)),
+        None => Ok(None),
+    }
+}
+
+/// Puts a fetched file beside others, where it is there.
+fn put_fetched<R: Files>(
+    rt: &R,
+    alloc: Global,
+    folder: &str,
+    name: &Text,
+    files: &mut Keyed<Bytes>,
+) -> Result<(), Fault> {
+    if let Some(content) = fetched(rt, alloc, folder, name)? {
+        files.set(Text::of_str(alloc, name.as_str())?, content)?;
+    }
+    Ok(())
+}
+
+/// Those files that a request asks for and that are there.
+fn files_of<R: Files>(
+    rt: &R,
+    alloc: Global,
+    folder: &str,
+    request: &Request,
+) -> Result<Keyed<Bytes>, Fault> {
+    let mut files = Keyed::new(alloc);
+    for name in request.fetch.as_slice() {
+        put_fetched(rt, alloc, folder, name, &mut files)?;
+    }
+    Ok(files)
 }
 
 /// What a program that has ended left: its exit code, and those files that the request asks for and that are there. The folder is opened
@@ -304,15 +335,6 @@ pub fn result_of<R: Files>(
 ) -> Result<JobResult, Fault> {
     called("opening a folder", fs::open(rt, folder))?;
     let code = code_of(rt, alloc, folder)?;
-    let mut files = Keyed::new(alloc);
-    for name in request.fetch.as_slice() {
-        if !is_file_name(name) {
-            return Err(Fault::Name);
-        }
-        let path = path_in(alloc, folder, name.as_str())?;
-        if let Some(content) = fetched(rt, alloc, path.as_str())? {
-            files.set(Text::of_str(alloc, name.as_str())?, content)?;
-        }
-    }
+    let files = files_of(rt, alloc, folder, request)?;
     Ok(JobResult { code, files })
 }

@@ -2,15 +2,14 @@
 //! before the scheduler gets it. The number that the scheduler gives stands behind it for people, since one may be given twice.
 ghost use Rattle.std.specs.Prelude.{◌≡◌, ◌++◌, IfOk, string_bytes};
 
-use crate::fault::{Fault, called};
-use crate::folder::{content_of, is_there, length_of, path_in, place_file, sync_names};
+use crate::fault::Fault;
+use crate::file::{append_line, content_in, is_there, replace_file};
 use crate::random::random_word;
 use std::alloc::{AllocError, Global};
-use std::fs::{File, OpenOptions};
-use std::io::Write;
+use std::fs::File;
 use std::rt::Files;
+use std::str;
 use std::string::String;
-use std::{fs, str};
 use wc_slurm::{OVER, Submission, TRY, submission_in};
 use wc_value::Text;
 
@@ -26,20 +25,23 @@ pub fn has_submission<R: Files>(rt: &R, alloc: Global, folder: &str) -> Result<b
     is_there(rt, alloc, folder, SUBMISSION)
 }
 
+/// The submission that a file tells of, if it does.
+fn told_by(alloc: Global, content: &[u8]) -> Result<Option<Submission>, AllocError> {
+    match str::from_utf8(content) {
+        Ok(text) => submission_in(alloc, text),
+        Err(_) => Ok(None),
+    }
+}
+
 /// The last submission of a job, if there is one.
 pub fn submission_of<R: Files>(
     rt: &R,
     alloc: Global,
     folder: &str,
 ) -> Result<Option<Submission>, Fault> {
-    let path = path_in(alloc, folder, SUBMISSION)?;
-    if length_of(rt, path.as_str())?.is_none() {
-        return Ok(None);
-    }
-    let content = content_of(rt, alloc, path.as_str(), MOST_SUBMISSION)?;
-    match str::from_utf8(content.as_slice()) {
-        Ok(text) => Ok(submission_in(alloc, text)?),
-        Err(_) => Ok(None),
+    match content_in(rt, alloc, folder, SUBMISSION, MOST_SUBMISSION)? {
+        Some(content) => Ok(told_by(alloc, content.as_slice())?),
+        None => Ok(None),
     }
 }
 
@@ -51,11 +53,16 @@ fn with_token(mut front: String, token: &str) -> Result<String, AllocError>
     Ok(front)
 }
 
+/// A name that begins with the number of a folder, and ends in a word.
+fn name_with(alloc: Global, dir: u32, token: &str) -> Result<Text, AllocError> {
+    let front = format!(in alloc; "wc-{dir}-")?;
+    Text::of_string(with_token(front, token)?)
+}
+
 /// A name for a submission of the job in a folder of this number.
 pub fn new_name<R: Files>(rt: &R, alloc: Global, dir: u32) -> Result<Text, Fault> {
     let token = random_word(rt, alloc)?;
-    let front = format!(in alloc; "wc-{dir}-")?;
-    Ok(Text::of_string(with_token(front, token.as_str())?)?)
+    Ok(name_with(alloc, dir, token.as_str())?)
 }
 
 /// Brings a name to the disk, and which try of the job it is.
@@ -67,32 +74,14 @@ pub fn place_name<R: Files<File = File>>(
     tries: u32,
 ) -> Result<(), Fault> {
     let lines = format!(in alloc; "{name}\n{TRY}{tries}\n")?;
-    place_file(rt, alloc, folder, "_wc_slurm.tmp", lines.as_bytes())?;
-    let part = path_in(alloc, folder, "_wc_slurm.tmp")?;
-    let whole = path_in(alloc, folder, SUBMISSION)?;
-    called(
-        "renaming a file",
-        fs::rename(rt, part.as_str(), whole.as_str()),
-    )?;
-    sync_names(rt, folder)
-}
-
-/// Puts a line behind those of a file in a folder, which is made where it isn't there.
-pub fn put_line<R: Files<File = File>>(
-    rt: &R,
-    alloc: Global,
-    folder: &str,
-    name: &str,
-    line: &str,
-) -> Result<(), Fault> {
-    let path = path_in(alloc, folder, name)?;
-    let line: String = format!(in alloc; "{line}\n")?;
-    let opened = OpenOptions::new()
-        .append(true)
-        .create(true)
-        .open(rt, path.as_str());
-    let mut file = called("making a file", opened)?;
-    called("writing a file", file.write_all(line.as_bytes()))
+    replace_file(
+        rt,
+        alloc,
+        folder,
+        "_wc_slurm.tmp",
+        SUBMISSION,
+        lines.as_bytes(),
+    )
 }
 
 /// Puts the number that the scheduler gave behind the name. That it is lost does no harm.
@@ -102,10 +91,10 @@ pub fn put_number<R: Files<File = File>>(
     folder: &str,
     number: &str,
 ) -> Result<(), Fault> {
-    put_line(rt, alloc, folder, SUBMISSION, number)
+    append_line(rt, alloc, folder, SUBMISSION, number)
 }
 
 /// Writes down that it was told that a submission ended before the program began.
 pub fn put_over<R: Files<File = File>>(rt: &R, alloc: Global, folder: &str) -> Result<(), Fault> {
-    put_line(rt, alloc, folder, SUBMISSION, OVER)
+    append_line(rt, alloc, folder, SUBMISSION, OVER)
 }

@@ -1,0 +1,25 @@
+mod Values
+mod Attempted
+mod Runs
+mod Called
+mod Conditions
+mod Entries
+mod Arguments
+mod Context
+mod Steps
+mod Picks
+mod Given
+mod Fits
+mod Choices
+mod Inputs
+mod Passing
+mod Turns
+mod Told
+mod Ends
+mod Loops
+mod Starts
+mod PortKinds
+mod Good
+mod Delivered
+pub mod Restarted
+mod Worked

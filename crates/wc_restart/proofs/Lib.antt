@@ -1,0 +1,4 @@
+pub mod Folded
+pub mod Outlined
+pub mod Examples
+pub mod Named

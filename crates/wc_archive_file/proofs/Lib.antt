@@ -1,0 +1,12 @@
+pub mod LineFeed
+pub mod Named
+pub mod Numerals
+pub mod Steps
+pub mod Libraries
+pub mod Objects
+pub mod Items
+pub mod Processes
+pub mod Forms
+pub mod Links
+pub mod Digits
+pub mod Files

@@ -1,0 +1,10 @@
+use Rattle.serde_json.specs.Data.{no_members}
+use Rattle.wc_archive_file.specs.Archives.{IsState, state_data}
+use Rattle.wc_archive_file.proofs.Steps.{next_none, next_read}
+use Rattle.wc_archive_file.proofs.members.next_state.Goals as goal
+
+pub returns-in-Some : goal.returns-in-Some
+returns-in-Some c = next_read state_data IsState c.args.key.now _ _ _ _ c.in-Some.ensures c.state_of.ensures
+
+pub returns-in-None : goal.returns-in-None
+returns-in-None c = next_none state_data IsState c.args.key.now _ no_members c.in-None.ensures

@@ -1,0 +1,18 @@
+use Rattle.wc_archive_file.specs.Archives.{IsLink, link_data}
+use Rattle.wc_archive_file.proofs.Items.{all_read, none_so_far, one_more, one_unread}
+use Rattle.wc_archive_file.proofs.nodes.links_of.Goals as goal
+
+pub loop-item-init : goal.loop-item-init
+loop-item-init c = none_so_far link_data IsLink _ _ c.new-links.ensures
+
+pub loop-item-preserved : goal.loop-item-preserved
+loop-item-preserved c =
+    one_more link_data IsLink _ _ c.item-item.result _ _ _ _ c.loop-item-test.true c.item-item.is c.loop-item.invariant c.in_ok-link_of.ensures c.in_ok-push.ensures.ok
+
+pub returns-in_err-link_of : goal.returns-in_err-link_of
+returns-in_err-link_of c =
+    one_unread link_data IsLink _ _ _ c.item-item.result _ c.from_residual.result _ c.loop-item-test.true c.item-item.is c.deref-item-items.ensures.value c.from_residual.ensures
+    c.in_err-link_of.ensures
+
+pub returns : goal.returns
+returns c = all_read link_data IsLink _ _ _ _ c.loop-item-test.false c.deref-item-items.ensures.value c.loop-item.invariant

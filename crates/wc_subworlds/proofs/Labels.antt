@@ -1,43 +1,85 @@
 -- The calls of a process are numbered, so each label leads to its call.
 use Rattle.std.proofs.Common.{◌≡◌, ℕ, suc, ◌+◌, ◌<◌, ◌≤◌, ◌^◌, Bool, true, false, List, [], ◌∷◌, get_or, length, map, Some, refl, sym, ap, subst, ◌∙◌, arith}
-use Rattle.std.specs.Prelude.{All, ◌==◌, ◌&&◌, ◌||◌, if◌then◌else◌, filter}
-use Rattle.std.specs.List.{list_any}
+use Rattle.std.specs.Prelude.{All, ◌≢◌, ◌==◌, ◌&&◌, ◌||◌, if◌then◌else◌, filter, slice_get}
+use Rattle.std.specs.List.{AllByRecursion, IsDistinct, list_any}
 use Rattle.std.specs.Str.{bytes_eq}
-use Rattle.std.proofs.lemmas.Bool.{eqb-true}
+use Rattle.std.proofs.lemmas.Bool.{eqb-true, ne_eqb}
 use Rattle.std.proofs.lemmas.List.{length-map}
 use Rattle.std.proofs.lemmas.List.Elements.{All-nil, All-cons, All-head, All-tail}
 use Rattle.std.proofs.lemmas.Map.Steps.{length-le_from_distinct_below}
 use Rattle.std.proofs.lemmas.Slice.Eq.{bytes_eq-Decides}
 use Rattle.wc_graph.specs.declared.link.Link.{Link}
 use Rattle.wc_graph.specs.declared.node.NodeKind.{NodeKind}
-use Rattle.wc_graph.specs.Rules.{HasRightEnds}
+use Rattle.wc_graph.specs.Rules.{HasRightEnds, IsCall, SharesCalled}
+use Rattle.wc_graph.specs.declared.link.LinkType.{LinkType}
+use Rattle.wc_graph.specs.declared.link.LinkType.TheVariants as link
 use Rattle.wc_semantics.specs.Run.{label}
 use Rattle.wc_semantics.specs.Tables.{Label}
 use Rattle.wc_semantics.proofs.Labels.{labels_differ}
 use Rattle.wc_world.specs.World.{World}
 use Rattle.wc_world.specs.Consistent.{IsConsistent}
-use Rattle.wc_world.specs.Records.{is_call_from}
+use Rattle.wc_world.specs.Records.{calls, is_call_from}
+use Rattle.wc_world.proofs.FoundRecords.{left}
 use Rattle.wc_machine.specs.Paths.{call_links, called_under}
 use Rattle.wc_machine.specs.Sound.{AreNumbered}
 use Rattle.wc_machine.proofs.Frames.{and_false, node_number, target_is_node}
-use Rattle.wc_turn_laws.proofs.CalledLabels.{OneCaller, distinct, targets}
+
+-- ---- a process has at most as many calls as there are nodes
+
+-- no two links at different places call the same process
+abbrev OneCaller : List Link → Type 0
+OneCaller ls = (i j : ℕ) (a b : Link) → i ≢ j → slice_get ls i ≡ Some a → slice_get ls j ≡ Some b → ¬ SharesCalled a b
+
+call_is : (t : LinkType) → calls t ≡ true → IsCall t
+call_is link.InputCalc h = absurd (cc)
+call_is link.InputWork h = absurd (cc)
+call_is link.Create h = absurd (cc)
+call_is link.Return h = absurd (cc)
+call_is link.CallCalc h = tt
+call_is link.CallWork h = tt
 
 module _ (pid : ℕ) where
-  below : (n : ℕ) (ls : List Link) → All (λ l. l.target ≤ n) ls → (q : ℕ) → list_any (λ y. q == y) (targets pid ls) ≡ true → q < suc n
+  abbrev targets : List Link → List ℕ
+  targets ls = map (λ l. l.target) (filter (is_call_from pid) ls)
+
+  is_call : (l : Link) → is_call_from pid l ≡ true → IsCall l.link
+  is_call l h = call_is l.link (left (calls l.link) (l.source == pid) h)
+
+  none_later : (l : Link) → IsCall l.link → (ls : List Link) → ((j : ℕ) (b : Link) → slice_get ls j ≡ Some b → ¬ SharesCalled l b)
+      → AllByRecursion (λ y. (l.target == y) ≡ false) (targets ls)
+  none_later l c [] h = tt
+  none_later l c (m ∷ ms) h = at (is_call_from pid m) refl (none_later l c ms (λ j b. h (suc j) b))
+    where
+      at : (b : Bool) → is_call_from pid m ≡ b → AllByRecursion (λ y. (l.target == y) ≡ false) (targets ms)
+          → AllByRecursion (λ y. (l.target == y) ≡ false) (map (λ x. x.target) (if b then m ∷ filter (is_call_from pid) ms else filter (is_call_from pid) ms))
+      at true t rest = (ne_eqb l.target m.target (λ e. h 0 m refl (c, is_call m t, e)), rest)
+      at false t rest = rest
+
+  distinct : (ls : List Link) → OneCaller ls → IsDistinct (λ a b. a == b) (targets ls)
+  unfolding IsDistinct
+  distinct [] h = tt
+  distinct (m ∷ ms) h = at (is_call_from pid m) refl (distinct ms (λ i j a b ne. h (suc i) (suc j) a b (λ e. ne (omega (arith, e)))))
+    where
+      at : (b : Bool) → is_call_from pid m ≡ b → IsDistinct (λ a b. a == b) (targets ms)
+          → IsDistinct (λ a b. a == b) (map (λ x. x.target) (if b then m ∷ filter (is_call_from pid) ms else filter (is_call_from pid) ms))
+      at true t rest = (none_later m (is_call m t) ms (λ j b. h 0 (suc j) m b (λ e. absurd (omega (arith, e))) refl), rest)
+      at false t rest = rest
+
+  below : (n : ℕ) (ls : List Link) → All (λ l. l.target ≤ n) ls → (q : ℕ) → list_any (λ y. q == y) (targets ls) ≡ true → q < suc n
   below n [] h q e = absurd (cc)
   below n (m ∷ ms) h q e = at (is_call_from pid m) (q == m.target) refl (below n ms (All-tail (λ l. l.target ≤ n) m ms h) q) e
     where
-      at : (b c : Bool) → (q == m.target) ≡ c → (list_any (λ y. q == y) (targets pid ms) ≡ true → q < suc n)
+      at : (b c : Bool) → (q == m.target) ≡ c → (list_any (λ y. q == y) (targets ms) ≡ true → q < suc n)
           → list_any (λ y. q == y) (map (λ x. x.target) (if b then m ∷ filter (is_call_from pid) ms else filter (is_call_from pid) ms)) ≡ true → q < suc n
       at true true t rest e =
           let le : m.target ≤ n = All-head (λ l. l.target ≤ n) m ms h in let same : q ≡ m.target = eqb-true q m.target t in omega arith
-      at true false t rest e = rest (sym (ap (λ (x : Bool). x || list_any (λ y. q == y) (targets pid ms)) t) ∙ e)
+      at true false t rest e = rest (sym (ap (λ (x : Bool). x || list_any (λ y. q == y) (targets ms)) t) ∙ e)
       at false c t rest e = rest e
 
   few : (nodes : List NodeKind) (ls : List Link) → All (HasRightEnds nodes) ls → OneCaller ls → length (filter (is_call_from pid) ls) ≤ suc (length nodes)
   few nodes ls ends one =
       let low : All (λ l. l.target ≤ length nodes) ls = λ i d lt. node_number nodes (get_or ls i d).target (target_is_node nodes (get_or ls i d) (ends i d lt)) in
-      let le : length (targets pid ls) ≤ suc (length nodes) = length-le_from_distinct_below (targets pid ls) (suc (length nodes)) (distinct pid ls one) (below (length nodes) ls low) in
+      let le : length (targets ls) ≤ suc (length nodes) = length-le_from_distinct_below (targets ls) (suc (length nodes)) (distinct ls one) (below (length nodes) ls low) in
       subst (λ (n : ℕ). n ≤ suc (length nodes)) (length-map (filter (is_call_from pid) ls) (λ l. l.target)) le
 
   -- labels of different numbers differ

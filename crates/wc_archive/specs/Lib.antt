@@ -1,0 +1,7 @@
+pub mod Closure
+pub mod Alone
+pub mod Good
+pub mod Judged
+pub mod Exports
+pub mod After
+pub mod Laws

@@ -1,0 +1,9 @@
+//! Archives: what an archive of a root is, what an import of one makes of a world, and when it is refused.
+//!
+//! The archive of an ended root has all that the root called and their data. It is judged as a world of its own, and an import adds that
+//! world to another, in one batch.
+#![tactic(auto)]
+
+mod laws;
+
+pub use laws::imports_make_these_worlds;

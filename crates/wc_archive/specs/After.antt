@@ -30,3 +30,13 @@ with_archive w a = record {
   libraries = w.libraries ++ (a.library, []) ∷ [];
   batches = w.batches + 1;
 }
+
+-- the archive as a world of its own, written out
+abbrev pub own_world : Archive → World
+own_world a = record {
+  nodes = map kind_of_node a.nodes;
+  links = a.links;
+  records = records_from 1 1 1 a.nodes;
+  libraries = (a.library, []) ∷ [];
+  batches = 1;
+}

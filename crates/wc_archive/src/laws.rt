@@ -1,9 +1,19 @@
 //! Laws of imports.
-ghost use Rattle.wc_archive.specs.Laws.{ImportsMakeTheseWorlds};
+ghost use Rattle.wc_archive.specs.Laws.{ArchivesArePartsOfImports, ArchivesAreTheseWorlds, ImportsMakeTheseWorlds};
 ghost use Rattle.wc_archive.specs.Exports.{Exports, RefusesExport};
 ghost use Rattle.wc_archive.specs.Judged.{Imports, RefusesImport};
 
 /// The world after an import, written out: the archive's nodes, links, processes and library behind those that were there.
 pub fn imports_make_these_worlds()
     ensures { ImportsMakeTheseWorlds }
+{}
+
+/// An archive alone, written out.
+pub fn archives_are_these_worlds()
+    ensures { ArchivesAreTheseWorlds }
+{}
+
+/// The archive's world is part of the world after its import.
+pub fn archives_are_parts_of_imports()
+    ensures { ArchivesArePartsOfImports }
 {}

@@ -6,4 +6,6 @@
 
 mod laws;
 
-pub use laws::imports_make_these_worlds;
+pub use laws::{
+    archives_are_parts_of_imports, archives_are_these_worlds, imports_make_these_worlds,
+};

@@ -1,2 +1,4 @@
 pub mod Made
 pub mod Part
+pub mod Accepting
+pub mod Accepted

@@ -40,7 +40,7 @@ with_nodes library w ns = record {
   batches = w.batches;
 }
 
-append_nil : {T : Type 0} (xs : List T) → xs ++ [] ≡ xs
+pub append_nil : {T : Type 0} (xs : List T) → xs ++ [] ≡ xs
 append_nil [] = refl
 append_nil (x ∷ xs) = ap (λ (l : List _). x ∷ l) (append_nil xs)
 
@@ -141,7 +141,7 @@ later library at pid (node.Process p ∷ ns) lt =
     (ne_eqb at pid (λ e. absurd (omega (arith, lt, e)))) (later library (suc at) pid ns (omega arith))
 
 -- the process is set among the others
-one_set : (pid library : ℕ) (f : ProcessRecord → ProcessRecord) (front : List ProcessRecord) (r : ProcessRecord) (ns : List ArchiveNode) → r.node ≡ pid
+pub one_set : (pid library : ℕ) (f : ProcessRecord → ProcessRecord) (front : List ProcessRecord) (r : ProcessRecord) (ns : List ArchiveNode) → r.node ≡ pid
     → All (λ x. x.node < pid) front
     → at_process pid f (front ++ r ∷ made_from library (suc pid) ns) ≡ (front ++ f r ∷ []) ++ made_from library (suc pid) ns
 one_set pid library f front r ns is below =
@@ -179,7 +179,7 @@ module _ (w : World) (a : Archive) (low : All (λ r. r.node < suc (length w.node
   abbrev library : ℕ
   library = suc (length w.libraries)
 
-  abbrev with_library : World
+  abbrev pub with_library : World
   with_library = record { nodes = w.nodes; links = w.links; records = w.records; libraries = w.libraries ++ (a.library, []) ∷ []; batches = w.batches + 1 }
 
   pub import_makes : applied w (imported w a) ≡ with_archive w a

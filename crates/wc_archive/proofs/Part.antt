@@ -11,7 +11,7 @@ use Rattle.wc_graph.specs.declared.link.Link.{Link}
 use Rattle.wc_graph.specs.declared.node.NodeKind.{NodeKind}
 use Rattle.wc_state.specs.declared.record.ProcessKind.TheVariants as kind
 use Rattle.wc_state.specs.declared.record.ProcessRecord.{ProcessRecord}
-use Rattle.wc_world.specs.Applied.{applied}
+use Rattle.wc_world.specs.Applied.{applied, made}
 use Rattle.wc_world.specs.Consistent.{IsConsistent}
 use Rattle.wc_world.specs.Linked.{of_node}
 use Rattle.wc_world.specs.Records.{find_record, library_at}
@@ -28,10 +28,10 @@ use Rattle.wc_archive_file.specs.declared.archive.ArchiveNode.{ArchiveNode}
 use Rattle.wc_archive_file.specs.declared.archive.ArchiveNode.TheVariants as node
 use Rattle.wc_archive_file.specs.declared.archive.ArchiveProcess.{ArchiveProcess}
 use Rattle.wc_archive.specs.After.{ended_record, own_world, records_from, with_archive}
-use Rattle.wc_archive.specs.Alone.{alone, imported, raised}
+use Rattle.wc_archive.specs.Alone.{alone, imported, new_process, raised}
 use Rattle.wc_archive.specs.Good.{kind_of_node}
 use Rattle.wc_archive.specs.Laws.{ArchivesArePartsOfImports, ArchivesAreTheseWorlds}
-use Rattle.wc_archive.proofs.Made.{import_makes}
+use Rattle.wc_archive.proofs.Made.{import_makes, made_from}
 
 -- ---- alone
 
@@ -62,16 +62,16 @@ behind (x ∷ xs) ys p =
     let e : length (x ∷ xs) + p ≡ suc (length xs + p) = omega arith in
     ap (slice_get (x ∷ (xs ++ ys))) e ∙ behind xs ys p
 
-node_behind : (xs ys : List NodeKind) (id : ℕ) (n : NodeKind) → node_of ys id ≡ Some n → node_of (xs ++ ys) (length xs + id) ≡ Some n
+pub node_behind : (xs ys : List NodeKind) (id : ℕ) (n : NodeKind) → node_of ys id ≡ Some n → node_of (xs ++ ys) (length xs + id) ≡ Some n
 node_behind xs ys zero n h = absurd (cc h)
 node_behind xs ys (suc p) n h = let e : length xs + suc p ≡ suc (length xs + p) = omega arith in ap (node_of (xs ++ ys)) e ∙ behind xs ys p ∙ h
 
-library_behind : (xs : List Known) (k : Known) → library_at (xs ++ k ∷ []) (suc (length xs)) ≡ Some k.0
+pub library_behind : (xs : List Known) (k : Known) → library_at (xs ++ k ∷ []) (suc (length xs)) ≡ Some k.0
 library_behind xs k =
     let e : length xs ≡ length xs + 0 = omega arith in
     ap (option_map (λ x. x.0)) (ap (slice_get (xs ++ k ∷ [])) e ∙ behind xs (k ∷ []) 0)
 
-found_behind : (pid : ℕ) (rs more : List ProcessRecord) → All (λ r. r.node < pid) rs → find_record pid (rs ++ more) ≡ find_record pid more
+pub found_behind : (pid : ℕ) (rs more : List ProcessRecord) → All (λ r. r.node < pid) rs → find_record pid (rs ++ more) ≡ find_record pid more
 found_behind pid [] more h = refl
 found_behind pid (r ∷ rs) more h =
     let lt : r.node < pid = All-head (λ x. x.node < pid) r rs h in
@@ -86,8 +86,9 @@ pub record IsEndedRecord (batch library at pid : ℕ) (ns : List ArchiveNode) (r
   pub is : r ≡ ended_record batch library pid process
   pub from : at ≤ pid
   pub elsewhere : (b l base : ℕ) → find_record (base + pid) (records_from b l (base + at) ns) ≡ Some (ended_record b l (base + pid) process)
+  pub made : (l base : ℕ) → find_record (base + pid) (made_from l (base + at) ns) ≡ Some (made (base + pid) (new_process l process))
 
-same_shift : (base i j : ℕ) → ((base + i) == (base + j)) ≡ (i == j)
+pub same_shift : (base i j : ℕ) → ((base + i) == (base + j)) ≡ (i == j)
 same_shift base i j = same_number (raised base) (λ m n lt. omega (arith, lt)) i j
 
 pub its_record : (batch library at pid : ℕ) (ns : List ArchiveNode) (r : ProcessRecord) → find_record pid (records_from batch library at ns) ≡ Some r
@@ -101,6 +102,7 @@ its_record batch library at pid (node.Data v ∷ ns) r h =
       is = rest.is;
       from = omega (arith, le);
       elsewhere = λ b l base. let e : suc (base + at) ≡ base + suc at = omega arith in ap (λ (n : ℕ). find_record (base + pid) (records_from b l n ns)) e ∙ rest.elsewhere b l base;
+      made = λ l base. let e : suc (base + at) ≡ base + suc at = omega arith in ap (λ (n : ℕ). find_record (base + pid) (made_from l n ns)) e ∙ rest.made l base;
     }
 its_record batch library at pid (node.Process p ∷ ns) r h = by (at == pid) refl (its_record batch library (suc at) pid ns r) h
   where
@@ -117,6 +119,9 @@ its_record batch library at pid (node.Process p ∷ ns) r h = by (at == pid) ref
           elsewhere = λ b l base.
               ap (λ (c : Bool). if c then Some (ended_record b l (base + at) p) else find_record (base + pid) (records_from b l (suc (base + at)) ns)) (same_shift base at pid ∙ is)
               ∙ ap (λ (n : ℕ). Some (ended_record b l (base + n) p)) e;
+          made = λ l base.
+              ap (λ (c : Bool). if c then Some (made (base + at) (new_process l p)) else find_record (base + pid) (made_from l (suc (base + at)) ns)) (same_shift base at pid ∙ is)
+              ∙ ap (λ (n : ℕ). Some (made (base + n) (new_process l p))) e;
         }
     by false is rest h =
         let more = rest h in
@@ -130,6 +135,11 @@ its_record batch library at pid (node.Process p ∷ ns) r h = by (at == pid) ref
               ap (λ (c : Bool). if c then Some (ended_record b l (base + at) p) else find_record (base + pid) (records_from b l (suc (base + at)) ns)) (same_shift base at pid ∙ is)
               ∙ ap (λ (n : ℕ). find_record (base + pid) (records_from b l n ns)) e
               ∙ more.elsewhere b l base;
+          made = λ l base.
+              let e : suc (base + at) ≡ base + suc at = omega arith in
+              ap (λ (c : Bool). if c then Some (made (base + at) (new_process l p)) else find_record (base + pid) (made_from l (suc (base + at)) ns)) (same_shift base at pid ∙ is)
+              ∙ ap (λ (n : ℕ). find_record (base + pid) (made_from l n ns)) e
+              ∙ more.made l base;
         }
 
 -- ---- links

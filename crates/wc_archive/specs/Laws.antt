@@ -1,12 +1,16 @@
 -- Laws of imports.
-use Rattle.std.specs.Prelude.{◌≡◌, ℕ, length}
+use Rattle.std.specs.Prelude.{◌≡◌, ◌+◌, ℕ, length, map}
 use Rattle.wc_world.specs.World.{World}
+use Rattle.wc_world.specs.Accepted.{IsAccepted}
 use Rattle.wc_world.specs.Applied.{applied}
 use Rattle.wc_world.specs.Consistent.{IsConsistent}
+use Rattle.wc_machine.specs.Laws.{HasPlaces}
 use Rattle.wc_subworlds.specs.Parts.{IsPart}
+use Rattle.wc_archive_file.specs.Archives.{IsWritable}
 use Rattle.wc_archive_file.specs.declared.archive.Archive.{Archive}
 use Rattle.wc_archive.specs.After.{own_world, with_archive}
 use Rattle.wc_archive.specs.Alone.{alone, imported, raised}
+use Rattle.wc_archive.specs.Good.{AreGoodLinks, AreGoodProcesses, kind_of_node}
 
 -- An import makes this world, whatever the archive says, where the world before is consistent.
 abbrev pub ImportsMakeTheseWorlds : Type 0
@@ -20,3 +24,17 @@ ArchivesAreTheseWorlds = (a : Archive) → alone a ≡ own_world a
 -- were there.
 abbrev pub ArchivesArePartsOfImports : Type 0
 ArchivesArePartsOfImports = (w : World) (a : Archive) → IsConsistent w → IsConsistent (alone a) → IsPart (raised (length w.nodes)) (alone a) (applied w (imported w a))
+
+-- An archive that a file can hold, with good links and good processes.
+pub record IsGoodArchive (a : Archive) : Type 0 where
+  pub writable : IsWritable a
+  pub links : AreGoodLinks (map kind_of_node a.nodes) a.links
+  pub processes : AreGoodProcesses (alone a)
+
+-- A consistent world accepts the import of such an archive, where there is room for its nodes and for one batch more.
+abbrev pub ImportsAreAccepted : Type 0
+ImportsAreAccepted = (w : World) (a : Archive) → IsConsistent w → IsGoodArchive a → HasPlaces w (length w.nodes + length a.nodes) → IsAccepted w (imported w a)
+
+-- So such an archive is a consistent world by itself.
+abbrev pub GoodArchivesAreConsistent : Type 0
+GoodArchivesAreConsistent = (a : Archive) → IsGoodArchive a → IsConsistent (alone a)

@@ -1,5 +1,5 @@
 //! Laws of imports.
-ghost use Rattle.wc_archive.specs.Laws.{ArchivesArePartsOfImports, ArchivesAreTheseWorlds, ImportsMakeTheseWorlds};
+ghost use Rattle.wc_archive.specs.Laws.{ArchivesArePartsOfImports, ArchivesAreTheseWorlds, GoodArchivesAreConsistent, ImportsAreAccepted, ImportsMakeTheseWorlds};
 ghost use Rattle.wc_archive.specs.Exports.{Exports, RefusesExport};
 ghost use Rattle.wc_archive.specs.Judged.{Imports, RefusesImport};
 
@@ -16,4 +16,14 @@ pub fn archives_are_these_worlds()
 /// The archive's world is part of the world after its import.
 pub fn archives_are_parts_of_imports()
     ensures { ArchivesArePartsOfImports }
+{}
+
+/// A consistent world accepts the import of a good archive, where there is room for it.
+pub fn imports_are_accepted()
+    ensures { ImportsAreAccepted }
+{}
+
+/// A good archive is a consistent world by itself.
+pub fn good_archives_are_consistent()
+    ensures { GoodArchivesAreConsistent }
 {}

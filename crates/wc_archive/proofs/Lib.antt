@@ -2,3 +2,4 @@ pub mod Made
 pub mod Part
 pub mod Accepting
 pub mod Accepted
+pub mod Meant

@@ -129,7 +129,7 @@ module _ (a : Archive) (good : IsGoodArchive a) where
         All-cons (IsFitNode known number) (node.Process p) ns (one_fits pid p (All-head (IsGoodProcess u) r (records_from 1 1 (suc pid) ns) h))
         (fit_nodes (suc pid) ns (All-tail IsNode (node.Process p) ns written) (All-tail (IsGoodProcess u) r (records_from 1 1 (suc pid) ns) h))
 
-  over_nodes : (pid : ℕ) (ns : List ArchiveNode) → All (IsGoodProcess u) (records_from 1 1 pid ns) → All HasEndedNode ns
+  pub over_nodes : (pid : ℕ) (ns : List ArchiveNode) → All (IsGoodProcess u) (records_from 1 1 pid ns) → All HasEndedNode ns
   over_nodes pid [] h = All-nil HasEndedNode
   over_nodes pid (node.Data v ∷ ns) h = All-cons HasEndedNode (node.Data v) ns tt (over_nodes (suc pid) ns h)
   over_nodes pid (node.Process p ∷ ns) h =

@@ -3,3 +3,4 @@ pub mod Part
 pub mod Accepting
 pub mod Accepted
 pub mod Meant
+pub mod Lists

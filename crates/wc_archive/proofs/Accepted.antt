@@ -1,12 +1,10 @@
 -- So the import of a good archive is accepted, and an archive alone is consistent.
-use Rattle.std.proofs.Common.{◌≡◌, ℕ, zero, suc, ◌+◌, ◌<◌, ◌≤◌, ◌==◌, Bool, true, false, List, [], ◌∷◌, ◌++◌, length, map, get_or, Option, Some, None, refl, sym, ap, subst, ◌∙◌, arith, length-append}
-use Rattle.std.specs.Prelude.{All, IsSomeAnd, ◌&&◌, ◌||◌, if◌then◌else◌, nat_le, slice_get, option_and_then}
-use Rattle.std.specs.Str.{bytes_eq}
+use Rattle.std.proofs.Common.{◌≡◌, ℕ, zero, suc, ◌+◌, ◌<◌, ◌≤◌, ◌==◌, Bool, true, false, List, [], ◌∷◌, ◌++◌, length, map, get_or, Option, Some, None, refl, sym, ap, subst, ◌∙◌, arith}
+use Rattle.std.specs.Prelude.{All, IsSomeAnd, ◌||◌, if◌then◌else◌, nat_le, slice_get, option_and_then}
 use Rattle.std.proofs.lemmas.Bool.{and_from, eq-eqb, le-leb, ne_eqb}
 use Rattle.std.proofs.lemmas.Option.{slice_get-get_or}
 use Rattle.std.proofs.lemmas.List.Elements.{All-nil, All-cons, All-head, All-tail, All-append, All-map, All-weaker}
 use Rattle.wc_syntax.specs.Findings.{definition_named}
-use Rattle.wc_syntax.specs.declared.definition.Definition.{Definition}
 use Rattle.wc_graph.specs.Rules.{node_of, Enters, HasRightEnds, IsCall}
 use Rattle.wc_graph.specs.declared.link.Link.{Link}
 use Rattle.wc_graph.specs.declared.link.LinkType.{LinkType}
@@ -14,8 +12,8 @@ use Rattle.wc_graph.specs.declared.link.LinkType.TheVariants as link
 use Rattle.wc_graph.specs.declared.node.NodeKind.{NodeKind}
 use Rattle.wc_graph.specs.declared.node.NodeKind.TheVariants as kept
 use Rattle.wc_state.specs.declared.record.ProcessRecord.{ProcessRecord}
-use Rattle.wc_world.specs.Accepted.{Apply, IsAccepted, IsReached, Setting, nothing, setting}
-use Rattle.wc_world.specs.Applied.{applied, begun, changed, made}
+use Rattle.wc_world.specs.Accepted.{Apply, IsAccepted, Setting, nothing, setting}
+use Rattle.wc_world.specs.Applied.{begun, made}
 use Rattle.wc_world.specs.Consistent.{IsConsistent}
 use Rattle.wc_world.specs.Fits.{call_fits, is_call_between, is_of_kind, is_settled, new_fits, unsettled}
 use Rattle.wc_world.specs.Records.{calls, find_record, gives_output, has_ended, is_call_from, is_output_of}
@@ -25,22 +23,20 @@ use Rattle.wc_world.proofs.FoundRecords.{found_holds}
 use Rattle.wc_world.proofs.ReachedLists.{some_and}
 use Rattle.wc_world.proofs.ReachedWorlds.{accepted_is_consistent, reached_is_consistent}
 use Rattle.wc_machine.specs.Laws.{HasPlaces}
-use Rattle.wc_machine.specs.Recorded.{its_definition}
-use Rattle.wc_machine.specs.Sound.{is_call_to}
 use Rattle.wc_machine.proofs.AcceptedEnds.{settled_all}
 use Rattle.wc_machine.proofs.Frames.{and_false, records_below, settled_stays}
 use Rattle.wc_machine.proofs.SubmittedAccepted.{apply_append}
 use Rattle.wc_subworlds.specs.Parts.{placed}
 use Rattle.wc_subworlds.proofs.Parts.{its_number}
-use Rattle.wc_archive_file.specs.Archives.{IsNode, IsWritable}
+use Rattle.wc_archive_file.specs.Archives.{IsNode}
 use Rattle.wc_archive_file.specs.declared.archive.Archive.{Archive}
 use Rattle.wc_archive_file.specs.declared.archive.ArchiveNode.{ArchiveNode}
 use Rattle.wc_archive_file.specs.declared.archive.ArchiveNode.TheVariants as node
 use Rattle.wc_archive.specs.After.{ended_record, own_world, records_from, with_archive}
-use Rattle.wc_archive.specs.Alone.{alone, ends_from, imported, link_change, new_process, node_change, raised}
-use Rattle.wc_archive.specs.Good.{AreGoodLinks, AreGoodProcesses, IsGoodProcess, kind_of_node}
+use Rattle.wc_archive.specs.Alone.{ends_from, imported, link_change, new_process, node_change, raised}
+use Rattle.wc_archive.specs.Good.{AreGoodProcesses, IsGoodProcess, kind_of_node}
 use Rattle.wc_archive.specs.Laws.{GoodArchivesAreConsistent, ImportsAreAccepted, IsGoodArchive}
-use Rattle.wc_archive.proofs.Made.{append_nil, ends_added, import_makes, links_added, made_from, nodes_added, with_library, with_links, with_nodes}
+use Rattle.wc_archive.proofs.Made.{append_nil, import_makes, links_added, made_from, nodes_added, with_library, with_links, with_nodes}
 use Rattle.wc_archive.proofs.Part.{archives_are_these_worlds, found_behind, its_record, library_behind}
 use Rattle.wc_archive.proofs.Accepting.{HasEndedNode, IsFitNode, ends_apply, links_apply, nodes_apply, some_source}
 

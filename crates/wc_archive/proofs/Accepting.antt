@@ -1,14 +1,13 @@
 -- A consistent world accepts the import of a good archive.
-use Rattle.std.proofs.Common.{◌≡◌, ◌≢◌, ℕ, zero, suc, ◌+◌, ◌<◌, ◌≤◌, ◌==◌, Bool, true, false, List, [], ◌∷◌, ◌++◌, length, map, take, get_or, Option, Some, None, Any, refl, sym, ap, subst, ◌∙◌, arith, append_assoc, length-append}
-use Rattle.std.specs.Prelude.{All, IsSomeAnd, ◌&&◌, ◌||◌, if◌then◌else◌, nat_le, slice_get}
-use Rattle.std.proofs.lemmas.Bool.{and_from, eq-eqb, ne_eqb}
+use Rattle.std.proofs.Common.{◌≡◌, ℕ, zero, suc, ◌+◌, ◌<◌, ◌≤◌, Bool, true, List, [], ◌∷◌, ◌++◌, length, map, get_or, Option, Some, Any, refl, sym, ap, subst, ◌∙◌, arith, append_assoc, length-append}
+use Rattle.std.specs.Prelude.{All, IsSomeAnd, if◌then◌else◌, slice_get}
+use Rattle.std.proofs.lemmas.Bool.{and_from, eq-eqb}
 use Rattle.std.proofs.lemmas.List.{get_or_default, map-append}
-use Rattle.std.proofs.lemmas.List.Elements.{All-nil, All-cons, All-head, All-tail, All-push, All-append, All-map, All-weaker}
+use Rattle.std.proofs.lemmas.List.Elements.{All-head, All-tail, All-push, All-append, All-map, All-weaker}
 use Rattle.std.proofs.Math.Seq.{take-append_seam}
 use Rattle.wc_value.specs.Spelling.{depth}
 use Rattle.wc_value.specs.declared.process.ProcessState.{ProcessState}
 use Rattle.wc_value.specs.declared.process.ProcessState.TheVariants as state
-use Rattle.wc_value.specs.declared.value.Value.{Value}
 use Rattle.wc_graph.specs.Refusals.{IsAllowed}
 use Rattle.wc_graph.specs.Rules.{node_of, Enters, HasRightEnds, IsCall, Leaves, SharesCalled, SharesCreated, SharesTriple, TakesLabel, TakesTriple}
 use Rattle.wc_graph.specs.declared.link.Link.{Link}
@@ -18,29 +17,20 @@ use Rattle.wc_graph.specs.declared.node.NodeKind.{NodeKind}
 use Rattle.wc_state.specs.declared.record.Part.TheVariants as part
 use Rattle.wc_state.specs.declared.record.ProcessKind.{ProcessKind}
 use Rattle.wc_state.specs.declared.record.ProcessRecord.{ProcessRecord}
-use Rattle.wc_world.specs.Accepted.{Apply, IsAccepted, Setting, setting}
-use Rattle.wc_world.specs.Applied.{after_change, applied, begun, changed, made, set}
-use Rattle.wc_world.specs.Consistent.{IsConsistent}
-use Rattle.wc_world.specs.Fits.{call_fits, calls_from, has_output, is_of_kind, is_settled, new_fits, part_fits, unsettled}
-use Rattle.wc_world.specs.Records.{find_record, has_ended, is_call_from, is_output_of, definition_in}
+use Rattle.wc_world.specs.Accepted.{Apply, Setting}
+use Rattle.wc_world.specs.Applied.{after_change, made, set}
+use Rattle.wc_world.specs.Fits.{call_fits, new_fits, part_fits}
+use Rattle.wc_world.specs.Records.{find_record, has_ended}
 use Rattle.wc_world.specs.World.{Known, World}
-use Rattle.wc_world.specs.declared.change.Change.{Change}
 use Rattle.wc_world.specs.declared.change.Change.TheVariants as change
 use Rattle.wc_world.proofs.ReachedLists.{some_and}
-use Rattle.wc_machine.specs.Laws.{HasPlaces}
-use Rattle.wc_machine.proofs.AcceptedEnds.{settled_all}
-use Rattle.wc_machine.proofs.Frames.{and_false, node_number, records_below, settled_stays, source_is_node, target_is_node}
-use Rattle.wc_machine.proofs.SubmittedAccepted.{apply_append}
+use Rattle.wc_machine.proofs.Frames.{node_number, source_is_node, target_is_node}
 use Rattle.wc_subworlds.specs.Parts.{placed}
-use Rattle.wc_archive_file.specs.Archives.{IsNode}
-use Rattle.wc_archive_file.specs.declared.archive.Archive.{Archive}
 use Rattle.wc_archive_file.specs.declared.archive.ArchiveNode.{ArchiveNode}
 use Rattle.wc_archive_file.specs.declared.archive.ArchiveNode.TheVariants as node
-use Rattle.wc_archive_file.specs.declared.archive.ArchiveProcess.{ArchiveProcess}
-use Rattle.wc_archive.specs.After.{ended_record, own_world, records_from, with_archive}
-use Rattle.wc_archive.specs.Alone.{ended_process, ends_from, imported, link_change, new_process, node_change, raised}
+use Rattle.wc_archive.specs.Alone.{ended_process, ends_from, link_change, new_process, node_change, raised}
 use Rattle.wc_archive.specs.Good.{AreGoodLinks, IsGoodLink, kind_of_node}
-use Rattle.wc_archive.proofs.Made.{ends_added, import_makes, links_added, made_from, nodes_added, one_set, with_links, with_nodes}
+use Rattle.wc_archive.proofs.Made.{made_from, one_set}
 use Rattle.wc_archive.proofs.Part.{found_behind, node_behind}
 
 -- ---- nodes
@@ -108,7 +98,7 @@ module _ (nodes more : List NodeKind) where
       at zero e = absurd (cc e)
       at (suc n) e = omega arith
 
-  some_target : (l : Link) → HasRightEnds more l → 1 ≤ l.target
+  pub some_target : (l : Link) → HasRightEnds more l → 1 ≤ l.target
   some_target l h = at l.target (target_is_node more l h).1
     where
       at : (n : ℕ) → {k : NodeKind} → node_of more n ≡ Some k → 1 ≤ n

@@ -4,3 +4,6 @@ pub mod Accepting
 pub mod Accepted
 pub mod Meant
 pub mod Lists
+pub mod Origin
+pub mod Standing
+pub mod Sound

@@ -1,37 +1,34 @@
 -- The lists of the world after an import are as a sound world asks.
-use Rattle.std.proofs.Common.{◌≡◌, ◌≢◌, ℕ, zero, suc, ◌+◌, ◌<◌, ◌≤◌, ◌==◌, Bool, true, false, not, List, [], ◌∷◌, ◌++◌, length, map, get_or, Option, Some, None, ◌⊎◌, inl, inr, refl, sym, ap, subst, ◌∙◌, arith, length-append}
+use Rattle.std.proofs.Common.{◌≡◌, ◌≢◌, ℕ, suc, ◌+◌, ◌<◌, ◌≤◌, ◌==◌, Bool, true, false, not, List, [], ◌∷◌, ◌++◌, length, map, get_or, Some, ◌⊎◌, inl, inr, refl, ap, ◌∙◌, arith, length-append}
 use Rattle.std.specs.Prelude.{All, ◌&&◌, ◌||◌, if◌then◌else◌, slice_get}
 use Rattle.std.specs.List.{list_all, list_any}
 use Rattle.std.proofs.lemmas.Bool.{cases_eq, eqb-true, ne_eqb}
 use Rattle.std.proofs.lemmas.Option.{slice_get-get_or}
-use Rattle.std.proofs.lemmas.List.Elements.{All-nil, All-cons, All-head, All-tail, All-push, All-append, All-map, All-weaker}
+use Rattle.std.proofs.lemmas.List.Elements.{All-head, All-tail, All-push, All-append, All-map}
 use Rattle.std.proofs.lemmas.List.Folds.{list_any-append}
 use Rattle.wc_graph.specs.Rules.{HasRightEnds}
 use Rattle.wc_graph.specs.declared.link.Link.{Link}
-use Rattle.wc_graph.specs.declared.link.LinkType.{LinkType}
 use Rattle.wc_graph.specs.declared.link.LinkType.TheVariants.{Create}
 use Rattle.wc_graph.specs.declared.node.NodeKind.{NodeKind}
 use Rattle.wc_state.specs.declared.record.Await.{Await}
-use Rattle.wc_state.specs.declared.record.Checkpoint.{Checkpoint}
 use Rattle.wc_state.specs.declared.record.Part.{Part}
 use Rattle.wc_state.specs.declared.record.Part.TheVariants as part
 use Rattle.wc_state.specs.declared.record.ProcessRecord.{ProcessRecord}
 use Rattle.wc_world.specs.Consistent.{IsConsistent, Stands}
-use Rattle.wc_world.specs.Fits.{checkpoint_fits, frame_fits, is_nil, outline_lengths, standing_fits}
-use Rattle.wc_world.specs.Records.{find_record, has_called, has_ended, is_call_from}
-use Rattle.wc_world.specs.World.{Known, World}
+use Rattle.wc_world.specs.Fits.{is_nil, standing_fits}
+use Rattle.wc_world.specs.Records.{has_called, has_ended, is_call_from}
+use Rattle.wc_world.specs.World.{World}
 use Rattle.wc_world.proofs.FoundRecords.{left, right}
-use Rattle.wc_machine.specs.Recorded.{its_definition}
 use Rattle.wc_machine.specs.Rest.{is_awaited}
-use Rattle.wc_machine.specs.Sound.{GoesUp, IsSound, fuel_in, is_awaited_in, is_provenance}
+use Rattle.wc_machine.specs.Sound.{GoesUp, IsSound, fuel_in, is_awaited_in}
 use Rattle.wc_machine.specs.Submissions.{IsKeptLibrary}
-use Rattle.wc_machine.proofs.Frames.{node_number, target_is_node, records_below}
+use Rattle.wc_machine.proofs.Frames.{node_number, target_is_node}
 use Rattle.wc_soundness.specs.Touches.{HasSoundLists}
 use Rattle.wc_subworlds.specs.Parts.{placed}
 use Rattle.wc_archive_file.specs.declared.archive.Archive.{Archive}
 use Rattle.wc_archive_file.specs.declared.archive.ArchiveNode.{ArchiveNode}
 use Rattle.wc_archive_file.specs.declared.archive.ArchiveNode.TheVariants as node
-use Rattle.wc_archive.specs.After.{ended_record, own_world, records_from, with_archive}
+use Rattle.wc_archive.specs.After.{records_from, with_archive}
 use Rattle.wc_archive.specs.Alone.{raised}
 use Rattle.wc_archive.specs.Good.{kind_of_node}
 use Rattle.wc_archive.specs.Laws.{IsGoodArchive}

@@ -1,17 +1,15 @@
 -- The world that an import makes.
-use Rattle.std.proofs.Common.{◌≡◌, ℕ, suc, ◌+◌, ◌<◌, ◌==◌, Bool, true, false, List, [], ◌∷◌, ◌++◌, length, map, refl, sym, ap, subst, ◌∙◌, arith, append_assoc, length-append}
+use Rattle.std.proofs.Common.{◌≡◌, ℕ, suc, ◌+◌, ◌<◌, ◌==◌, true, false, List, [], ◌∷◌, ◌++◌, length, map, refl, sym, ap, ◌∙◌, arith, append_assoc, length-append}
 use Rattle.std.specs.Prelude.{All, if◌then◌else◌}
 use Rattle.std.proofs.lemmas.Bool.{eq-eqb, ne_eqb}
 use Rattle.std.proofs.lemmas.List.Elements.{All-nil, All-cons, All-head, All-tail, All-push, All-weaker}
 use Rattle.wc_graph.specs.declared.link.Link.{Link}
 use Rattle.wc_graph.specs.declared.node.NodeKind.{NodeKind}
 use Rattle.wc_state.specs.declared.record.ProcessRecord.{ProcessRecord}
-use Rattle.wc_world.specs.Applied.{applied, begun, changed, made, set}
-use Rattle.wc_world.specs.Consistent.{IsConsistent}
+use Rattle.wc_world.specs.Applied.{applied, changed, made, set}
 use Rattle.wc_world.specs.Records.{at_process}
 use Rattle.wc_world.specs.World.{Known, World}
 use Rattle.wc_world.specs.declared.change.Change.{Change}
-use Rattle.wc_world.specs.declared.change.Change.TheVariants as change
 use Rattle.wc_world.proofs.After.{changed_append}
 use Rattle.wc_machine.proofs.Frames.{records_below}
 use Rattle.wc_subworlds.specs.Parts.{placed}

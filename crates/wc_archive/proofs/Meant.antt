@@ -1,13 +1,12 @@
 -- The ended processes of an archive are meant: its work chains by their replays, its calculations by what is given for them.
-use Rattle.std.proofs.Common.{◌≡◌, ◌≢◌, ℕ, zero, suc, ◌==◌, ℤ, Bool, true, false, List, [], ◌∷◌, map, Option, Some, None, ◌⊎◌, inl, inr, refl, sym, ap, subst, ◌∙◌}
+use Rattle.std.proofs.Common.{◌≡◌, ◌≢◌, ℕ, ◌==◌, ℤ, Bool, true, false, List, [], ◌∷◌, map, Option, Some, None, ◌⊎◌, inl, inr, refl, sym, ap, subst, ◌∙◌}
 use Rattle.std.specs.Prelude.{All, if◌then◌else◌, option_map, option_and_then}
 use Rattle.std.proofs.lemmas.Bool.{eqb-true}
 use Rattle.wc_value.specs.declared.process.JobResult.{JobResult}
 use Rattle.wc_value.specs.declared.process.ProcessState.{ProcessState}
 use Rattle.wc_value.specs.declared.process.ProcessState.TheVariants as state
 use Rattle.wc_value.specs.declared.process.Request.{Request}
-use Rattle.wc_value.specs.declared.process.Tree.{Tree, roll-Tree}
-use Rattle.wc_value.specs.declared.value.Value.{Value}
+use Rattle.wc_value.specs.declared.process.Tree.{roll-Tree}
 use Rattle.wc_syntax.specs.Findings.{definition_named}
 use Rattle.wc_syntax.specs.declared.definition.Definition.{Definition}
 use Rattle.wc_expression.specs.declared.outcome.Outcome.{Outcome}
@@ -32,10 +31,9 @@ use Rattle.wc_machine.specs.Created as created
 use Rattle.wc_machine.specs.Paths.{cut_after, kills}
 use Rattle.wc_machine.specs.Recorded.{its_definition, recorded_inputs, recorded_outputs, recorded_request, retrieved_folder, HasResult}
 use Rattle.wc_machine.specs.Recorded as recorded
-use Rattle.wc_machine.specs.Rest.{levels_of, meant}
-use Rattle.wc_machine.specs.Results.{asks, by_code, by_kind, by_origin, by_record, request_at, result_of, result_within, rows_among, rows_of, with_folder, HasResultsByRequest}
-use Rattle.wc_machine.specs.Sound.{IsMeant, IsPlaced}
-use Rattle.wc_machine.specs.Submissions.{IsKeptLibrary}
+use Rattle.wc_machine.specs.Rest.{levels_of}
+use Rattle.wc_machine.specs.Results.{asks, by_code, by_kind, by_origin, by_record, request_at, result_of, result_within, rows_among, with_folder, HasResultsByRequest}
+use Rattle.wc_machine.specs.Sound.{IsMeant}
 use Rattle.wc_machine.proofs.Frames.{calls_before}
 use Rattle.wc_machine.proofs.Requests.{request_same, request_itself}
 use Rattle.wc_soundness.proofs.Calculations.{calls_nothing, leaf_recorded}

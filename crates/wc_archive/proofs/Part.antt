@@ -1,6 +1,6 @@
 -- An archive's own world is part of the world after its import.
-use Rattle.std.proofs.Common.{◌≡◌, ℕ, zero, suc, ◌+◌, ◌<◌, ◌≤◌, ◌==◌, ℤ, Bool, true, false, List, [], ◌∷◌, ◌++◌, length, map, get_or, Option, Some, None, refl, sym, ap, subst, ◌∙◌, arith, length-append}
-use Rattle.std.specs.Prelude.{All, codes, ◌↔◌, if◌then◌else◌, slice_get, option_map, option_and_then}
+use Rattle.std.proofs.Common.{◌≡◌, ℕ, zero, suc, ◌+◌, ◌<◌, ◌≤◌, ◌==◌, Bool, true, false, List, [], ◌∷◌, ◌++◌, length, map, Some, None, refl, sym, ap, subst, ◌∙◌, arith}
+use Rattle.std.specs.Prelude.{All, codes, if◌then◌else◌, slice_get, option_map, option_and_then}
 use Rattle.std.proofs.lemmas.Bool.{eqb-true, ne_eqb}
 use Rattle.std.proofs.lemmas.List.Elements.{All-nil, All-head, All-tail, All-weaker}
 use Rattle.wc_value.specs.Ascending.{lookup}
@@ -9,7 +9,6 @@ use Rattle.wc_graph.specs.Index.{source_of, target_of}
 use Rattle.wc_graph.specs.Rules.{node_of, HasRightEnds}
 use Rattle.wc_graph.specs.declared.link.Link.{Link}
 use Rattle.wc_graph.specs.declared.node.NodeKind.{NodeKind}
-use Rattle.wc_state.specs.declared.record.ProcessKind.TheVariants as kind
 use Rattle.wc_state.specs.declared.record.ProcessRecord.{ProcessRecord}
 use Rattle.wc_world.specs.Applied.{applied, made}
 use Rattle.wc_world.specs.Consistent.{IsConsistent}
@@ -181,20 +180,20 @@ module _ (w : World) (a : Archive) (c : IsConsistent w) (ends : All (HasRightEnd
   abbrev place : ℕ → ℕ
   place = raised n
 
-  rises : Rises place
+  pub rises : Rises place
   rises i j lt = omega (arith, lt)
 
-  nodes_there : (id : ℕ) (k : NodeKind) → node_of u.nodes id ≡ Some k → node_of v.nodes (place id) ≡ Some k
+  pub nodes_there : (id : ℕ) (k : NodeKind) → node_of u.nodes id ≡ Some k → node_of v.nodes (place id) ≡ Some k
   nodes_there id k h = node_behind w.nodes (map kind_of_node a.nodes) id k h
 
-  leaving : (pid : ℕ) → 1 ≤ pid → of_node source_of (place pid) v.links ≡ map (placed place) (of_node source_of pid u.links)
+  pub leaving : (pid : ℕ) → 1 ≤ pid → of_node source_of (place pid) v.links ≡ map (placed place) (of_node source_of pid u.links)
   leaving pid some =
       links_behind source_of n pid w.links a.links (λ l. refl)
       (All-weaker (HasRightEnds w.nodes) (λ l. (source_of l == (n + pid)) ≡ false)
       (λ l right. let le : l.source ≤ n = node_number w.nodes l.source (source_is_node w.nodes l right) in ne_eqb l.source (n + pid) (λ e. absurd (omega (arith, le, e, some))))
       w.links c.links.ends)
 
-  entering : (pid : ℕ) → 1 ≤ pid → of_node target_of (place pid) v.links ≡ map (placed place) (of_node target_of pid u.links)
+  pub entering : (pid : ℕ) → 1 ≤ pid → of_node target_of (place pid) v.links ≡ map (placed place) (of_node target_of pid u.links)
   entering pid some =
       links_behind target_of n pid w.links a.links (λ l. refl)
       (All-weaker (HasRightEnds w.nodes) (λ l. (target_of l == (n + pid)) ≡ false)
@@ -204,15 +203,15 @@ module _ (w : World) (a : Archive) (c : IsConsistent w) (ends : All (HasRightEnd
   outputs_there : (pid : ℕ) → 1 ≤ pid → recorded_outputs u pid ≡ recorded_outputs v (place pid)
   outputs_there pid some = outputs_along place rises pid u.links v.links u.nodes v.nodes nodes_there ends (leaving pid some)
 
-  folder_there : (pid : ℕ) → 1 ≤ pid → retrieved_folder u pid ≡ retrieved_folder v (place pid)
+  pub folder_there : (pid : ℕ) → 1 ≤ pid → retrieved_folder u pid ≡ retrieved_folder v (place pid)
   folder_there pid some = ap (λ os. option_and_then folder_of (lookup (codes "retrieved") os)) (outputs_there pid some)
 
   -- ---- records
 
-  abbrev new_record : ℕ → ArchiveProcess → ProcessRecord
+  abbrev pub new_record : ℕ → ArchiveProcess → ProcessRecord
   new_record pid p = ended_record (w.batches + 1) (suc (length w.libraries)) (place pid) p
 
-  found_there : (pid : ℕ) (r : ProcessRecord) (h : find_record pid u.records ≡ Some r) → find_record (place pid) v.records ≡ Some (new_record pid (its_record 1 1 1 pid a.nodes r h).process)
+  pub found_there : (pid : ℕ) (r : ProcessRecord) (h : find_record pid u.records ≡ Some r) → find_record (place pid) v.records ≡ Some (new_record pid (its_record 1 1 1 pid a.nodes r h).process)
   found_there pid r h =
       let e = its_record 1 1 1 pid a.nodes r h in
       let some : 1 ≤ pid = e.from in

@@ -1,5 +1,5 @@
 -- What an archive of a root has of a world: the root, all that it called through calls, and the data linked with these.
-use Rattle.std.specs.Prelude.{ℕ, zero, suc, ◌==◌, Bool, true, false, ◌&&◌, ◌||◌, if◌then◌else◌, List, [], ◌∷◌, length, map, filter, Option, Some, None, option_map, option_and_then}
+use Rattle.std.specs.Prelude.{ℕ, zero, suc, ◌==◌, Bool, ◌&&◌, ◌||◌, if◌then◌else◌, List, [], ◌∷◌, length, map, filter, Option, Some, option_map, option_and_then}
 use Rattle.std.specs.List.{list_any, filter_map}
 use Rattle.wc_graph.specs.Rules.{node_of}
 use Rattle.wc_graph.specs.declared.link.Link.{Link}
@@ -8,7 +8,7 @@ use Rattle.wc_graph.specs.declared.node.NodeKind.TheVariants as kept
 use Rattle.wc_state.specs.declared.record.ProcessRecord.{ProcessRecord}
 use Rattle.wc_syntax.specs.declared.definition.Definition.{Definition}
 use Rattle.wc_world.specs.World.{World}
-use Rattle.wc_world.specs.Records.{find_record, is_call_from, library_at, takes_input}
+use Rattle.wc_world.specs.Records.{find_record, is_call_from, takes_input}
 use Rattle.wc_machine.specs.Results.{result_of}
 use Rattle.wc_archive_file.specs.declared.archive.Archive.{Archive}
 use Rattle.wc_archive_file.specs.declared.archive.ArchiveNode.{ArchiveNode}

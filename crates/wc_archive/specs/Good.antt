@@ -1,5 +1,5 @@
 -- When the links, nodes and processes of an archive are good.
-use Rattle.std.specs.Prelude.{◌≡◌, ◌≢◌, ◌⊎◌, ℕ, ◌<◌, ◌≤◌, true, List, [], take, map, All, Option, Some, None, slice_get}
+use Rattle.std.specs.Prelude.{◌≡◌, ◌≢◌, ◌⊎◌, ℕ, ◌<◌, ◌≤◌, true, List, [], take, map, All, Some, slice_get}
 use Rattle.wc_graph.specs.Refusals.{IsAllowed}
 use Rattle.wc_graph.specs.declared.link.Link.{Link}
 use Rattle.wc_graph.specs.declared.node.NodeKind.{NodeKind}

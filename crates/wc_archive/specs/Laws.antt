@@ -1,16 +1,22 @@
 -- Laws of imports.
-use Rattle.std.specs.Prelude.{◌≡◌, ◌+◌, ℕ, length, map}
+use Rattle.std.specs.Prelude.{◌≡◌, ◌+◌, ◌≤◌, ℕ, Some, length, map}
+use Rattle.wc_state.specs.declared.record.ProcessRecord.{ProcessRecord}
 use Rattle.wc_world.specs.World.{World}
 use Rattle.wc_world.specs.Accepted.{IsAccepted}
 use Rattle.wc_world.specs.Applied.{applied}
 use Rattle.wc_world.specs.Consistent.{IsConsistent}
+use Rattle.wc_world.specs.Records.{find_record}
+use Rattle.wc_world.specs.Trees.{recorded_tree}
+use Rattle.wc_machine.specs.Continues.{Continues}
 use Rattle.wc_machine.specs.Laws.{HasPlaces}
+use Rattle.wc_machine.specs.Sound.{IsSound}
 use Rattle.wc_subworlds.specs.Parts.{IsPart}
 use Rattle.wc_archive_file.specs.Archives.{IsWritable}
 use Rattle.wc_archive_file.specs.declared.archive.Archive.{Archive}
 use Rattle.wc_archive.specs.After.{own_world, with_archive}
 use Rattle.wc_archive.specs.Alone.{alone, imported, raised}
 use Rattle.wc_archive.specs.Good.{AreGoodLinks, AreGoodProcesses, kind_of_node}
+use Rattle.wc_archive.specs.Judged.{IsImportable}
 
 -- An import makes this world, whatever the archive says, where the world before is consistent.
 abbrev pub ImportsMakeTheseWorlds : Type 0
@@ -38,3 +44,16 @@ ImportsAreAccepted = (w : World) (a : Archive) → IsConsistent w → IsGoodArch
 -- So such an archive is a consistent world by itself.
 abbrev pub GoodArchivesAreConsistent : Type 0
 GoodArchivesAreConsistent = (a : Archive) → IsGoodArchive a → IsConsistent (alone a)
+
+-- The world accepts the import; the world after it continues the one before, and is sound; and each process of the archive has the tree there that the
+-- archive records of it, so the new root has the archive's.
+pub record KeepsSoundWith (w : World) (a : Archive) : Type 0 where
+  pub accepted : IsAccepted w (imported w a)
+  pub continues : Continues w (applied w (imported w a))
+  pub sound : IsSound (applied w (imported w a))
+  pub trees : (r : ProcessRecord) → find_record r.node (alone a).records ≡ Some r
+      → recorded_tree (applied w (imported w a)) (raised (length w.nodes) r.node) ≡ recorded_tree (alone a) r.node
+
+-- So an import of an archive that passes all that is asked keeps a sound world sound, where a world may have at most so many nodes.
+abbrev pub ImportsKeepSound : Type 0
+ImportsKeepSound = (w : World) (most : ℕ) (a : Archive) → most ≤ 8000000 → IsSound w → IsWritable a → IsImportable w most a → KeepsSoundWith w a

@@ -1,5 +1,5 @@
 //! Laws of imports.
-ghost use Rattle.wc_archive.specs.Laws.{ArchivesArePartsOfImports, ArchivesAreTheseWorlds, GoodArchivesAreConsistent, ImportsAreAccepted, ImportsMakeTheseWorlds};
+ghost use Rattle.wc_archive.specs.Laws.{ArchivesArePartsOfImports, ArchivesAreTheseWorlds, GoodArchivesAreConsistent, ImportsAreAccepted, ImportsKeepSound, ImportsMakeTheseWorlds};
 ghost use Rattle.wc_archive.specs.Exports.{Exports, RefusesExport};
 ghost use Rattle.wc_archive.specs.Judged.{Imports, RefusesImport};
 
@@ -26,4 +26,9 @@ pub fn imports_are_accepted()
 /// A good archive is a consistent world by itself.
 pub fn good_archives_are_consistent()
     ensures { GoodArchivesAreConsistent }
+{}
+
+/// The import of an archive that passes all that is asked keeps a sound world sound, continues it, and brings the archive's trees.
+pub fn imports_keep_sound()
+    ensures { ImportsKeepSound }
 {}

@@ -7,3 +7,4 @@ pub mod Lists
 pub mod Origin
 pub mod Standing
 pub mod Sound
+pub mod SmallWorlds

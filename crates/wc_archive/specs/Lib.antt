@@ -5,3 +5,4 @@ pub mod Judged
 pub mod Exports
 pub mod After
 pub mod Laws
+pub mod SmallWorlds

@@ -1,5 +1,6 @@
 //! Laws of imports.
 ghost use Rattle.wc_archive.specs.Laws.{ArchivesArePartsOfImports, ArchivesAreTheseWorlds, GoodArchivesAreConsistent, ImportsAreAccepted, ImportsKeepSound, ImportsMakeTheseWorlds};
+ghost use Rattle.wc_archive.specs.SmallWorlds.{SumsAreArchived};
 ghost use Rattle.wc_archive.specs.Exports.{Exports, RefusesExport};
 ghost use Rattle.wc_archive.specs.Judged.{Imports, RefusesImport};
 
@@ -31,4 +32,9 @@ pub fn good_archives_are_consistent()
 /// The import of an archive that passes all that is asked keeps a sound world sound, continues it, and brings the archive's trees.
 pub fn imports_keep_sound()
     ensures { ImportsKeepSound }
+{}
+
+/// The archive of a function that adds, in a world with another beside it.
+pub fn sums_are_archived()
+    ensures { SumsAreArchived }
 {}

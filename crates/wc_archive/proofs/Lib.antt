@@ -8,3 +8,4 @@ pub mod Origin
 pub mod Standing
 pub mod Sound
 pub mod SmallWorlds
+pub mod Tables

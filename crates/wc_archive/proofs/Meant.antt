@@ -107,7 +107,7 @@ at_number : (w : World) (r : ProcessRecord) (q : Request) → find_record r.node
 at_number w r q found asked = ap (option_and_then (recorded_request w)) found ∙ asked
 
 -- a process without a source has the result that is found
-own_found : (w : World) → All (λ r. r.cached_from ≡ None) w.records → (pid : ℕ) (x : JobResult) → HasResult w pid x → result_of w pid ≡ Some x
+pub own_found : (w : World) → All (λ r. r.cached_from ≡ None) w.records → (pid : ℕ) (x : JobResult) → HasResult w pid x → result_of w pid ≡ Some x
 unfolding result_of
 own_found w bare pid x (recorded.own r code files found is_job c folder) =
     ap (λ (o : Option ProcessRecord). by_origin (result_within w.batches w) (by_record w o)) found

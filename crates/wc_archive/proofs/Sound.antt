@@ -46,7 +46,7 @@ use Rattle.wc_archive.proofs.Standing.{came, came_over, came_sound}
 
 -- ---- the archive's own world has no sources
 
-no_sources : (batch library at : ℕ) (ns : List ArchiveNode) → All (λ r. r.cached_from ≡ None) (records_from batch library at ns)
+pub no_sources : (batch library at : ℕ) (ns : List ArchiveNode) → All (λ r. r.cached_from ≡ None) (records_from batch library at ns)
 no_sources batch library at [] = All-nil (λ r. r.cached_from ≡ None)
 no_sources batch library at (node.Data v ∷ ns) = no_sources batch library (suc at) ns
 no_sources batch library at (node.Process p ∷ ns) =

@@ -1,5 +1,6 @@
 -- Laws of imports.
 use Rattle.std.specs.Prelude.{◌≡◌, ◌+◌, ◌≤◌, ℕ, Some, length, map}
+use Rattle.wc_semantics.specs.Tables.{Table}
 use Rattle.wc_state.specs.declared.record.ProcessRecord.{ProcessRecord}
 use Rattle.wc_world.specs.World.{World}
 use Rattle.wc_world.specs.Accepted.{IsAccepted}
@@ -7,6 +8,7 @@ use Rattle.wc_world.specs.Applied.{applied}
 use Rattle.wc_world.specs.Consistent.{IsConsistent}
 use Rattle.wc_world.specs.Records.{find_record}
 use Rattle.wc_world.specs.Trees.{recorded_tree}
+use Rattle.wc_machine.specs.Agreement.{AgreesWithWorld}
 use Rattle.wc_machine.specs.Continues.{Continues}
 use Rattle.wc_machine.specs.Laws.{HasPlaces}
 use Rattle.wc_machine.specs.Sound.{IsSound}
@@ -57,3 +59,8 @@ pub record KeepsSoundWith (w : World) (a : Archive) : Type 0 where
 -- So an import of an archive that passes all that is asked keeps a sound world sound, where a world may have at most so many nodes.
 abbrev pub ImportsKeepSound : Type 0
 ImportsKeepSound = (w : World) (most : ℕ) (a : Archive) → most ≤ 8000000 → IsSound w → IsWritable a → IsImportable w most a → KeepsSoundWith w a
+
+-- Where some table agrees with the world before, some table agrees with the world after such an import.
+abbrev pub ImportsKeepTables : Type 0
+ImportsKeepTables = (w : World) (most : ℕ) (a : Archive) → most ≤ 8000000 → IsSound w → IsWritable a → IsImportable w most a → ((table : Table) × AgreesWithWorld table w)
+    → (table : Table) × AgreesWithWorld table (applied w (imported w a))

@@ -1,5 +1,5 @@
 //! Laws of imports.
-ghost use Rattle.wc_archive.specs.Laws.{ArchivesArePartsOfImports, ArchivesAreTheseWorlds, GoodArchivesAreConsistent, ImportsAreAccepted, ImportsKeepSound, ImportsMakeTheseWorlds};
+ghost use Rattle.wc_archive.specs.Laws.{ArchivesArePartsOfImports, ArchivesAreTheseWorlds, GoodArchivesAreConsistent, ImportsAreAccepted, ImportsKeepSound, ImportsKeepTables, ImportsMakeTheseWorlds};
 ghost use Rattle.wc_archive.specs.SmallWorlds.{SumsAreArchived};
 ghost use Rattle.wc_archive.specs.Exports.{Exports, RefusesExport};
 ghost use Rattle.wc_archive.specs.Judged.{Imports, RefusesImport};
@@ -37,4 +37,9 @@ pub fn imports_keep_sound()
 /// The archive of a function that adds, in a world with another beside it.
 pub fn sums_are_archived()
     ensures { SumsAreArchived }
+{}
+
+/// Where some table agrees with a sound world, some table agrees with the world after the import of an archive that passes all that is asked.
+pub fn imports_keep_tables()
+    ensures { ImportsKeepTables }
 {}

@@ -8,5 +8,6 @@ mod laws;
 
 pub use laws::{
     archives_are_parts_of_imports, archives_are_these_worlds, good_archives_are_consistent,
-    imports_are_accepted, imports_keep_sound, imports_make_these_worlds, sums_are_archived,
+    imports_are_accepted, imports_keep_sound, imports_keep_tables, imports_make_these_worlds,
+    sums_are_archived,
 };

@@ -9,3 +9,4 @@ pub mod Standing
 pub mod Sound
 pub mod SmallWorlds
 pub mod Tables
+pub mod OneRefusal

@@ -1,5 +1,5 @@
 -- The archive of a small world.
-use Rattle.std.proofs.Common.{◌≡◌, refl}
+use Rattle.std.proofs.Common.{refl}
 use Rattle.wc_machine.specs.Results.{result_of}
 use Rattle.wc_archive.specs.SmallWorlds.{SumsAreArchived}
 

@@ -1,5 +1,5 @@
 -- Where no result is in conflict with another, some table agrees with the world after an import.
-use Rattle.std.proofs.Common.{◌≡◌, ◌≢◌, ℕ, suc, ◌+◌, ◌<◌, ◌≤◌, ◌==◌, ℤ, Bool, true, false, List, [], ◌∷◌, ◌++◌, length, map, Option, Some, None, ◌⊎◌, inl, inr, refl, sym, ap, subst, ◌∙◌, arith}
+use Rattle.std.proofs.Common.{◌≡◌, ◌≢◌, ℕ, suc, ◌+◌, ◌<◌, ◌≤◌, ◌==◌, ℤ, Bool, true, false, List, [], ◌∷◌, length, map, Option, Some, None, ◌⊎◌, inl, inr, refl, sym, ap, subst, ◌∙◌, arith}
 use Rattle.std.specs.Prelude.{All, codes, option_and_then}
 use Rattle.std.specs.Ordering.{int_eq}
 use Rattle.std.specs.Str.{bytes_eq}
@@ -14,8 +14,6 @@ use Rattle.wc_syntax.specs.Findings.{definition_named}
 use Rattle.wc_syntax.specs.declared.definition.Definition.{Definition}
 use Rattle.wc_expression.specs.declared.outcome.Outcome.TheVariants.{Gives}
 use Rattle.wc_graph.specs.Rules.{HasRightEnds}
-use Rattle.wc_graph.specs.declared.link.Link.{Link}
-use Rattle.wc_semantics.specs.Tables.{Table}
 use Rattle.wc_state.specs.declared.record.ProcessRecord.{ProcessRecord}
 use Rattle.wc_world.specs.Applied.{applied}
 use Rattle.wc_world.specs.Consistent.{IsConsistent, Stands, is_earlier_source, source_stands}
@@ -24,17 +22,16 @@ use Rattle.wc_world.specs.Records.{find_record, gives_output, is_output_of, libr
 use Rattle.wc_world.specs.Trees.{values_alone}
 use Rattle.wc_world.specs.World.{World}
 use Rattle.wc_world.proofs.FoundRecords.{found_holds, right}
-use Rattle.wc_machine.specs.Agreement.{AgreesWithWorld}
 use Rattle.wc_machine.specs.Continues.{Continues}
 use Rattle.wc_machine.specs.Recorded.{folder_of, its_definition, recorded_inputs, recorded_outputs, recorded_request, request_by, retrieved_folder, HasResult}
 use Rattle.wc_machine.specs.Recorded as recorded
-use Rattle.wc_machine.specs.Results.{result_of, HasResultsByRequest}
+use Rattle.wc_machine.specs.Results.{HasResultsByRequest}
 use Rattle.wc_machine.specs.Sound.{IsSound}
 use Rattle.wc_machine.proofs.Frames.{and_false, find_before, library_stays, outputs_stay, records_below}
 use Rattle.wc_soundness.proofs.FoundResults.{result_is_found}
 use Rattle.wc_soundness.proofs.PlainTables.{plain_tables_exactly}
 use Rattle.wc_soundness.proofs.WellKept.{well_kept}
-use Rattle.wc_subworlds.specs.Parts.{IsPart, TellTheSame, placed}
+use Rattle.wc_subworlds.specs.Parts.{IsPart, placed}
 use Rattle.wc_subworlds.proofs.Parts.{its_number}
 use Rattle.wc_subworlds.proofs.Same.{parts_tell_the_same}
 use Rattle.wc_archive_file.specs.declared.archive.Archive.{Archive}

@@ -15,10 +15,11 @@ use Rattle.wc_machine.specs.Sound.{IsSound}
 use Rattle.wc_subworlds.specs.Parts.{IsPart}
 use Rattle.wc_archive_file.specs.Archives.{IsWritable}
 use Rattle.wc_archive_file.specs.declared.archive.Archive.{Archive}
+use Rattle.wc_archive_file.specs.declared.error.ArchiveError.{ArchiveError}
 use Rattle.wc_archive.specs.After.{own_world, with_archive}
 use Rattle.wc_archive.specs.Alone.{alone, imported, raised}
 use Rattle.wc_archive.specs.Good.{AreGoodLinks, AreGoodProcesses, kind_of_node}
-use Rattle.wc_archive.specs.Judged.{IsImportable}
+use Rattle.wc_archive.specs.Judged.{IsFirstRefusal, IsImportable, questions}
 
 -- An import makes this world, whatever the archive says, where the world before is consistent.
 abbrev pub ImportsMakeTheseWorlds : Type 0
@@ -64,3 +65,8 @@ ImportsKeepSound = (w : World) (most : ℕ) (a : Archive) → most ≤ 8000000 �
 abbrev pub ImportsKeepTables : Type 0
 ImportsKeepTables = (w : World) (most : ℕ) (a : Archive) → most ≤ 8000000 → IsSound w → IsWritable a → IsImportable w most a → ((table : Table) × AgreesWithWorld table w)
     → (table : Table) × AgreesWithWorld table (applied w (imported w a))
+
+-- An archive is refused in at most one way, and not at all where it may be imported.
+pub record RefusalsAreOne : Type 0 where
+  pub one : (w : World) (most : ℕ) (a : Archive) (d e : ArchiveError) → IsFirstRefusal w most a questions d → IsFirstRefusal w most a questions e → d ≡ e
+  pub none : (w : World) (most : ℕ) (a : Archive) (e : ArchiveError) → IsImportable w most a → IsFirstRefusal w most a questions e → ⊥

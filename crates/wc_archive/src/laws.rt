@@ -1,5 +1,5 @@
 //! Laws of imports.
-ghost use Rattle.wc_archive.specs.Laws.{ArchivesArePartsOfImports, ArchivesAreTheseWorlds, GoodArchivesAreConsistent, ImportsAreAccepted, ImportsKeepSound, ImportsKeepTables, ImportsMakeTheseWorlds};
+ghost use Rattle.wc_archive.specs.Laws.{ArchivesArePartsOfImports, ArchivesAreTheseWorlds, GoodArchivesAreConsistent, ImportsAreAccepted, ImportsKeepSound, ImportsKeepTables, ImportsMakeTheseWorlds, RefusalsAreOne};
 ghost use Rattle.wc_archive.specs.SmallWorlds.{SumsAreArchived};
 ghost use Rattle.wc_archive.specs.Exports.{Exports, RefusesExport};
 ghost use Rattle.wc_archive.specs.Judged.{Imports, RefusesImport};
@@ -42,4 +42,9 @@ pub fn sums_are_archived()
 /// Where some table agrees with a sound world, some table agrees with the world after the import of an archive that passes all that is asked.
 pub fn imports_keep_tables()
     ensures { ImportsKeepTables }
+{}
+
+/// An archive is refused in at most one way, and not at all where it may be imported.
+pub fn refusals_are_one()
+    ensures { RefusalsAreOne }
 {}

@@ -9,5 +9,5 @@ mod laws;
 pub use laws::{
     archives_are_parts_of_imports, archives_are_these_worlds, good_archives_are_consistent,
     imports_are_accepted, imports_keep_sound, imports_keep_tables, imports_make_these_worlds,
-    sums_are_archived,
+    refusals_are_one, sums_are_archived,
 };

@@ -22,10 +22,12 @@ raised base n = base + n
 abbrev pub new_process : ℕ → ArchiveProcess → NewProcess
 new_process library p = record { kind = p.kind; definition = p.definition; library = library; depth = p.depth; label = p.label; caching = false }
 
+-- how a node is made: data with its value, a process as it is made
 abbrev pub node_change : ℕ → ArchiveNode → Change
 node_change library (node.Data v) = change.Data v
 node_change library (node.Process p) = change.Process (new_process library p)
 
+-- a link between the raised numbers of its ends
 abbrev pub link_change : ℕ → Link → Change
 link_change base l = change.Link (placed (raised base) l)
 

@@ -58,6 +58,7 @@ place_from n (x ∷ xs) id = if x == id then n else place_from (suc n) xs id
 abbrev pub archive_number : List ℕ → ℕ → ℕ
 archive_number ids = place_from 1 ids
 
+-- a link between the archive's numbers of its ends
 abbrev pub renumbered : List ℕ → Link → Link
 renumbered ids l = record { source = archive_number ids l.source; target = archive_number ids l.target; link = l.link; label = l.label }
 
@@ -75,11 +76,13 @@ archived_process w r = record {
   code = option_map (λ x. x.code) (result_of w r.node);
 }
 
+-- what is kept of a node, by its kind: the value of data, and of a process what is kept of its record
 abbrev pub archived_kind : World → ℕ → NodeKind → Option ArchiveNode
 archived_kind w id (kept.Data v) = Some (node.Data v)
 archived_kind w id kept.Calculation = option_map (λ r. node.Process (archived_process w r)) (find_record id w.records)
 archived_kind w id kept.Workflow = option_map (λ r. node.Process (archived_process w r)) (find_record id w.records)
 
+-- what is kept of the node with this number
 abbrev pub archived_node : World → ℕ → Option ArchiveNode
 archived_node w id = option_and_then (archived_kind w id) (node_of w.nodes id)
 

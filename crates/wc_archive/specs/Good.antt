@@ -27,6 +27,7 @@ use Rattle.wc_archive_file.specs.declared.archive.ArchiveNode.TheVariants as nod
 
 -- ---- links
 
+-- what a node is in a graph
 abbrev pub kind_of_node : ArchiveNode → NodeKind
 kind_of_node (node.Data v) = kept.Data v
 kind_of_node (node.Process p) = process_node p.kind
@@ -36,9 +37,11 @@ pub record IsGoodLink (nodes : List NodeKind) (before : List Link) (l : Link) : 
   pub allowed : IsAllowed nodes before l
   pub upward : GoesUp l
 
+-- the link at this place, if there is one, is good behind those before it
 abbrev pub IsGoodLinkAt : List NodeKind → List Link → ℕ → Type 0
 IsGoodLinkAt nodes links i = (l : Link) → slice_get links i ≡ Some l → IsGoodLink nodes (take i links) l
 
+-- each link is good behind those before it
 abbrev pub AreGoodLinks : List NodeKind → List Link → Type 0
 AreGoodLinks nodes links = (i : ℕ) → IsGoodLinkAt nodes links i
 
@@ -91,9 +94,11 @@ pub record IsGoodChain (u : World) (r : ProcessRecord) : Type 0 where
   pub tree : recorded_tree u r.node ≡ Some replayed.tree
   pub asked : replayed.asked ≡ asks_of u r.node
 
+-- each work chain is good
 abbrev pub AreGoodChains : World → Type 0
 AreGoodChains u = All (λ r. r.kind ≡ kind.Chain → IsGoodChain u r) u.records
 
+-- the first work chain that isn't good
 abbrev pub IsFirstBadChain : World → ℕ → Type 0
 IsFirstBadChain u pid =
     ((r : ProcessRecord) × (find_record pid u.records ≡ Some r) × (r.kind ≡ kind.Chain) × (¬ IsGoodChain u r))

@@ -15,9 +15,11 @@ use Rattle.wc_archive_file.specs.declared.archive.Archive.{Archive}
 use Rattle.wc_archive_file.specs.declared.archive.ArchiveNode.TheVariants as node
 use Rattle.wc_archive.specs.Closure.{archive_of}
 
+-- a link
 abbrev pub arrow : (source target : ℕ) → LinkType → List ℕ → Link
 arrow source target type label = record { source = source; target = target; link = type; label = label }
 
+-- a function of this name that finished
 abbrev pub added : (node : ℕ) → List ℕ → ProcessRecord
 added node name = record {
   node = node;

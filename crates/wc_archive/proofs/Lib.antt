@@ -10,3 +10,4 @@ pub mod Sound
 pub mod SmallWorlds
 pub mod Tables
 pub mod OneRefusal
+pub mod OneExport

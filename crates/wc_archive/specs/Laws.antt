@@ -18,6 +18,7 @@ use Rattle.wc_archive_file.specs.declared.archive.Archive.{Archive}
 use Rattle.wc_archive_file.specs.declared.error.ArchiveError.{ArchiveError}
 use Rattle.wc_archive.specs.After.{own_world, with_archive}
 use Rattle.wc_archive.specs.Alone.{alone, imported, raised}
+use Rattle.wc_archive.specs.Exports.{Exports, RefusesExport}
 use Rattle.wc_archive.specs.Good.{AreGoodLinks, AreGoodProcesses, kind_of_node}
 use Rattle.wc_archive.specs.Judged.{IsFirstRefusal, IsImportable, questions}
 
@@ -70,3 +71,9 @@ ImportsKeepTables = (w : World) (most : ℕ) (a : Archive) → most ≤ 8000000 
 pub record RefusalsAreOne : Type 0 where
   pub one : (w : World) (most : ℕ) (a : Archive) (d e : ArchiveError) → IsFirstRefusal w most a questions d → IsFirstRefusal w most a questions e → d ≡ e
   pub none : (w : World) (most : ℕ) (a : Archive) (e : ArchiveError) → IsImportable w most a → IsFirstRefusal w most a questions e → ⊥
+
+-- An export has one answer at most: one archive, or one refusal.
+pub record ExportsAreOne : Type 0 where
+  pub archives : (w : World) (root : ℕ) (a b : Archive) → Exports w root a → Exports w root b → a ≡ b
+  pub refusals : (w : World) (root : ℕ) (d e : ArchiveError) → RefusesExport w root d → RefusesExport w root e → d ≡ e
+  pub either : (w : World) (root : ℕ) (a : Archive) (e : ArchiveError) → Exports w root a → RefusesExport w root e → ⊥

@@ -1,7 +1,6 @@
 //! Laws of imports.
-ghost use Rattle.wc_archive.specs.Laws.{ArchivesArePartsOfImports, ArchivesAreTheseWorlds, GoodArchivesAreConsistent, ImportsAreAccepted, ImportsKeepSound, ImportsKeepTables, ImportsMakeTheseWorlds, RefusalsAreOne};
+ghost use Rattle.wc_archive.specs.Laws.{ArchivesArePartsOfImports, ArchivesAreTheseWorlds, GoodArchivesAreConsistent, ImportsAreAccepted, ImportsKeepSound, ImportsKeepTables, ImportsMakeTheseWorlds, RefusalsAreOne, ExportsAreOne};
 ghost use Rattle.wc_archive.specs.SmallWorlds.{SumsAreArchived};
-ghost use Rattle.wc_archive.specs.Exports.{Exports, RefusesExport};
 ghost use Rattle.wc_archive.specs.Judged.{Imports, RefusesImport};
 
 /// The world after an import, written out: the archive's nodes, links, processes and library behind those that were there.
@@ -47,4 +46,9 @@ pub fn imports_keep_tables()
 /// An archive is refused in at most one way, and not at all where it may be imported.
 pub fn refusals_are_one()
     ensures { RefusalsAreOne }
+{}
+
+/// An export has one answer at most: one archive, or one refusal.
+pub fn exports_are_one()
+    ensures { ExportsAreOne }
 {}

@@ -81,7 +81,7 @@ end_push at [] b = refl
 end_push at (c ∷ bs) b = end_push (c.0 + length c.1) bs b
 
 -- what is kept is held by the journal of the batches
-holds_by : (place : Place) (journal : Journal) (bs : Placed) (w : World) (own rest : List ℕ) → Keeps place journal.version journal.generation bs w own rest
+pub holds_by : (place : Place) (journal : Journal) (bs : Placed) (w : World) (own rest : List ℕ) → Keeps place journal.version journal.generation bs w own rest
     → journal.end ≡ end_of bs → HoldsBy place own rest w journal
 holds_by place journal bs w own rest keeps end = record {
   held = keeps_as place journal.version journal.generation bs w own rest keeps;

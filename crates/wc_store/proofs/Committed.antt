@@ -24,7 +24,7 @@ use Rattle.wc_store.specs.Places.{its, opposite}
 use Rattle.wc_store.specs.Stores.{other, StandsFor, CommitLeaves, PackLeaves}
 use Rattle.wc_store.specs.Held.{is_plain}
 use Rattle.wc_store.specs.Writes.{Appends, Replaces}
-use Rattle.wc_store.specs.Prepared.{RefusesChanges, RefusesSnapshot}
+use Rattle.wc_store.specs.Prepared.{HasGeneration, RefusesChanges, RefusesSnapshot}
 use Rattle.wc_store.specs.Refusals.{IsUnchanged, byte_limit, is_live_after}
 use Rattle.wc_store.specs.Stepped.{Called, InGeneration, IsCommitted, Stepped}
 use Rattle.wc_store.proofs.Chosen.{Keeps}
@@ -90,14 +90,15 @@ module _ {D : Type 0} (g : disk.Ghosts D) (store : Store) (one two : D) (stands 
     -- ---- after a snapshot
     module _ (p : List ℕ) (one_new two_new : D) (result : Result Journal StoreError) (payload : p ≡ spelled (snapshot store.world.world)) (written : IsWritten (snapshot store.world.world))
         (reached : IsReached store.world.world)
+        (room : HasGeneration store.journal.generation store.world.world)
         (replaces : Replaces g (store.journal.generation + 1) p (other store.place one two) (other store.place one_new two_new) result)
         (same : its store.place one_new two_new ≡ its store.place one two) where
       read_back : whole p (Ok (snapshot store.world.world))
       read_back = subst (λ (q : List ℕ). whole q (Ok (snapshot store.world.world))) (sym payload) (written_is_read (snapshot store.world.world) written)
 
-      pub replaced_leaves : PackLeaves g store.place store.world.world one two one_new two_new
+      pub replaced_leaves : PackLeaves g store one two one_new two_new
       replaced_leaves =
-          pack_leaves g store.place store.journal store.world.world one two keeps p reached read_back one_new two_new same
+          pack_leaves g store one two keeps (stands first second).settled.stands.end p reached read_back payload room one_new two_new same
           (replaces.any_moment (other_told g one two store.place first second))
 
       pub replaced_stands : (world : Holding) (journal : Journal) (live : Bool) → world.world ≡ store.world.world → journal.version ≡ 2
@@ -107,7 +108,7 @@ module _ {D : Type 0} (g : disk.Ghosts D) (store : Store) (one two : D) (stands 
           → StandsFor g (record { world = world; journal = journal; place = opposite store.place; live = live }) one_new two_new
       replaced_stands world journal live is version generation settled held =
           let told = other_told g one two store.place first second in
-          let there = keeps_there g store.place store.journal store.world.world one two keeps p reached read_back (g.seen (other store.place one_new two_new)) (held told) in
+          let there = keeps_there g store one two keeps (stands first second).settled.stands.end p reached read_back (g.seen (other store.place one_new two_new)) (held told) in
           stands_packed g store.place world (store.journal.generation + 1) journal live one two one_new two_new
           (subst (λ (w : World). Keeps (opposite store.place) 2 (store.journal.generation + 1) (batches_of (journal_of (g.seen (other store.place one_new two_new)))) w
           (g.seen (other store.place one_new two_new)) (g.seen (its store.place one two))) (sym is) there)

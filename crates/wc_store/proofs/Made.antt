@@ -6,6 +6,7 @@ use Rattle.std.proofs.lemmas.Bool.Decides.{nat_tests}
 use Rattle.wc_disk.specs.declared.disk.Disk as disk
 use Rattle.wc_disk.specs.Steps.{Only}
 use Rattle.wc_disk.specs.Images.{LeavesOnly}
+use Rattle.wc_journal.specs.declared.journal.Journal.{Journal}
 use Rattle.wc_journal.specs.Reading.{Placed, Held, no_journal, holds, damaged, journal_of, batches_of, end_of}
 use Rattle.wc_journal.specs.Journals.{IsSettled, HoldsEither}
 use Rattle.wc_world.specs.World.{empty}
@@ -17,8 +18,9 @@ use Rattle.wc_store.specs.Choices.{Choice, no_store, broken, on, is_nil, found_a
 use Rattle.wc_store.specs.Held.{a_world, nothing, PlaysChoice, IsHeld}
 use Rattle.wc_store.specs.Opened.{Opens, IsOpenedOf}
 use Rattle.wc_store.specs.Sights.{OfImages}
-use Rattle.wc_store.specs.Stores.{StandsFor, HoldsAWorld, IsLoadedOf, InTwoParts, BeginsFrom}
-use Rattle.wc_store.proofs.Chosen.{IsBefore, keeps_chosen, keeps_held}
+use Rattle.wc_store.specs.Stores.{StandsFor, HoldsAWorld, IsLoadedOf, InTwoParts, BeginsFrom, HoldsBy, IsFirst}
+use Rattle.wc_store.proofs.Chosen.{IsBefore, keeps_chosen}
+use Rattle.wc_store.proofs.Commits.{holds_by}
 use Rattle.wc_store.proofs.Looking.{bare_shown}
 use Rattle.wc_store.proofs.Opened.{stands, opens_none, images_as}
 use Rattle.wc_store.proofs.Parts.{then_one}
@@ -98,13 +100,18 @@ neither_chosen one two first second short_one short_two = (λ i. chosen_of one t
 
 -- beside a disk that holds none an image that is made holds nothing, or the empty world
 made_holds : (entry two : List ℕ) → chosen entry two ≡ no_store → (image : List ℕ) → HoldsEither no_journal (holds 2 1 []) image
-    → IsHeld image two nothing ⊎ IsHeld image two (a_world empty)
+    → IsHeld image two nothing ⊎ ((journal : Journal) × IsFirst journal × HoldsBy One image two empty journal)
 made_holds entry two none image (inl bare) =
     let shown = bare_shown image bare in
     inl (holds_nothing image two (neither_chosen image two shown.0 (second_counts entry two none) shown.1 (second_short entry two none)))
 made_holds entry two none image (inr held) =
     let before : IsBefore 1 (journal_in two) = subst (IsBefore 1) (sym (second_counts entry two none)) tt in
-    inr (keeps_held One 2 1 [] empty image two (record { held = held; before = before; some = refl; plays = refl }))
+    let first : Journal = record { version = 2; generation = 1; end = 16; is_numbered = omega arith; is_some = omega arith; is_known = omega arith } in
+    inr (
+      first,
+      record { version = refl; generation = refl; end = refl },
+      holds_by One first [] empty image two (record { held = held; before = before; some = refl; plays = refl }) refl,
+    )
 
 -- a store is made on disk one after both were read
 pub made_parts : {D : Type 0} (g : disk.Ghosts D) (at_now : (d : D) (image : List ℕ) → g.left_since d (g.moment d) image → g.may_leave d image)

@@ -1,5 +1,5 @@
 -- What a pack leaves.
-use Rattle.std.proofs.Common.{◌≡◌, inl, inr, ℕ, ◌+◌, ◌≤◌, Bool, true, false, List, [], ◌∷◌, Ok, refl, sym, ap, subst, arith}
+use Rattle.std.proofs.Common.{◌≡◌, inl, inr, ℕ, ◌+◌, ◌≤◌, Bool, true, false, List, [], ◌∷◌, length, Ok, refl, sym, ap, subst, arith}
 use Rattle.std.specs.Prelude.{◌&&◌}
 use Rattle.std.specs.List.{AllByRecursion}
 use Rattle.std.proofs.lemmas.Bool.Decides.{nat_tests}
@@ -9,9 +9,10 @@ use Rattle.wc_disk.specs.Steps.{Only}
 use Rattle.wc_disk.specs.Images.{LeavesOnly}
 use Rattle.wc_disk.proofs.Runs.{weaker_run}
 use Rattle.wc_journal.specs.declared.journal.Journal.{Journal}
-use Rattle.wc_journal.specs.Reading.{Placed, holds, journal_of, batches_of, is_snapshot_place}
+use Rattle.wc_journal.specs.Reading.{Placed, holds, journal_of, batches_of, end_of, is_snapshot_place}
 use Rattle.wc_journal.specs.Journals.{IsSettled, IsClosed, IsReplaced}
 use Rattle.wc_record.specs.Reading.{whole}
+use Rattle.wc_record.specs.Spelled.{spelled}
 use Rattle.wc_world.specs.World.{World, empty}
 use Rattle.wc_world.specs.Room.{Holding}
 use Rattle.wc_world.specs.Accepted.{IsAccepted, IsReached, is_in_order}
@@ -25,10 +26,12 @@ use Rattle.wc_world.proofs.SnapshotLists.{Ascend, ascend_before}
 use Rattle.wc_store.specs.declared.place.Place.{Place}
 use Rattle.wc_store.specs.declared.place.Place.TheVariants.{One, Two}
 use Rattle.wc_store.specs.Places.{opposite, its}
-use Rattle.wc_store.specs.Stores.{other, StandsFor, PackLeaves, HoldsAs}
+use Rattle.wc_store.specs.declared.store.Store.{Store}
+use Rattle.wc_store.specs.Prepared.{HasGeneration}
+use Rattle.wc_store.specs.Stores.{other, StandsFor, PackLeaves, HoldsPacked, IsNextOf}
 use Rattle.wc_store.specs.Held.{a_world, suits}
-use Rattle.wc_store.proofs.Chosen.{IsBefore, Keeps, held_counted, closed_counted, keeps_as, keeps_named}
-use Rattle.wc_store.proofs.Commits.{stands_at, keeps_moved}
+use Rattle.wc_store.proofs.Chosen.{IsBefore, Keeps, held_counted, closed_counted, keeps_named}
+use Rattle.wc_store.proofs.Commits.{holds_by, stands_at, keeps_moved}
 
 -- ---- a snapshot suits its place
 and_first : (b c : Bool) → (b && c) ≡ true → b ≡ true
@@ -68,39 +71,65 @@ keeps_packed place v g bs w own rest image p keeps some reached read held =
       plays = inr (snapshot w, read, inr (at_snapshot (is_snapshot_place (g + 1) 0) w first consistent, made.0, ap (λ (u : World). a_world u) (sym made.1)));
     }
 
-other_way : (place : Place) (w : World) (own image : List ℕ) → HoldsAs (opposite place) image own (a_world w) → HoldsAs place own image (a_world w)
-other_way One w own image h = h
-other_way Two w own image h = h
+module _ {D : Type 0} (g : disk.Ghosts D) (store : Store) (one two : D)
+    (keeps : Keeps store.place store.journal.version store.journal.generation (batches_of (journal_of (g.seen (its store.place one two)))) store.world.world
+    (g.seen (its store.place one two)) (g.seen (other store.place one two)))
+    (end : store.journal.end ≡ end_of (batches_of (journal_of (g.seen (its store.place one two))))) where
+  abbrev Own : List ℕ
+  Own = g.seen (its store.place one two)
 
-module _ {D : Type 0} (g : disk.Ghosts D) (place : Place) (journal : Journal) (w : World) (one two : D)
-    (keeps : Keeps place journal.version journal.generation (batches_of (journal_of (g.seen (its place one two)))) w (g.seen (its place one two)) (g.seen (other place one two)))
-  where
-    module _ (p : List ℕ) (reached : IsReached w) (read : whole p (Ok (snapshot w))) where
-      leaves_world : (image : List ℕ) → IsReplaced (g.seen (other place one two)) (holds 2 (journal.generation + 1) ((26, p) ∷ [])) image
-          → HoldsAs place (g.seen (its place one two)) image (a_world w)
+  abbrev Rest : List ℕ
+  Rest = g.seen (other store.place one two)
+
+  abbrev Batches : Placed
+  Batches = batches_of (journal_of Own)
+
+  -- the world stays where it is
+  stays_by : (image : List ℕ) → Keeps store.place store.journal.version store.journal.generation Batches store.world.world Own image → HoldsPacked store Own image
+  stays_by image there = inl (holds_by store.place store.journal Batches store.world.world Own image there end)
+
+  module _ (p : List ℕ) (reached : IsReached store.world.world) (read : whole p (Ok (snapshot store.world.world))) where
+    -- the next journal
+    abbrev next_journal : Journal
+    next_journal = record {
+      version = 2;
+      generation = store.journal.generation + 1;
+      end = 26 + length p;
+      is_numbered = omega arith;
+      is_some = omega arith;
+      is_known = omega arith;
+    }
+
+    module _ (payload : p ≡ spelled (snapshot store.world.world)) (room : HasGeneration store.journal.generation store.world.world) where
+      is_next : IsNextOf store.journal store.world.world next_journal
+      is_next = record { version = refl; generation = refl; end = ap (λ (q : List ℕ). 26 + length q) payload; room = room }
+
+      leaves_world : (image : List ℕ) → IsReplaced Rest (holds 2 (store.journal.generation + 1) ((26, p) ∷ [])) image → HoldsPacked store Own image
       leaves_world image (inl same) =
-          keeps_as place journal.version journal.generation _ w (g.seen (its place one two)) image
-          (subst (λ (i : List ℕ). Keeps place journal.version journal.generation (batches_of (journal_of (g.seen (its place one two)))) w (g.seen (its place one two)) i) (sym same) keeps)
+          stays_by image (subst (λ (i : List ℕ). Keeps store.place store.journal.version store.journal.generation Batches store.world.world Own i) (sym same) keeps)
       leaves_world image (inr (inl closed)) =
-          keeps_as place journal.version journal.generation _ w (g.seen (its place one two)) image
-          (keeps_beside place journal.version journal.generation _ w (g.seen (its place one two)) (g.seen (other place one two)) image keeps closed)
+          stays_by image (keeps_beside store.place store.journal.version store.journal.generation Batches store.world.world Own Rest image keeps closed)
       leaves_world image (inr (inr held)) =
-          other_way place w (g.seen (its place one two)) image (keeps_as (opposite place) 2 (journal.generation + 1) _ w image (g.seen (its place one two))
-          (keeps_packed place journal.version journal.generation _ w (g.seen (its place one two)) (g.seen (other place one two)) image p keeps journal.is_numbered reached read held))
+          inr (
+            next_journal,
+            is_next,
+            holds_by (opposite store.place) next_journal ((26, p) ∷ []) store.world.world image Own
+                (keeps_packed store.place store.journal.version store.journal.generation Batches store.world.world Own Rest image p keeps store.journal.is_numbered reached read held) refl,
+          )
 
-      pub pack_leaves : (one_new two_new : D) → its place one_new two_new ≡ its place one two
-          → LeavesOnly g (other place one two) (other place one_new two_new) (IsReplaced (g.seen (other place one two)) (holds 2 (journal.generation + 1) ((26, p) ∷ [])))
-          → PackLeaves g place w one two one_new two_new
+      pub pack_leaves : (one_new two_new : D) → its store.place one_new two_new ≡ its store.place one two
+          → LeavesOnly g (other store.place one two) (other store.place one_new two_new) (IsReplaced Rest (holds 2 (store.journal.generation + 1) ((26, p) ∷ [])))
+          → PackLeaves g store one two one_new two_new
       pack_leaves one_new two_new same leaves = record {
         untouched = same;
-        each = weaker_run g (other place one two) (other place one_new two_new) _ _ leaves leaves_world;
+        each = weaker_run g (other store.place one two) (other store.place one_new two_new) _ _ leaves leaves_world;
       }
 
-      pub keeps_there : (image : List ℕ) → journal_of image ≡ holds 2 (journal.generation + 1) ((26, p) ∷ [])
-          → Keeps (opposite place) 2 (journal.generation + 1) (batches_of (journal_of image)) w image (g.seen (its place one two))
-      keeps_there image held =
-          keeps_named (opposite place) 2 (journal.generation + 1) _ w image (g.seen (its place one two))
-          (keeps_packed place journal.version journal.generation _ w (g.seen (its place one two)) (g.seen (other place one two)) image p keeps journal.is_numbered reached read held)
+    pub keeps_there : (image : List ℕ) → journal_of image ≡ holds 2 (store.journal.generation + 1) ((26, p) ∷ [])
+        → Keeps (opposite store.place) 2 (store.journal.generation + 1) (batches_of (journal_of image)) store.world.world image Own
+    keeps_there image held =
+        keeps_named (opposite store.place) 2 (store.journal.generation + 1) _ store.world.world image Own
+        (keeps_packed store.place store.journal.version store.journal.generation Batches store.world.world Own Rest image p keeps store.journal.is_numbered reached read held)
 
 -- a store that has moved to the other disk
 module _ {D : Type 0} (g : disk.Ghosts D) where

@@ -1,5 +1,5 @@
 -- Calls of a store in two parts: both disks are read, and then one is written.
-use Rattle.std.proofs.Common.{◌≡◌, ◌⊎◌, ◌≤◌, inl, inr, ⊎_elim, ℕ, List, Result, Ok, Err, OnOk, sym, ◌∙◌, subst, arith}
+use Rattle.std.proofs.Common.{◌≡◌, ◌⊎◌, ◌≤◌, inl, inr, ⊎_elim, ℕ, List, Result, Ok, Err, OnOk, refl, sym, ◌∙◌, subst, arith}
 use Rattle.wc_disk.specs.declared.disk.Disk as disk
 use Rattle.wc_disk.specs.Steps.{Only}
 use Rattle.wc_disk.specs.Images.{LeavesOnly}
@@ -14,8 +14,8 @@ use Rattle.wc_store.specs.declared.place.Place.{Place}
 use Rattle.wc_store.specs.declared.place.Place.TheVariants.{One, Two}
 use Rattle.wc_store.specs.Places.{its}
 use Rattle.wc_store.specs.declared.store.Store.{Store}
-use Rattle.wc_store.specs.Held.{a_world, IsHeld}
-use Rattle.wc_store.specs.Stores.{other, HoldsAs, HoldsBy, HoldsEither, CommitLeaves, PackLeaves, InOnePart, InTwoParts, AreImages, BeginsFrom, InitLeaves, HoldsOneOf}
+use Rattle.wc_store.specs.Held.{a_world}
+use Rattle.wc_store.specs.Stores.{other, HoldsAs, HoldsBy, HoldsEither, HoldsPacked, CommitLeaves, PackLeaves, InOnePart, InTwoParts, AreImages, BeginsFrom, InitLeaves, HoldsOneOf}
 
 -- the images of the disk at the place and of the other disk, as those of disk one and disk two
 abbrev pub As : Place → (List ℕ → List ℕ → Type 0) → List ℕ → List ℕ → Type 0
@@ -139,15 +139,18 @@ module _ {D : Type 0} (g : disk.Ghosts D) (at_now : (d : D) (image : List ℕ) �
           one_of Two own rest holds = holds
 
       -- a pack
-      pub then_pack : (place : Place) (w : World) (one_new two_new : D) → PackLeaves g place w one_mid two_mid one_new two_new
-          → InTwoParts g one two one_new two_new (λ a b. IsHeld a b (a_world w))
-      then_pack place w one_new two_new leaves =
-          then_other one_new two_new (λ a b. IsHeld a b (a_world w)) place (λ image. HoldsAs place (g.seen (its place one_mid two_mid)) image (a_world w)) leaves.untouched leaves.each
-          (λ image. held_at place (g.seen (its place one_mid two_mid)) image)
+      pub then_pack : (store : Store) (one_new two_new : D) → PackLeaves g store one_mid two_mid one_new two_new
+          → InTwoParts g one two one_new two_new (λ a b. (its store.place a b ≡ g.seen (its store.place one_mid two_mid)) × HoldsPacked store (its store.place a b) (other store.place a b))
+      then_pack store one_new two_new leaves =
+          then_other one_new two_new
+          (λ a b. (its store.place a b ≡ g.seen (its store.place one_mid two_mid)) × HoldsPacked store (its store.place a b) (other store.place a b)) store.place
+          (HoldsPacked store (g.seen (its store.place one_mid two_mid))) leaves.untouched leaves.each
+          (λ image. packed_at store.place (HoldsPacked store) (g.seen (its store.place one_mid two_mid)) image)
         where
-          held_at : (place : Place) (own rest : List ℕ) → HoldsAs place own rest (a_world w) → As place (λ a b. IsHeld a b (a_world w)) own rest
-          held_at One own rest holds = holds
-          held_at Two own rest holds = holds
+          packed_at : (place : Place) (Q : List ℕ → List ℕ → Type 0) (own rest : List ℕ) → Q own rest
+              → As place (λ a b. (its place a b ≡ own) × Q (its place a b) (other place a b)) own rest
+          packed_at One Q own rest holds = (refl, holds)
+          packed_at Two Q own rest holds = (refl, holds)
 
   -- ---- other words
   -- what has P has R

@@ -1,10 +1,10 @@
 -- When a store stands for two disks, and what its calls leave on them.
-use Rattle.std.specs.Prelude.{◌≡◌, ◌≤◌, ◌+◌, ◌⊎◌, ◌++◌, ℕ, List, [], ◌∷◌, Option, Some, None, Result, Ok, Err}
+use Rattle.std.specs.Prelude.{◌≡◌, ◌≤◌, ◌+◌, ◌⊎◌, ◌++◌, ℕ, true, List, [], ◌∷◌, length, Option, Some, None, Result, Ok, Err}
 use Rattle.wc_disk.specs.declared.disk.Disk as disk
 use Rattle.wc_disk.specs.Steps.{Only}
 use Rattle.wc_disk.specs.Images.{LeavesOnly}
 use Rattle.wc_journal.specs.declared.journal.Journal.{Journal}
-use Rattle.wc_journal.specs.Reading.{Placed, no_journal, holds, journal_of, batches_of, end_of}
+use Rattle.wc_journal.specs.Reading.{Placed, journal_of, batches_of, end_of}
 use Rattle.wc_journal.specs.Journals.{IsSettled}
 use Rattle.wc_journal.specs.Spelled as journal
 use Rattle.wc_record.specs.Spelled.{spelled}
@@ -13,12 +13,13 @@ use Rattle.wc_store.specs.declared.error.StoreError.TheVariants.{DiskFault, Dama
 use Rattle.wc_store.specs.declared.store.Store.{Store}
 use Rattle.wc_store.specs.declared.place.Place.{Place}
 use Rattle.wc_store.specs.declared.place.Place.TheVariants as place
+use Rattle.wc_store.specs.Prepared.{HasGeneration}
 use Rattle.wc_state.specs.declared.record.Limits.{Limits}
 use Rattle.wc_world.specs.World.{World, empty}
 use Rattle.wc_world.specs.Applied.{applied}
 use Rattle.wc_world.specs.Snapshot.{snapshot}
 use Rattle.wc_world.specs.declared.change.Change.{Change}
-use Rattle.wc_store.specs.Places.{number_of, its}
+use Rattle.wc_store.specs.Places.{number_of, its, opposite}
 use Rattle.wc_store.specs.Choices.{Choice, on, chosen}
 use Rattle.wc_store.specs.Held.{IsHeld, Standing, nothing, a_world}
 use Rattle.wc_store.specs.Refusals.{byte_limit, committed_bytes}
@@ -94,11 +95,24 @@ pub record CommitLeaves {D : Type 0} (g : disk.Ghosts D) (store : Store) (limits
   pub untouched : other store.place one_new two_new ≡ other store.place one two
   pub each : LeavesOnly g (its store.place one two) (its store.place one_new two_new) (HoldsEither store limits cs (g.seen (other store.place one two)))
 
--- A pack writes the other disk alone, and each of its images holds the same world.
-pub record PackLeaves {D : Type 0} (g : disk.Ghosts D) (place : Place) (world : World) (one two one_new two_new : D) : Type 0 where
-  pub untouched : its place one_new two_new ≡ its place one two
-  pub each : LeavesOnly g (other place one two) (other place one_new two_new)
-      (λ image. HoldsAs place (g.seen (its place one two)) image (a_world world))
+-- One journal is the next one of another: of version 2 and the next generation, with the world's snapshot as its only batch, for which there was room.
+pub record IsNextOf (journal : Journal) (w : World) (next : Journal) : Type 0 where
+  pub version : next.version ≡ 2
+  pub generation : next.generation ≡ journal.generation + 1
+  pub end : next.end ≡ 26 + length (spelled (snapshot w))
+  pub room : HasGeneration journal.generation w
+
+-- The image of the other disk, beside that of the disk that the store is on, leaves the store's world where it is, by the store's journal, or holds it
+-- itself, by the next journal.
+abbrev pub HoldsPacked : Store → (own image : List ℕ) → Type 0
+HoldsPacked store own image =
+    HoldsBy store.place own image store.world.world store.journal
+    ⊎ ((next : Journal) × IsNextOf store.journal store.world.world next × HoldsBy (opposite store.place) image own store.world.world next)
+
+-- A pack writes the other disk alone, and each of its images holds the same world, each by its journal.
+pub record PackLeaves {D : Type 0} (g : disk.Ghosts D) (store : Store) (one two one_new two_new : D) : Type 0 where
+  pub untouched : its store.place one_new two_new ≡ its store.place one two
+  pub each : LeavesOnly g (other store.place one two) (other store.place one_new two_new) (HoldsPacked store (g.seen (its store.place one two)))
 
 -- the bytes of a disk that was packed: a journal of this generation with the world's snapshot alone, a gate that is not open, and nothing behind it
 abbrev pub packed_image : ℕ → World → List ℕ
@@ -123,18 +137,6 @@ IsMadeOf store one two = IsHeld one two nothing × ((made : List ℕ) × IsOfIma
 -- the two images hold some world
 abbrev pub HoldsAWorld : (one two : List ℕ) → Type 0
 HoldsAWorld one two = (w : World) × IsHeld one two (a_world w)
-
--- an image that `init` makes on disk one: no journal, or the empty one of generation 1
-abbrev pub IsMade : List ℕ → Type 0
-IsMade image = (journal_of image ≡ no_journal) ⊎ (journal_of image ≡ holds 2 1 [])
-
--- disk one reads as no journal, and where disk two tells its bytes, the two hold nothing
-abbrev pub HoldsNothing : Type 0 → List ℕ → List ℕ → Type 0
-HoldsNothing told one two = (journal_of one ≡ no_journal) × (told → IsHeld one two nothing)
-
--- `init` leaves on disk one what a crash at entry might have left, or, where this held, an image that it makes
-abbrev pub MadeOr : Type 0 → (List ℕ → Type 0) → List ℕ → Type 0
-MadeOr bare before image = before image ⊎ (bare × IsMade image)
 
 -- what was loaded is what the disks hold
 abbrev pub Loads : {D : Type 0} → disk.Ghosts D → Option Store → D → D → Type 0
@@ -177,10 +179,23 @@ AreImages one two a b = (a ≡ one) × (b ≡ two)
 abbrev pub HoldsOneOf : World → World → List ℕ → List ℕ → Type 0
 HoldsOneOf before after a b = IsHeld a b (a_world before) ⊎ IsHeld a b (a_world after)
 
--- What comes of two images that hold nothing where a store is made: images that hold nothing, or the empty world.
+-- The journal of a store that is made: of version 2 and generation 1, with no batch.
+pub record IsFirst (journal : Journal) : Type 0 where
+  pub version : journal.version ≡ 2
+  pub generation : journal.generation ≡ 1
+  pub end : journal.end ≡ 16
+
+-- A store that is made: it is live, its world is the empty one, and it is on disk one, with the first journal.
+pub record IsNew (store : Store) : Type 0 where
+  pub live : store.live ≡ true
+  pub empty_yet : store.world.world ≡ empty
+  pub place : store.place ≡ place.One
+  pub first : IsFirst store.journal
+
+-- What comes of two images that hold nothing where a store is made: images that hold nothing, or the empty world, by the first journal on disk one.
 pub record BeginsFrom (one two a b : List ℕ) : Type 0 where
   pub before : IsHeld one two nothing
-  pub held : IsHeld a b nothing ⊎ IsHeld a b (a_world empty)
+  pub held : IsHeld a b nothing ⊎ ((journal : Journal) × IsFirst journal × HoldsBy place.One a b empty journal)
 
 -- `init` has a second part where it makes a store, also where the disk fails then. Where a store is there, the images from the middle
 -- on are what the disks read as.

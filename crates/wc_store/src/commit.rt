@@ -89,8 +89,9 @@ impl Store {
         ensures refused { IfErr result (RefusesPack self.old.journal.generation self.old.world.world) }
         ensures kept { OnErr result ((self.new.place ≡ self.old.place) × (self.new.journal ≡ self.old.journal)) }
         ensures untouched { IsUnchanged result one.old one.new × IsUnchanged result two.old two.new }
+        // At each moment, and then, the disks hold the world, by the store's journal where it is, or by the next one on the other disk.
         ensures moments { IsTrue (D.tells one.old) → IsTrue (D.tells two.old)
-            → PackLeaves D.Disk self.old.place self.old.world.world one.old two.old one.new two.new }
+            → PackLeaves D.Disk self.old one.old two.old one.new two.new }
     {
         let generation = self.journal.generation();
         let batch = snapshot_batch(alloc, &self.world, generation)?;

@@ -3,13 +3,11 @@ ghost use Rattle.std.specs.Prelude.{◌≡◌, true, IsTrue, IfNone, IfOk, IfErr
 ghost use Rattle.wc_disk.specs.Steps.{Only};
 ghost use Rattle.wc_disk.specs.Images.{LeavesOnly};
 ghost use Rattle.wc_journal.specs.Reading.{journal_of, no_journal};
-ghost use Rattle.wc_world.specs.World.{empty};
 ghost use Rattle.wc_store.specs.Held.{IsHeld, nothing};
 ghost use Rattle.wc_store.specs.declared.error.StoreError.TheVariants.{AlreadyThere};
-ghost use Rattle.wc_store.specs.declared.place.Place.TheVariants.{One};
 ghost use Rattle.wc_store.specs.Opened.{Opens, IsOpenedOf};
 ghost use Rattle.wc_store.specs.Sights.{OfImages};
-ghost use Rattle.wc_store.specs.Stores.{StandsFor, HoldsAWorld, IsMadeOf, Loads, IsLoadedOf, MadeOr, HoldsNothing, InTwoParts, AreImages, InitLeaves};
+ghost use Rattle.wc_store.specs.Stores.{StandsFor, HoldsAWorld, IsMadeOf, Loads, IsLoadedOf, IsNew, InTwoParts, AreImages, InitLeaves};
 ghost use Rattle.wc_store.specs.Refusals.{Counts, RefusesLoad, RefusesInit, IsDamageOf, IsUnchanged};
 
 use crate::choice::find_store;
@@ -62,19 +60,16 @@ impl Store {
     /// Makes an empty store of generation 1 on disk one.
     pub fn init<D: Disk>(alloc: Global, one: &mut D, two: &mut D) -> Result<Store, StoreError>
         ensures ok { IfOk result (λ store. IsTrue (D.tells one.old) → IsTrue (D.tells two.old) → StandsFor D.Disk store one.new two.new) }
-        ensures empty { IfOk result (λ store. store.world.world ≡ empty) }
-        ensures live { IfOk result (λ store. store.live ≡ true) }
+        ensures made { IfOk result IsNew }
         ensures nothing { OnOk result (IsTrue (D.tells one.old) → IsTrue (D.tells two.old) → IsHeld (D.seen one.old) (D.seen two.old) nothing) }
         ensures refused { IfErr result (RefusesInit (IsTrue (D.tells one.old) × IsTrue (D.tells two.old)) (IsHeld (D.seen one.old) (D.seen two.old))) }
         ensures damage { IfErr result (IsDamageOf D.Disk one.old two.old) }
         ensures images { IfOk result (λ store. OfImages D.Disk one.old two.old (IsMadeOf store)) }
         ensures there { IfErr result (λ e. e ≡ AlreadyThere → OfImages D.Disk one.old two.old HoldsAWorld) }
-        ensures made { IfOk result (λ store. (store.place ≡ One) × (store.journal.generation ≡ 1) × (store.journal.version ≡ 2)) }
         ensures kept { IsUnchanged result (D.seen one.old) (D.seen one.new) }
         ensures seen_two { D.seen two.new ≡ D.seen two.old }
-        ensures any_moment_one { IsTrue (D.tells one.old) → LeavesOnly D.Disk one.old one.new
-            (MadeOr (HoldsNothing (IsTrue (D.tells two.old)) (D.seen one.old) (D.seen two.old)) (D.may_leave one.old)) }
         ensures any_moment_two { LeavesOnly D.Disk two.old two.new (D.may_leave two.old) }
+        // Each image is one that a crash at entry might have left, or, where the disks held nothing, holds nothing or the empty world by the first journal.
         ensures parts { IsTrue (D.tells one.old) → IsTrue (D.tells two.old) → InitLeaves D.Disk result one.old two.old one.new two.new }
         ensures tells { (D.tells one.new ≡ D.tells one.old) × (D.tells two.new ≡ D.tells two.old) }
         ensures cause { Counts result (D.faults one.old) (D.faults one.new) (D.faults two.old) (D.faults two.new) (D.failed one.new) (D.failed two.new) }

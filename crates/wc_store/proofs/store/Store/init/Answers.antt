@@ -6,6 +6,14 @@ use Rattle.wc_store.proofs.Imaged.{images_made}
 use Rattle.wc_store.proofs.Made.{made, made_parts, none_opened, some_opened, second_counts}
 use Rattle.wc_store.proofs.store.Store.init.Goals as goal
 
+pub returns-in-Ok-clause-made : goal.returns-in-Ok-clause-made
+returns-in-Ok-clause-made g c = record {
+  live = refl;
+  empty_yet = c.new.ensures.empty;
+  place = refl;
+  first = record { version = c.in-Ok.ensures.version; generation = c.in-Ok.ensures.generation; end = c.in-Ok.ensures.end };
+}
+
 pub returns-then-is_some-clause-refused : goal.returns-then-is_some-clause-refused
 returns-then-is_some-clause-refused g c =
     λ told.

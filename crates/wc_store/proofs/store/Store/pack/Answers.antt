@@ -33,7 +33,7 @@ returns-in-Ok-clause-call g c =
       live = c.requires.live;
       stands = λ whole told told_too.
           subst (λ (q : Place). StandsFor g.D.Disk (record { world = s.world; journal = j; place = q; live = s.live }) one_new two_new) (sym c.other-self.ensures)
-          (replaced_stands g.D.Disk s one two c.requires.stands told told_too p one_new two_new (Ok j) batch.payload batch.written c.in_ok-batch.ensures.reached replaces
+          (replaced_stands g.D.Disk s one two c.requires.stands told told_too p one_new two_new (Ok j) batch.payload batch.written c.in_ok-batch.ensures.reached (subst (λ (m : ℕ). HasGeneration m s.world.world) c.generation-generation.ensures.value c.in_ok-batch.ensures.fits) replaces
           c.in-Ok.ensures.untouched s.world j s.live refl replaces.version replaces.generation replaces.settled replaces.held);
       tells_one = tells.0;
       tells_two = tells.1;
@@ -123,7 +123,7 @@ returns-in-Ok-clause-moments g c =
     let p = payload_of c.in_ok-batch.batch in
     let j = c.in-Ok.journal in
     let replaces = subst (λ (m : ℕ). Replaces g.D.Disk (m + 1) p (other s.place one two) (other s.place one_new two_new) (Ok j)) c.generation-generation.ensures.value c.in-Ok.ensures.replaces in
-    replaced_leaves g.D.Disk s one two c.requires.stands told told_too p one_new two_new (Ok j) batch.payload batch.written c.in_ok-batch.ensures.reached replaces
+    replaced_leaves g.D.Disk s one two c.requires.stands told told_too p one_new two_new (Ok j) batch.payload batch.written c.in_ok-batch.ensures.reached (subst (λ (m : ℕ). HasGeneration m s.world.world) c.generation-generation.ensures.value c.in_ok-batch.ensures.fits) replaces
     c.in-Ok.ensures.untouched
 
 pub returns-clause-moments : goal.returns-clause-moments
@@ -138,5 +138,5 @@ returns-clause-moments g c =
     let p = payload_of c.in_ok-batch.batch in
     let e = c.in-Err.error in
     let replaces = subst (λ (m : ℕ). Replaces g.D.Disk (m + 1) p (other s.place one two) (other s.place one_new two_new) (Err e)) c.generation-generation.ensures.value c.in-Err.ensures.replaces in
-    replaced_leaves g.D.Disk s one two c.requires.stands told told_too p one_new two_new (Err e) batch.payload batch.written c.in_ok-batch.ensures.reached replaces
+    replaced_leaves g.D.Disk s one two c.requires.stands told told_too p one_new two_new (Err e) batch.payload batch.written c.in_ok-batch.ensures.reached (subst (λ (m : ℕ). HasGeneration m s.world.world) c.generation-generation.ensures.value c.in_ok-batch.ensures.fits) replaces
     c.in-Err.ensures.untouched

@@ -42,7 +42,7 @@ pub record OnTrail {D T P : Type 0} (g : disk.Ghosts D) (h : transport.Ghosts T)
   pub goes : Goes h k limits taken tr pa old.world.world tr_now pa_now store.world.world
   pub seeded : IsSeeded h k limits tr pa old.world.world seed goes.count goes.rests tr_now pa_now store.world.world goes.trail order
   pub few : taken ≤ most
-  pub stepped : Stepped g (IsLedWithin h k limits most tr pa old.world.world tr_now pa_now) true old one two store one_now two_now
+  pub stepped : Stepped g (IsLedWithin h k limits most tr pa old.world.world old.journal tr_now pa_now) true old one two store one_now two_now
   pub processes : AreOfProcesses (h.placed tr) old.world.world → AreOfProcesses (h.placed tr_now) store.world.world
 
 -- a turn that is refused otherwise than for want of memory has asked as one that is taken
@@ -57,7 +57,7 @@ as_filled what count limit asked old new (performs t q) h = h
 
 module _ {D T P : Type 0} (g : disk.Ghosts D) (h : transport.Ghosts T) (k : pacer.Ghosts P) (limits : Limits) (seed most : ℕ) (old : Store) (one two : D) (tr : T) (pa : P) where
   abbrev Led : T → P → World → Journal → Type 0
-  Led = IsLedWithin h k limits most tr pa old.world.world
+  Led = IsLedWithin h k limits most tr pa old.world.world old.journal
 
   -- what a trail led to is what it led to, seen from later on
   pub led_later : (b c : T) (q r : P) → ((moment : ℕ) → k.said q moment → k.said r moment) → h.faults b ≤ h.faults c → (v : World) (journal : Journal)
@@ -76,7 +76,7 @@ module _ {D T P : Type 0} (g : disk.Ghosts D) (h : transport.Ghosts T) (k : pace
     seeded = (order, is, refl);
     few = omega arith;
     stepped = not_stepped g (Led tr pa) old one two only_now live stands (record {
-      led = record { all = 0; few = omega arith; left = tr; clock = pa; goes = goes_none h k limits tr pa old.world.world; fits = inl refl };
+      led = record { all = 0; few = omega arith; left = tr; clock = pa; goes = goes_none h k limits tr pa old.world.world; fits = inl (refl, refl) };
       said = λ moment said. said;
       faults = omega arith;
     });
@@ -129,9 +129,9 @@ module _ {D T P : Type 0} (g : disk.Ghosts D) (h : transport.Ghosts T) (k : pace
       from_first x journal l = led_later tr_s tr_v pa_s pa_v says.keeps not_fallen x journal l.holds
 
       fits_still : (x : World) (journal : Journal) → journal.version ≡ s.journal.version → IsAsBefore s x journal
-          → (x ≡ old.world.world) ⊎ FitsIn limits x journal
+          → ((x ≡ old.world.world) × (journal.end ≡ old.journal.end)) ⊎ FitsIn limits x journal
       fits_still x journal version same =
-          ⊎_elim (λ first. inl (same.0 ∙ first))
+          ⊎_elim (λ first. inl (same.0 ∙ first.0, same.1 ∙ first.1))
           (λ (f : FitsIn limits s.world.world s.journal). inr (
             subst (λ (y : World). length y.nodes ≤ limits.max_nodes) (sym same.0) f.0,
             subst (λ (c : ℕ). journal.end + 1 ≤ byte_limit c limits.max_bytes) (sym version)

@@ -36,7 +36,7 @@ use Rattle.wc_runner.proofs.Trailed.{went_to_refusal, went_unasked}
 -- All that is told of a run that ended so.
 pub record Ran {D T P : Type 0} (g : disk.Ghosts D) (h : transport.Ghosts T) (k : pacer.Ghosts P) (limits : Limits) (seed most : ℕ) (old : Store) (one two : D) (tr : T) (pa : P)
     (result : Result RunEnd RunError) (new : Store) (one_new two_new : D) (tr_new : T) (pa_new : P) : Type 0 where
-  pub stepped : Stepped g (IsLedWithin h k limits most tr pa old.world.world tr_new pa_new) (is_live_after result) old one two new one_new two_new
+  pub stepped : Stepped g (IsLedWithin h k limits most tr pa old.world.world old.journal tr_new pa_new) (is_live_after result) old one two new one_new two_new
   pub went : Went h k limits tr pa old.world.world seed most result new.journal tr_new pa_new new.world.world
   pub takes : TakesUpTo (in_run h k limits tr tr_new pa_new) most old.world.world new.world.world (k.rests pa) (k.rests pa_new)
   pub ends : Ends (in_run h k limits tr tr_new pa_new) most old.world.world new.world.world (k.rests pa) (k.rests pa_new) result

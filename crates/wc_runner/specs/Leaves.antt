@@ -24,10 +24,10 @@ IsOrTurnOf o pid w before v journal = ((v ≡ w) × (journal.end ≡ before.end)
 abbrev pub SomeTurns : Outside → (most : ℕ) → World → World → Type 0
 SomeTurns o most w v = TakesTurns o most w v × ((v ≡ w) ⊎ (length v.nodes ≤ o.limits.max_nodes))
 
--- A trail led to this world, within the limits, and what it saw is seen from the transport and the pacer that are left: each moment that was said on
+-- A trail led from one world and its journal to another, within the limits, and what it saw is seen from the transport and the pacer that are left: each moment that was said on
 -- it was said by then, and no failure was counted later than by then.
 pub record IsLedWithin {T P : Type 0} (h : transport.Ghosts T) (k : pacer.Ghosts P) (limits : Limits) (most : ℕ)
-    (a : T) (p : P) (w : World) (b : T) (q : P) (v : World) (journal : Journal) : Type 0 where
-  pub led : IsLedTo h k limits most a p w v journal
+    (a : T) (p : P) (w : World) (before : Journal) (b : T) (q : P) (v : World) (journal : Journal) : Type 0 where
+  pub led : IsLedTo h k limits most a p w before v journal
   pub said : (moment : ℕ) → k.said led.clock moment → k.said q moment
   pub faults : h.faults led.left ≤ h.faults b

@@ -120,13 +120,13 @@ pub record BreaksOff {T P : Type 0} (h : transport.Ghosts T) (k : pacer.Ghosts P
   pub says : Says k now clock q
   pub last : ((b ≡ before) × (e ≡ OutOfMemory)) ⊎ IsRefusedAt h limits now before b journal v e
 
--- A trail of at most so many turns and rests led to this world, and where it is another one than at first, it and its journal are within the
--- limits.
+-- A trail of at most so many turns and rests led to this world: it is the one at first, and its journal ends where that one's did, or it and its journal
+-- are within the limits.
 pub record IsLedTo {T P : Type 0} (h : transport.Ghosts T) (k : pacer.Ghosts P) (limits : Limits) (most : ℕ)
-    (a : T) (p : P) (w v : World) (journal : Journal) : Type 0 where
+    (a : T) (p : P) (w : World) (before : Journal) (v : World) (journal : Journal) : Type 0 where
   pub all : ℕ
   pub few : all ≤ most
   pub left : T
   pub clock : P
   pub goes : Goes h k limits all a p w left clock v
-  pub fits : (v ≡ w) ⊎ FitsIn limits v journal
+  pub fits : ((v ≡ w) × (journal.end ≡ before.end)) ⊎ FitsIn limits v journal

@@ -54,7 +54,7 @@ pub fn run<D: Disk, T: Transport, P: Pacer>(
     requires stands { IsTrue (D.tells one.old) → IsTrue (D.tells two.old) → StandsFor D.Disk store.old one.old two.old }
     requires limits { AreLimits limits.now }
     // At each moment, and then, the store has what a trail of at most as many turns and rests as are given led to, within the limits of nodes and of bytes.
-    ensures stepped { Stepped D.Disk (IsLedWithin T.Transport P.Pacer limits.now turns transport.old pacer.old store.old.world.world transport.new pacer.new)
+    ensures stepped { Stepped D.Disk (IsLedWithin T.Transport P.Pacer limits.now turns transport.old pacer.old store.old.world.world store.old.journal transport.new pacer.new)
         (is_live_after result) store.old one.old two.old store.new one.new two.new }
     // Each turn is taken with the answer to its own call of the transport, at a moment that the clock was asked for once, one after another from
     // transport, clock and world as they were to those that are left, in the order of the seed. So it is up to where a run breaks off: there a turn is

@@ -1,6 +1,6 @@
 -- A store that is made, and what is left on the disks from then on.
 use Rattle.std.proofs.Common.{◌≡◌, ◌⊎◌, inl, inr, ⊎_elim, ◌≤◌, ℕ, Bool, true, false, List, Result, Ok, Err, refl, sym, ap, subst, ◌∙◌, arith}
-use Rattle.std.specs.Prelude.{IfErr, IsTrue}
+use Rattle.std.specs.Prelude.{IfErr, IsErrAnd, IsTrue}
 use Rattle.std.proofs.lemmas.Bool.{false≢true}
 use Rattle.wc_disk.specs.declared.disk.Disk as disk
 use Rattle.wc_disk.specs.Images.{LeavesOnly}
@@ -8,21 +8,22 @@ use Rattle.wc_disk.specs.Steps.{Only}
 use Rattle.wc_disk.proofs.Runs.{no_call, both_runs, weaker_run}
 use Rattle.wc_journal.specs.declared.journal.Journal.{Journal}
 use Rattle.wc_world.specs.World.{World, empty}
-use Rattle.wc_store.specs.Stepped.{HoldsSome, LeavesWorlds, of_world}
+use Rattle.wc_store.specs.Stepped.{HoldsSome, LeavesHeld}
 use Rattle.wc_store.specs.Held.{IsHeld, Standing, nothing, a_world}
 use Rattle.wc_store.specs.Refusals.{RefusesInit, IsDamageOf}
 use Rattle.wc_store.specs.Refusals.{Counts as CountsStore, IsUnchanged as IsUnchangedStore}
 use Rattle.wc_store.specs.declared.store.Store.{Store}
 use Rattle.wc_store.specs.Sights.{OfImages}
-use Rattle.wc_store.specs.Stores.{AreImages, BeginsFrom, HoldsAWorld, InitLeaves, InOnePart, InTwoParts, IsMadeOf}
+use Rattle.wc_store.specs.Stores.{AreImages, BeginsFrom, HoldsAWorld, HoldsBy, InitLeaves, InOnePart, InTwoParts, IsMadeOf}
 use Rattle.wc_store.specs.declared.error.StoreError.{StoreError}
 use Rattle.wc_store.specs.declared.error.StoreError.TheVariants as store_error
 use Rattle.wc_store.specs.declared.place.Place.TheVariants.{One}
 use Rattle.wc_drill.specs.declared.error.DrillError.{DrillError}
 use Rattle.wc_drill.specs.declared.error.DrillError.TheVariants as drill
-use Rattle.wc_drill.specs.Drilled.{Drills}
-use Rattle.wc_drill.specs.Leaves.{IsHeldAfter, DrilledBeside, DrilledOr, HoldsOnOne, IsBegun, IsFilled, IsOfDrill, RefusedLeaves}
+use Rattle.wc_drill.specs.Drilled.{Drills, DrillsBy}
+use Rattle.wc_drill.specs.Leaves.{AreDurable, IsHeldAfter, DrilledBeside, HoldsOnOne, IsBegun, IsFilled, IsOfDrill, IsUnfailed, RefusedLeaves}
 use Rattle.wc_drill.specs.Refusals.{Counts, IsOfInit, RefusesDrill, RefusesDrilled, of_init}
+use Rattle.wc_drill.proofs.Fitting.{empty_fits}
 use Rattle.wc_drill.proofs.Joined.{of_some}
 use Rattle.wc_drill.specs.Drilled as drilled
 
@@ -31,7 +32,21 @@ begins : (seed count : ℕ) → Drills seed count empty
 begins seed count = of_some seed count empty (0, omega arith, drilled.none empty)
 
 of_beginning : (seed count : ℕ) (one two image rest : List ℕ) → BeginsFrom one two image rest → IsOfDrill seed count one two image rest
-of_beginning seed count one two image rest b = record { before = b.before; held = ⊎_elim (λ none. inl none) (λ held. inr (empty, begins seed count, held)) b.held }
+of_beginning seed count one two image rest b = record {
+  before = b.before;
+  held = ⊎_elim (λ none. inl none)
+      (λ held. inr (
+        empty,
+        held.0,
+        record {
+          drills = begins seed count;
+          fits = empty_fits empty held.0 refl held.1.end held.1.version;
+          version = held.1.version;
+          generation = held.1.generation;
+        },
+        held.2,
+      )) b.held;
+}
 
 module _ {D : Type 0} (g : disk.Ghosts D) (at_now : (d : D) (image : List ℕ) → g.left_since d (g.moment d) image → g.may_leave d image)
     (counts : (d : D) (t : ℕ) (image : List ℕ) → t ≤ g.moment d → g.may_leave d image → g.left_since d t image)
@@ -93,28 +108,19 @@ module _ {D : Type 0} (g : disk.Ghosts D) (at_now : (d : D) (image : List ℕ) �
 
   module _ (one two one_mid two_mid one_new two_new : D) (parts : InTwoParts g one two one_mid two_mid (BeginsFrom (g.seen one) (g.seen two)))
       (before : IsHeld (g.seen one) (g.seen two) nothing) (durable : Only (g.seen two_mid) (g.may_leave two_mid))
-      (leaves : LeavesWorlds g One (Drills seed count) one_mid two_mid one_new two_new) where
+      (leaves : LeavesHeld g One (DrillsBy seed count) one_mid two_mid one_new two_new) where
     -- an image that disk two may leave in the end is what it reads as
     rest_is : (b : List ℕ) → g.may_leave two_new b → b ≡ g.seen two_mid
     rest_is b now = durable b (subst (λ (d : D). g.may_leave d b) leaves.untouched now)
 
     pub made : LeavesOnly g one one_new (DrilledBeside g seed count one two two_new)
-    made = both_runs g one one_mid one_new (DrilledBeside g seed count one two two_mid) (HoldsSome One (of_world (Drills seed count)) (g.seen two_mid))
+    made = both_runs g one one_mid one_new (DrilledBeside g seed count one two two_mid) (HoldsSome One (DrillsBy seed count) (g.seen two_mid))
         (DrilledBeside g seed count one two two_new) (two_parts one two one_mid two_mid parts) leaves.each
         (λ a. ⊎_elim (λ was. inl was) (λ f. inr (λ b now. f b (subst (λ (d : D). g.may_leave d b) leaves.untouched now))))
         (λ a h. inr (λ b now. record {
           before = before;
-          held = inr (h.0, h.2, subst (λ (rest : List ℕ). IsHeld a rest (a_world h.0)) (sym (rest_is b now)) h.3.held);
+          held = inr (h.0, h.1, h.2, subst (λ (rest : List ℕ). HoldsBy One a rest h.0 h.1) (sym (rest_is b now)) h.3);
         }))
-
-  -- ---- beside what disk two reads as
-
-  pub beside_read : (one two one_new two_new : D) → IsTrue (g.tells two_new) → g.seen two_new ≡ g.seen two → LeavesOnly g one one_new (DrilledBeside g seed count one two two_new)
-      → LeavesOnly g one one_new (DrilledOr seed count (g.seen one) (g.seen two) (g.may_leave one))
-  beside_read one two one_new two_new told same run =
-      weaker_run g one one_new (DrilledBeside g seed count one two two_new) (DrilledOr seed count (g.seen one) (g.seen two) (g.may_leave one)) run
-      (λ a. ⊎_elim (λ was. inl was)
-      (λ f. inr (subst (λ (rest : List ℕ). IsOfDrill seed count (g.seen one) (g.seen two) a rest) same (f (g.seen two_new) (reads two_new told)))))
 
 -- ---- refusals
 
@@ -167,7 +173,7 @@ told_mid g one two one_mid two_mid tells told told_too =
 -- a store is made, and drilled
 module _ {D : Type 0} (g : disk.Ghosts D) (seed count : ℕ) (one two one_mid two_mid one_new two_new : D)
     (tells : (g.tells one_mid ≡ g.tells one) × (g.tells two_mid ≡ g.tells two)) (same : g.seen two_mid ≡ g.seen two)
-    (leaves : IsTrue (g.tells one_mid) → IsTrue (g.tells two_mid) → LeavesWorlds g One (Drills seed count) one_mid two_mid one_new two_new) where
+    (leaves : IsTrue (g.tells one_mid) → IsTrue (g.tells two_mid) → LeavesHeld g One (DrillsBy seed count) one_mid two_mid one_new two_new) where
   untouched : IsTrue (g.tells one) → IsTrue (g.tells two) → two_new ≡ two_mid
   untouched told told_too = let t = told_mid g one two one_mid two_mid tells told told_too in (leaves t.0 t.1).untouched
 
@@ -207,9 +213,9 @@ module _ {D : Type 0} (g : disk.Ghosts D) (seed count : ℕ) (one two one_new tw
       → IsUnchangedStore {T = Store} (Err e) (g.seen one) (g.seen one_new) → RefusedLeaves {T = A} g (Err (of_init e)) one two one_new two_new
   init_unbegun A store_error.DiskFault leaves same = tt
   init_unbegun A (store_error.Damaged disk at found) leaves same = (leaves, same)
-  init_unbegun A (store_error.Full what most limit) leaves same = tt
+  init_unbegun A (store_error.Full what most limit) leaves same = inl (leaves, same)
   init_unbegun A store_error.AlreadyThere leaves same = (leaves, same)
-  init_unbegun A store_error.OutOfMemory leaves same = tt
+  init_unbegun A store_error.OutOfMemory leaves same = inl (leaves, same)
 
   -- however a world is held that the images hold too
   module _ (Holds : World → Journal → Type 0) where
@@ -222,11 +228,28 @@ module _ {D : Type 0} (g : disk.Ghosts D) (seed count : ℕ) (one two one_new tw
     drilled_refused fills drill.AlreadyThere h = absurd h
     drilled_refused fills drill.OutOfMemory h = tt
 
-    pub drilled_unbegun : {A : Type 0} (result : Result A DrillError) → IfErr result (RefusesDrilled Holds seed count)
+    pub drilled_unbegun : {A : Type 0} (result : Result A DrillError) → IfErr result (RefusesDrilled Holds seed count) → (IsUnfailed result → AreDurable g one_new two_new)
         → RefusedLeaves g result one two one_new two_new
-    drilled_unbegun (Ok a) h = tt
-    drilled_unbegun (Err drill.DiskFault) h = tt
-    drilled_unbegun (Err (drill.Damaged disk at found)) h = absurd h
-    drilled_unbegun (Err (drill.Full what most limit)) h = tt
-    drilled_unbegun (Err drill.AlreadyThere) h = absurd h
-    drilled_unbegun (Err drill.OutOfMemory) h = tt
+    drilled_unbegun (Ok a) h durable = tt
+    drilled_unbegun (Err drill.DiskFault) h durable = tt
+    drilled_unbegun (Err (drill.Damaged disk at found)) h durable = absurd h
+    drilled_unbegun (Err (drill.Full what most limit)) h durable = tt
+    drilled_unbegun (Err drill.AlreadyThere) h durable = absurd h
+    drilled_unbegun (Err drill.OutOfMemory) h durable = inr (durable tt)
+
+-- where a store was made and nothing failed, no disk failed
+pub begun_unfailed : {A : Type 0} (result : Result A DrillError) → IsBegun result → IsUnfailed result
+begun_unfailed (Ok a) begun = tt
+begun_unfailed (Err drill.DiskFault) begun = absurd begun
+begun_unfailed (Err (drill.Damaged disk at found)) begun = tt
+begun_unfailed (Err (drill.Full what most limit)) begun = tt
+begun_unfailed (Err drill.AlreadyThere) begun = tt
+begun_unfailed (Err drill.OutOfMemory) begun = tt
+
+-- memory ran out before any disk was called
+pub lost_unbegun : {D A : Type 0} (g : disk.Ghosts D) → ((d : D) (image : List ℕ) → g.left_since d (g.moment d) image → g.may_leave d image)
+    → (one two : D) (result : Result A DrillError) → IsErrAnd result (λ e. e ≡ drill.OutOfMemory) → RefusedLeaves g result one two one two
+lost_unbegun g at_now one two (Ok a) is = absurd is
+lost_unbegun {D} {A} g at_now one two (Err e) is =
+    subst (λ (x : DrillError). RefusedLeaves {T = A} g (Err x) one two one two) (sym is)
+    (inl (record { only_one = no_call g one (g.may_leave one) (at_now one); only_two = no_call g two (g.may_leave two) (at_now two) }, refl))

@@ -17,7 +17,7 @@ use Rattle.wc_store.specs.Stores.{other, IsOfImages, LeadsTo, StandsFor}
 use Rattle.wc_store.specs.declared.place.Place.{Place}
 use Rattle.wc_store.specs.declared.store.Store.{Store}
 use Rattle.wc_drill.specs.Drilled.{Drills, HasDrilled, Submitted, outside, turns_of}
-use Rattle.wc_drill.specs.Leaves.{AreDurable, IsHeldAfter, HoldsOnOne, IsBegun, IsFirst}
+use Rattle.wc_drill.specs.Leaves.{AreDurable, IsHeldAfter, HoldsOnOne, IsOnDiskOne, IsUnfailed}
 use Rattle.wc_drill.specs.Refusals.{Counts, RefusesChains, RefusesDrilled, of_run}
 use Rattle.wc_drill.specs.Runs.{EndsAll, TakesFewer}
 use Rattle.wc_drill.specs.Submissions.{SubmittedSome}
@@ -36,7 +36,7 @@ of_turns seed count u v s t = record { chains = count; some = omega arith; begun
 -- ---- a new store
 
 -- what two images hold that hold a store on disk one
-holds_of : (store : Store) (one two : List ℕ) → IsFirst store → IsOfImages store one two → HoldsOnOne one two store.world.world store.journal
+holds_of : (store : Store) (one two : List ℕ) → IsOnDiskOne store → IsOfImages store one two → HoldsOnOne one two store.world.world store.journal
 holds_of store one two made o = record {
   held = o.held;
   batches = o.batches;
@@ -47,7 +47,7 @@ holds_of store one two made o = record {
 }
 
 -- what a store on disk one comes to by those that it leads to
-pub comes_to : {D : Type 0} (g : disk.Ghosts D) (told : Type 0) (old store : Store) (one two : D) → IsFirst old → IsFirst store → LeadsTo old store
+pub comes_to : {D : Type 0} (g : disk.Ghosts D) (told : Type 0) (old store : Store) (one two : D) → IsOnDiskOne old → IsOnDiskOne store → LeadsTo old store
     → (told → StandsFor g store one two) → IsHeldAfter g told old one two store.world.world store.journal
 comes_to g told old store one two made still leads stands = record {
   seen = λ t.
@@ -112,11 +112,11 @@ module _ (seed count : ℕ) (Holds : World → Journal → Type 0) (store : Stor
 pub durable : {D : Type 0} (g : disk.Ghosts D) (store : Store) (one two : D) → StandsFor g store one two → AreDurable g one two
 durable g store one two s = record { durable_one = s.durable_one; durable_two = s.durable_two }
 
--- a store that is left by what broke off is live where a store was made and no disk failed
-pub live_begun : (A B : Type 0) (e : RunError) → IsBegun {T = B} (Err (of_run e)) → is_live_after {T = A} (Err e) ≡ true
-live_begun A B run.DiskFault begun = absurd begun
-live_begun A B (run.Full what most limit) begun = refl
-live_begun A B run.OutOfMemory begun = absurd begun
+-- a store that is left by what broke off is live where no disk failed
+pub live_unfailed : (A B : Type 0) (e : RunError) → IsUnfailed {T = B} (Err (of_run e)) → is_live_after {T = A} (Err e) ≡ true
+live_unfailed A B run.DiskFault whole = absurd whole
+live_unfailed A B (run.Full what most limit) whole = refl
+live_unfailed A B run.OutOfMemory whole = refl
 
 -- ---- counts
 

@@ -20,3 +20,4 @@ mod PairRuns
 mod PairCost
 mod NewPairs
 mod EnoughTurns
+pub mod Fitting

@@ -1,6 +1,9 @@
 -- What a drill makes of the empty world, as events of the machine one after another.
 use Rattle.std.specs.Prelude.{◌≡◌, ◌⊎◌, ◌≤◌, ◌*◌, ℕ, zero, suc, false, List, [], length}
+use Rattle.wc_journal.specs.declared.journal.Journal.{Journal}
 use Rattle.wc_state.specs.declared.record.Limits.{Limits}
+use Rattle.wc_store.specs.Stepped.{IsAsBefore}
+use Rattle.wc_store.specs.declared.store.Store.{Store}
 use Rattle.wc_world.specs.declared.change.Change.{Change}
 use Rattle.wc_world.specs.World.{World, empty}
 use Rattle.wc_world.specs.Accepted.{IsAccepted}
@@ -9,7 +12,7 @@ use Rattle.wc_machine.specs.Machine.{Event, Leads, submit}
 use Rattle.wc_ends.specs.Runner.Standing.{is_any_live}
 use Rattle.wc_ends.specs.Runner.Leaves.{SomeTurns}
 use Rattle.wc_ends.specs.Runner.Outside.{Outside}
-use Rattle.wc_ends.specs.Runner.Runs.{TakesTurns}
+use Rattle.wc_ends.specs.Runner.Runs.{FitsIn, TakesTurns}
 use Rattle.wc_drill.specs.Draws.{first_number, second_number}
 use Rattle.wc_drill.specs.Library.{library, chain_name, chain_inputs}
 use Rattle.wc_drill.specs.Squares.{IsSquared}
@@ -33,6 +36,10 @@ outside = record {
 -- how many turns so many chains take: six for a chain (three steps, two bindings and its end), five for each of its two jobs, and one for its function
 abbrev pub turns_of : ℕ → ℕ
 turns_of chains = 17 * chains
+
+-- the world, by its journal, is the store's, or both are within the limits
+abbrev pub StaysOrFits : Store → World → Journal → Type 0
+StaysOrFits store v journal = IsAsBefore store v journal ⊎ FitsIn usual_limits v journal
 
 -- ---- submissions
 
@@ -64,6 +71,13 @@ pub record Drills (seed count : ℕ) (v : World) : Type 0 where
   pub submitted : Submitted seed chains empty begun
   pub takes : SomeTurns outside (turns_of count) begun v
   pub order : (v ≡ begun) ⊎ (chains ≡ count)
+
+-- What it has made so, kept by a journal of version 2 and generation 1; both are within the limits.
+pub record DrillsBy (seed count : ℕ) (v : World) (journal : Journal) : Type 0 where
+  pub drills : Drills seed count v
+  pub fits : FitsIn usual_limits v journal
+  pub version : journal.version ≡ 2
+  pub generation : journal.generation ≡ 1
 
 -- What it has made in the end: all of its chains are submitted, turns and rests follow, and each process has ended.
 pub record HasDrilled (seed count : ℕ) (v : World) : Type 0 where

@@ -8,24 +8,20 @@ use Rattle.wc_world.specs.World.{World}
 use Rattle.wc_store.specs.Choices.{chosen, on}
 use Rattle.wc_store.specs.Held.{IsHeld, nothing, a_world}
 use Rattle.wc_store.specs.Places.{number_of}
-use Rattle.wc_store.specs.Stores.{InOnePart, InTwoParts, AreImages, IsOfImages}
+use Rattle.wc_store.specs.Stores.{InOnePart, InTwoParts, AreImages, HoldsBy, IsOfImages}
 use Rattle.wc_store.specs.declared.place.Place.TheVariants.{One}
 use Rattle.wc_store.specs.declared.store.Store.{Store}
 use Rattle.wc_drill.specs.declared.error.DrillError.{DrillError}
 use Rattle.wc_drill.specs.declared.error.DrillError.TheVariants.{DiskFault, Damaged, Full, AlreadyThere, OutOfMemory}
-use Rattle.wc_drill.specs.Drilled.{Drills}
+use Rattle.wc_drill.specs.Drilled.{DrillsBy}
 
--- An image of disk one, beside one of disk two, is one of a drill: where the disks held nothing, the two hold nothing, or a world that the drill
--- makes of the empty one.
+-- An image of disk one, beside one of disk two, is one of a drill: where the disks held nothing, the two hold nothing, or what the drill makes, by its
+-- journal on disk one.
 pub record IsOfDrill (seed count : ℕ) (one two image rest : List ℕ) : Type 0 where
   pub before : IsHeld one two nothing
-  pub held : IsHeld image rest nothing ⊎ ((v : World) × Drills seed count v × IsHeld image rest (a_world v))
+  pub held : IsHeld image rest nothing ⊎ ((v : World) × (journal : Journal) × DrillsBy seed count v journal × HoldsBy One image rest v journal)
 
--- the image is one that a crash at entry might have left, or one of the drill beside what disk two reads as
-abbrev pub DrilledOr : (seed count : ℕ) → (one two : List ℕ) → (List ℕ → Type 0) → List ℕ → Type 0
-DrilledOr seed count one two before image = before image ⊎ IsOfDrill seed count one two image two
-
--- or one of the drill beside each image that disk two may leave in the end
+-- the image is one that a crash at entry might have left, or one of the drill beside each image that disk two may leave in the end
 abbrev pub DrilledBeside : {D : Type 0} → disk.Ghosts D → (seed count : ℕ) → (one two two_new : D) → List ℕ → Type 0
 DrilledBeside g seed count one two two_new image =
     g.may_leave one image ⊎ ((rest : List ℕ) → g.may_leave two_new rest → IsOfDrill seed count (g.seen one) (g.seen two) image rest)
@@ -36,8 +32,8 @@ pub record AreDurable {D : Type 0} (g : disk.Ghosts D) (one two : D) : Type 0 wh
   pub durable_two : Only (g.seen two) (g.may_leave two)
 
 -- The store is on disk one, and kept by a journal of generation 1 and version 2.
-abbrev pub IsFirst : Store → Type 0
-IsFirst store = (store.place ≡ One) × (store.journal.generation ≡ 1) × (store.journal.version ≡ 2)
+abbrev pub IsOnDiskOne : Store → Type 0
+IsOnDiskOne store = (store.place ≡ One) × (store.journal.generation ≡ 1) × (store.journal.version ≡ 2)
 
 -- The two images hold this world, by this journal on disk one, which is of generation 1 and version 2.
 pub record HoldsOnOne (one two : List ℕ) (w : World) (journal : Journal) : Type 0 where
@@ -74,8 +70,15 @@ IsBegun (Err (Full what count limit)) = Unit {0}
 IsBegun (Err AlreadyThere) = ⊥
 IsBegun (Err OutOfMemory) = ⊥
 
--- what a drill leaves that wasn't begun, since there is a store, or damage
+-- no disk failed
+abbrev pub IsUnfailed : {T : Type 0} → Result T DrillError → Type 0
+IsUnfailed (Err DiskFault) = ⊥
+IsUnfailed _ = Unit {0}
+
+-- what a drill leaves that wasn't begun, since there is a store, or damage; and where memory ran out: nothing was written, or what was committed stays,
+-- nothing being pending on either disk
 abbrev pub RefusedLeaves : {D T : Type 0} → disk.Ghosts D → Result T DrillError → (one two one_new two_new : D) → Type 0
 RefusedLeaves g (Err (Damaged number at found)) one two one_new two_new = InOnePart g one two one_new two_new × (g.seen one_new ≡ g.seen one)
 RefusedLeaves g (Err AlreadyThere) one two one_new two_new = InTwoParts g one two one_new two_new (AreImages (g.seen one) (g.seen two)) × (g.seen one_new ≡ g.seen one)
+RefusedLeaves g (Err OutOfMemory) one two one_new two_new = (InOnePart g one two one_new two_new × (g.seen one_new ≡ g.seen one)) ⊎ AreDurable g one_new two_new
 RefusedLeaves g _ one two one_new two_new = Unit {0}

@@ -10,10 +10,11 @@ use Rattle.wc_machine.specs.Machine.{Leads}
 use Rattle.wc_machine.specs.Refusals.{HasRoom, IsFull}
 use Rattle.wc_store.specs.Held.{is_plain}
 use Rattle.wc_store.specs.Refusals.{RefusesCommit}
+use Rattle.wc_store.specs.declared.store.Store.{Store}
 use Rattle.wc_store.specs.declared.error.StoreError.TheVariants as store_error
 use Rattle.wc_ends.specs.Runner.declared.error.RunError.{RunError}
 use Rattle.wc_ends.specs.Runner.declared.error.RunError.TheVariants.{DiskFault, Full, OutOfMemory}
-use Rattle.wc_drill.specs.Drilled.{usual_limits, submits_chain, IsSubmitted, Submitted}
+use Rattle.wc_drill.specs.Drilled.{usual_limits, submits_chain, IsSubmitted, StaysOrFits, Submitted}
 
 -- The changes are those of the submission of a chain with these numbers, and a store may commit them.
 pub record IsStorable (first second : ℕ) (w : World) (cs : List Change) : Type 0 where
@@ -52,3 +53,13 @@ IsOrSubmitted first second w v = (v ≡ w) ⊎ IsSubmitted first second w v
 -- what the first of so many submissions make of the world
 abbrev pub SubmittedSome : (seed count : ℕ) → World → World → Type 0
 SubmittedSome seed count w v = (n : ℕ) × (n ≤ count) × Submitted seed n w v
+
+-- ---- by their journals
+
+-- a store comes to what a submission leaves, by its journal as it was, or within the limits
+abbrev pub SubmitsOne : (first second : ℕ) → Store → World → Journal → Type 0
+SubmitsOne first second store v journal = IsOrSubmitted first second store.world.world v × StaysOrFits store v journal
+
+-- or to what the first of so many submissions leave
+abbrev pub SubmitsSome : (seed count : ℕ) → Store → World → Journal → Type 0
+SubmitsSome seed count store v journal = SubmittedSome seed count store.world.world v × StaysOrFits store v journal

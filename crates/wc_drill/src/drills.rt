@@ -5,17 +5,16 @@ ghost use Rattle.wc_world.specs.World.{World as AWorld, empty};
 ghost use Rattle.wc_disk.specs.Images.{LeavesOnly};
 ghost use Rattle.wc_store.specs.Held.{IsHeld, nothing};
 ghost use Rattle.wc_journal.specs.declared.journal.Journal.{Journal as AJournal};
-ghost use Rattle.wc_store.specs.Stepped.{LeavesWorlds, Stepped, of_world};
-ghost use Rattle.wc_store.specs.Stores.{StandsFor};
+ghost use Rattle.wc_store.specs.Stepped.{LeavesHeld, Stepped};
+ghost use Rattle.wc_store.specs.Stores.{IsNew, StandsFor};
 ghost use Rattle.wc_store.specs.declared.place.Place.TheVariants.{One};
-ghost use Rattle.wc_ends.specs.Runner.Leaves.{SomeTurns};
 ghost use Rattle.wc_ends.specs.Runner.Refusals.{RefusesRun, is_live_after};
 ghost use Rattle.wc_drill.specs.Library.{library};
 ghost use Rattle.wc_drill.specs.Squares.{square_rows};
-ghost use Rattle.wc_drill.specs.Drilled.{Drills, HasDrilled, Submitted, outside, turns_of};
-ghost use Rattle.wc_drill.specs.Leaves.{AreDurable, DrilledBeside, DrilledOr, IsBegun, IsFilled, IsFirst, IsHeldAfter, RefusedLeaves};
+ghost use Rattle.wc_drill.specs.Drilled.{DrillsBy, HasDrilled, Submitted, outside, turns_of};
+ghost use Rattle.wc_drill.specs.Leaves.{AreDurable, DrilledBeside, IsBegun, IsFilled, IsHeldAfter, IsUnfailed, RefusedLeaves};
 ghost use Rattle.wc_drill.specs.Refusals.{Counts, IsOfInit, RefusesDrill, RefusesDrilled, of_init};
-ghost use Rattle.wc_drill.specs.Runs.{EndsAll, TakesFewer};
+ghost use Rattle.wc_drill.specs.Runs.{EndsAll, TakesFewer, TakesSome};
 
 use crate::error::DrillError;
 use crate::runs::run_chains;
@@ -58,7 +57,7 @@ fn run_all<D: Disk>(
     requires live { store.old.live ≡ true }
     requires submitted { (seed : ℕ) × Submitted seed count empty store.old.world.world }
     requires stands { IsTrue (D.tells one.old) → IsTrue (D.tells two.old) → StandsFor D.Disk store.old one.old two.old }
-    ensures stepped { Stepped D.Disk (of_world (SomeTurns outside (turns_of count) store.old.world.world)) (is_live_after result) store.old one.old two.old store.new one.new two.new }
+    ensures stepped { Stepped D.Disk (TakesSome (turns_of count) store.old) (is_live_after result) store.old one.old two.old store.new one.new two.new }
     ensures ends { IfOk result (EndsAll store.new.world.world) }
     ensures early { OnErr result (TakesFewer (turns_of count) store.old.world.world store.new.world.world) }
     ensures refused { IfErr result (RefusesRun outside store.new) }
@@ -83,15 +82,13 @@ fn drilled<D: Disk>(
     requires few { count ≤ 10000 }
     requires library { chains.now ≡ library }
     requires table { table ≡ square_rows 100 }
-    requires live { store.live ≡ true }
-    requires empty { store.world.world ≡ empty }
-    requires made { IsFirst store }
+    requires fresh { IsNew store }
     requires stands { IsTrue (D.tells one.old) → IsTrue (D.tells two.old) → StandsFor D.Disk store one.old two.old }
     ensures done { IfOk result (λ batches. (w : AWorld) × HasDrilled seed count w × (batches ≡ w.batches)
         × ((journal : AJournal) × IsHeldAfter D.Disk (IsTrue (D.tells one.old) × IsTrue (D.tells two.old)) store one.new two.new w journal)) }
     ensures refused { IfErr result (RefusesDrilled (IsHeldAfter D.Disk (IsTrue (D.tells one.old) × IsTrue (D.tells two.old)) store one.new two.new) seed count) }
-    ensures durable { IsBegun result → IsTrue (D.tells one.old) → IsTrue (D.tells two.old) → AreDurable D.Disk one.new two.new }
-    ensures any_moment { IsTrue (D.tells one.old) → IsTrue (D.tells two.old) → LeavesWorlds D.Disk One (Drills seed count) one.old two.old one.new two.new }
+    ensures durable { IsUnfailed result → IsTrue (D.tells one.old) → IsTrue (D.tells two.old) → AreDurable D.Disk one.new two.new }
+    ensures any_moment { IsTrue (D.tells one.old) → IsTrue (D.tells two.old) → LeavesHeld D.Disk One (DrillsBy seed count) one.old two.old one.new two.new }
     ensures tells { (D.tells one.new ≡ D.tells one.old) × (D.tells two.new ≡ D.tells two.old) }
     ensures cause { Counts result (D.faults one.old) (D.faults one.new) (D.faults two.old) (D.faults two.new) (D.failed one.new) (D.failed two.new) }
 {
@@ -120,11 +117,10 @@ pub fn drill<D: Disk>(
     ensures nothing { IsBegun result → IsTrue (D.tells one.old) → IsTrue (D.tells two.old) → IsHeld (D.seen one.old) (D.seen two.old) nothing }
     ensures refused { IfErr result (RefusesDrill D.Disk seed count one.old two.old one.new two.new) }
     ensures durable { IsBegun result → IsTrue (D.tells one.old) → IsTrue (D.tells two.old) → AreDurable D.Disk one.new two.new }
+    // A drill that wasn't begun wrote nothing; and where memory ran out, nothing was written, or what was committed stays.
     ensures unbegun { IsTrue (D.tells one.old) → IsTrue (D.tells two.old) → RefusedLeaves D.Disk result one.old two.old one.new two.new }
     ensures seen_two { IsTrue (D.tells one.old) → IsTrue (D.tells two.old) → D.seen two.new ≡ D.seen two.old }
-    // Disk two is not written, and each image of disk one is one that a crash at entry might have left, or holds what the drill makes.
-    ensures any_moment_one { IsTrue (D.tells one.old) → IsTrue (D.tells two.old)
-        → LeavesOnly D.Disk one.old one.new (DrilledOr seed count (D.seen one.old) (D.seen two.old) (D.may_leave one.old)) }
+    // Disk two is not written, and each image of disk one is one that a crash at entry might have left, or holds what the drill makes, by its journal.
     ensures beside { IsTrue (D.tells one.old) → IsTrue (D.tells two.old)
         → LeavesOnly D.Disk one.old one.new (DrilledBeside D.Disk seed count one.old two.old two.new) }
     ensures any_moment_two { IsTrue (D.tells one.old) → IsTrue (D.tells two.old) → LeavesOnly D.Disk two.old two.new (D.may_leave two.old) }

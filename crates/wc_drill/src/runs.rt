@@ -1,13 +1,12 @@
 //! The run of a drill.
 
 ghost use Rattle.std.specs.Prelude.{◌≡◌, Some, true, IsTrue, IfOk, IfErr, OnErr};
-ghost use Rattle.wc_store.specs.Stepped.{Stepped, of_world};
+ghost use Rattle.wc_store.specs.Stepped.{Stepped};
 ghost use Rattle.wc_store.specs.Stores.{StandsFor};
-ghost use Rattle.wc_ends.specs.Runner.Leaves.{SomeTurns};
 ghost use Rattle.wc_ends.specs.Runner.Refusals.{RefusesRun, is_live_after};
 ghost use Rattle.wc_drill.specs.Squares.{square_rows};
 ghost use Rattle.wc_drill.specs.Drilled.{outside};
-ghost use Rattle.wc_drill.specs.Runs.{EndsAll, TakesFewer};
+ghost use Rattle.wc_drill.specs.Runs.{EndsAll, TakesFewer, TakesSome};
 ghost use Rattle.wc_ends.specs.Enough.{HasEnough};
 ghost use Rattle.wc_world.specs.Accepted.{IsReached};
 
@@ -35,8 +34,8 @@ pub(crate) fn run_chains<D: Disk, T: Transport, P: Pacer>(
     requires table { T.table transport.old ≡ Some (square_rows 100) }
     requires reached { IsReached store.old.world.world }
     requires enough { HasEnough T.Transport P.Pacer transport.old pacer.old store.old.world.world turns }
-    // At each moment, and then, the store has what at most as many turns and rests as are given make.
-    ensures stepped { Stepped D.Disk (of_world (SomeTurns outside turns store.old.world.world)) (is_live_after result) store.old one.old two.old store.new one.new two.new }
+    // At each moment, and then, the store has what at most as many turns and rests as are given make, by its journal.
+    ensures stepped { Stepped D.Disk (TakesSome turns store.old) (is_live_after result) store.old one.old two.old store.new one.new two.new }
     ensures ends { IfOk result (EndsAll store.new.world.world) }
     ensures early { OnErr result (TakesFewer turns store.old.world.world store.new.world.world) }
     ensures refused { IfErr result (RefusesRun outside store.new) }

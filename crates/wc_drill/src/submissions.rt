@@ -2,14 +2,14 @@
 
 ghost use Rattle.std.specs.Prelude.{◌≡◌, true, IsTrue, IfOk, IfErr, OnOk, OnErr};
 ghost use Rattle.wc_state.specs.Ranges.{AreLimits};
-ghost use Rattle.wc_store.specs.Stepped.{IsAsBefore, Stepped, of_world};
+ghost use Rattle.wc_store.specs.Stepped.{IsAsBefore, Stepped};
 ghost use Rattle.wc_store.specs.Stores.{StandsFor};
 ghost use Rattle.wc_ends.specs.Runner.Refusals.{is_live_after};
 ghost use Rattle.wc_ends.specs.Runner.Turns.{IsRoomOrMemory, of_turn};
 ghost use Rattle.wc_drill.specs.Library.{library};
 ghost use Rattle.wc_drill.specs.Drilled.{IsSubmitted, Submitted, usual_limits};
 ghost use Rattle.wc_drill.specs.Refusals.{RefusesChains};
-ghost use Rattle.wc_drill.specs.Submissions.{IsCrowded, IsOrSubmitted, IsStorable, RefusesChain, SubmittedSome};
+ghost use Rattle.wc_drill.specs.Submissions.{IsCrowded, IsStorable, RefusesChain, SubmitsOne, SubmitsSome};
 
 use crate::{chain_inputs, chain_name, next_numbers};
 use std::alloc::Global;
@@ -89,8 +89,8 @@ fn submit_chain<D: Disk>(
     requires live { store.old.live ≡ true }
     requires stands { IsTrue (D.tells one.old) → IsTrue (D.tells two.old) → StandsFor D.Disk store.old one.old two.old }
     requires library { chains.now ≡ library }
-    // At each moment the disks hold the world before or the one after.
-    ensures stepped { Stepped D.Disk (of_world (IsOrSubmitted first second store.old.world.world)) (is_live_after result) store.old one.old two.old store.new one.new two.new }
+    // At each moment the disks hold the world before or the one after, each by its journal.
+    ensures stepped { Stepped D.Disk (SubmitsOne first second store.old) (is_live_after result) store.old one.old two.old store.new one.new two.new }
     ensures ok { OnOk result (IsSubmitted first second store.old.world.world store.new.world.world) }
     ensures same { OnErr result (IsAsBefore store.old store.new.world.world store.new.journal) }
     ensures refused { IfErr result (RefusesChain first second store.old.journal store.old.world.world) }
@@ -117,8 +117,8 @@ pub(crate) fn submit_chains<D: Disk>(
     requires live { store.old.live ≡ true }
     requires stands { IsTrue (D.tells one.old) → IsTrue (D.tells two.old) → StandsFor D.Disk store.old one.old two.old }
     requires library { chains.now ≡ library }
-    // At each moment the disks hold what the first submissions make.
-    ensures stepped { Stepped D.Disk (of_world (SubmittedSome seed count store.old.world.world)) (is_live_after result) store.old one.old two.old store.new one.new two.new }
+    // At each moment the disks hold what the first submissions make, by its journal.
+    ensures stepped { Stepped D.Disk (SubmitsSome seed count store.old) (is_live_after result) store.old one.old two.old store.new one.new two.new }
     ensures all { OnOk result (Submitted seed count store.old.world.world store.new.world.world) }
     ensures refused { IfErr result (RefusesChains seed count store.old.world.world store.new) }
 {

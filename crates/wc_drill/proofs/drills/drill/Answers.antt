@@ -5,13 +5,9 @@ use Rattle.wc_store.specs.declared.store.Store.{Store}
 use Rattle.wc_drill.specs.declared.error.DrillError.{DrillError}
 use Rattle.wc_drill.specs.Leaves.{IsBegun, RefusedLeaves}
 use Rattle.wc_drill.specs.Refusals.{Counts, RefusesDrill}
-use Rattle.wc_drill.proofs.Begun.{beside_read, counts_since, counts_unmade, drilled_refused, drilled_unbegun, filled, init_refused, init_unbegun, made, made_two, not_begun, of_init_alone, seen_still, told_mid, unasked, unasked_two, unmade}
+use Rattle.wc_drill.proofs.Begun.{begun_unfailed, counts_since, counts_unmade, drilled_refused, drilled_unbegun, filled, init_refused, init_unbegun, lost_unbegun, made, made_two, not_begun, of_init_alone, seen_still, told_mid, unasked, unasked_two, unmade}
 use Rattle.wc_drill.proofs.Results.{if_err, if_ok}
 use Rattle.wc_drill.proofs.drills.drill.Goals as goal
-
-pub returns-in_err-chains-clause-any_moment_one : goal.returns-in_err-chains-clause-any_moment_one
-returns-in_err-chains-clause-any_moment_one g c =
-    λ told told_too. beside_read g.D.Disk g.met.D.Disk.only_now g.met.D.Disk.counts_now g.met.D.Disk.reads_as c.args.seed c.args.count c.args.one.now c.args.two.now c.args.one.now c.args.two.now told_too refl (unasked g.D.Disk g.met.D.Disk.only_now g.met.D.Disk.counts_now g.met.D.Disk.reads_as c.args.seed c.args.count c.args.one.now c.args.two.now)
 
 pub returns-in_err-chains-clause-beside : goal.returns-in_err-chains-clause-beside
 returns-in_err-chains-clause-beside g c =
@@ -20,10 +16,6 @@ returns-in_err-chains-clause-beside g c =
 pub returns-in_err-chains-clause-any_moment_two : goal.returns-in_err-chains-clause-any_moment_two
 returns-in_err-chains-clause-any_moment_two g c =
     λ told told_too. unasked_two g.D.Disk g.met.D.Disk.only_now g.met.D.Disk.counts_now g.met.D.Disk.reads_as c.args.seed c.args.count c.args.two.now
-
-pub returns-in_err-table-clause-any_moment_one : goal.returns-in_err-table-clause-any_moment_one
-returns-in_err-table-clause-any_moment_one g c =
-    λ told told_too. beside_read g.D.Disk g.met.D.Disk.only_now g.met.D.Disk.counts_now g.met.D.Disk.reads_as c.args.seed c.args.count c.args.one.now c.args.two.now c.args.one.now c.args.two.now told_too refl (unasked g.D.Disk g.met.D.Disk.only_now g.met.D.Disk.counts_now g.met.D.Disk.reads_as c.args.seed c.args.count c.args.one.now c.args.two.now)
 
 pub returns-in_err-table-clause-beside : goal.returns-in_err-table-clause-beside
 returns-in_err-table-clause-beside g c =
@@ -55,25 +47,20 @@ returns-in-Ok-clause-durable g c =
     let i = c.in-Ok.ensures in
     λ begun told told_too.
     let t = told_mid g.D.Disk c.args.one.now c.args.two.now c.init.new.one c.init.new.two i.tells told told_too in
-    c.drilled.ensures.durable begun t.0 t.1
+    c.drilled.ensures.durable (begun_unfailed c.drilled.result begun) t.0 t.1
 
 pub returns-in-Ok-clause-unbegun : goal.returns-in-Ok-clause-unbegun
 returns-in-Ok-clause-unbegun g c =
-    λ told told_too. drilled_unbegun g.D.Disk c.args.seed c.args.count c.args.one.now c.args.two.now c.drilled.new.one c.drilled.new.two _ c.drilled.result c.drilled.ensures.refused
+    let i = c.in-Ok.ensures in
+    λ told told_too.
+    let t = told_mid g.D.Disk c.args.one.now c.args.two.now c.init.new.one c.init.new.two i.tells told told_too in
+    drilled_unbegun g.D.Disk c.args.seed c.args.count c.args.one.now c.args.two.now c.drilled.new.one c.drilled.new.two _ c.drilled.result c.drilled.ensures.refused
+    (λ whole. c.drilled.ensures.durable whole t.0 t.1)
 
 pub returns-in-Ok-clause-seen_two : goal.returns-in-Ok-clause-seen_two
 returns-in-Ok-clause-seen_two g c =
     let i = c.in-Ok.ensures in
     seen_still g.D.Disk c.args.seed c.args.count c.args.one.now c.args.two.now c.init.new.one c.init.new.two c.drilled.new.one c.drilled.new.two i.tells i.seen_two c.drilled.ensures.any_moment
-
-pub returns-in-Ok-clause-any_moment_one : goal.returns-in-Ok-clause-any_moment_one
-returns-in-Ok-clause-any_moment_one g c =
-    let i = c.in-Ok.ensures in
-    λ told told_too.
-    let t = told_mid g.D.Disk c.args.one.now c.args.two.now c.init.new.one c.init.new.two i.tells told told_too in
-    beside_read g.D.Disk g.met.D.Disk.only_now g.met.D.Disk.counts_now g.met.D.Disk.reads_as c.args.seed c.args.count c.args.one.now c.args.two.now c.drilled.new.one c.drilled.new.two (subst (λ (b : Bool). IsTrue b) (sym c.drilled.ensures.tells.1) t.1)
-    (seen_still g.D.Disk c.args.seed c.args.count c.args.one.now c.args.two.now c.init.new.one c.init.new.two c.drilled.new.one c.drilled.new.two i.tells i.seen_two c.drilled.ensures.any_moment told told_too)
-    (made g.D.Disk g.met.D.Disk.only_now g.met.D.Disk.counts_now g.met.D.Disk.reads_as c.args.seed c.args.count c.args.one.now c.args.two.now c.init.new.one c.init.new.two c.drilled.new.one c.drilled.new.two (i.parts told told_too) (i.nothing told told_too) (i.ok told told_too).durable_two (c.drilled.ensures.any_moment t.0 t.1))
 
 pub returns-in-Ok-clause-beside : goal.returns-in-Ok-clause-beside
 returns-in-Ok-clause-beside g c =
@@ -122,11 +109,6 @@ returns-clause-unbegun g c =
     λ told told_too. subst (λ (x : DrillError). RefusedLeaves {T = ℕ} g.D.Disk (Err x) c.args.one.now c.args.two.now c.init.new.one c.init.new.two) (sym c.of_init.ensures)
     (init_unbegun g.D.Disk c.args.seed c.args.count c.args.one.now c.args.two.now c.init.new.one c.init.new.two ℕ c.in-Err.error (i.parts told told_too) i.kept)
 
-pub returns-clause-any_moment_one : goal.returns-clause-any_moment_one
-returns-clause-any_moment_one g c =
-    let i = c.in-Err.ensures in
-    λ told told_too. beside_read g.D.Disk g.met.D.Disk.only_now g.met.D.Disk.counts_now g.met.D.Disk.reads_as c.args.seed c.args.count c.args.one.now c.args.two.now c.init.new.one c.init.new.two (subst (λ (b : Bool). IsTrue b) (sym i.tells.1) told_too) i.seen_two (unmade g.D.Disk g.met.D.Disk.only_now g.met.D.Disk.counts_now g.met.D.Disk.reads_as c.args.seed c.args.count c.in-Err.error c.args.one.now c.args.two.now c.init.new.one c.init.new.two told (subst (λ (b : Bool). IsTrue b) (sym i.tells.1) told_too) (i.parts told told_too))
-
 pub returns-clause-beside : goal.returns-clause-beside
 returns-clause-beside g c =
     let i = c.in-Err.ensures in
@@ -136,3 +118,11 @@ pub returns-clause-cause : goal.returns-clause-cause
 returns-clause-cause g c =
     let i = c.in-Err.ensures in
     subst (λ (x : DrillError). Counts {T = ℕ} (Err x) (g.D.Disk.faults c.args.one.now) (g.D.Disk.faults c.init.new.one) (g.D.Disk.faults c.args.two.now) (g.D.Disk.faults c.init.new.two) (g.D.Disk.failed c.init.new.one) (g.D.Disk.failed c.init.new.two)) (sym c.of_init.ensures) (counts_unmade Store ℕ c.in-Err.error (g.D.Disk.faults c.args.one.now) (g.D.Disk.faults c.init.new.one) (g.D.Disk.faults c.args.two.now) (g.D.Disk.faults c.init.new.two) (g.D.Disk.failed c.init.new.one) (g.D.Disk.failed c.init.new.two) i.cause)
+
+pub returns-in_err-chains-clause-unbegun : goal.returns-in_err-chains-clause-unbegun
+returns-in_err-chains-clause-unbegun g c =
+    λ told told_too. lost_unbegun g.D.Disk g.met.D.Disk.only_now c.args.one.now c.args.two.now c.from_residual.result c.from_residual.ensures.1
+
+pub returns-in_err-table-clause-unbegun : goal.returns-in_err-table-clause-unbegun
+returns-in_err-table-clause-unbegun g c =
+    λ told told_too. lost_unbegun g.D.Disk g.met.D.Disk.only_now c.args.one.now c.args.two.now c.from_residual-in_err-table.result c.from_residual-in_err-table.ensures.1

@@ -14,7 +14,7 @@ use Rattle.wc_drill.specs.Runner.Trips as trips
 use Rattle.wc_drill.specs.Draws.{sum_of_squares}
 use Rattle.wc_drill.specs.Texts.{drilled_text}
 use Rattle.wc_drill.specs.Drilled as drilled
-use Rattle.wc_drill.specs.Drilled.{Drills, HasDrilled, outside, turns_of}
+use Rattle.wc_drill.specs.Drilled.{Drills, DrillsBy, HasDrilled, outside, turns_of}
 use Rattle.wc_drill.specs.Leaves.{DrilledBeside, IsBegun, IsFilled, IsOfDrill, RefusedLeaves, AreDurable as AreNow}
 use Rattle.wc_drill.specs.Refusals.{RefusesDrill}
 use Rattle.wc_drill.specs.Sound.{DrillsAreSound}
@@ -35,6 +35,8 @@ use Rattle.wc_act.specs.Rows.{MakesNothing, row}
 use Rattle.wc_act.specs.StoreDeeds.{Images, is_damaged, is_full}
 use Rattle.wc_act.specs.Undone.{EndsWith, IsBeforeTurns, LeavesUnwritten}
 use Rattle.wc_act.proofs.Doing.{some_is}
+use Rattle.wc_drill.proofs.Fitting.{empty_fits}
+use Rattle.wc_act.proofs.Leaving.{first_journal, journal_pair}
 use Rattle.wc_act.proofs.Unwriting.{images_again}
 use Rattle.wc_act.proofs.Visiting.{are_read, visit_as}
 
@@ -55,11 +57,24 @@ none_submitted seed count = record {
 }
 
 -- what it leaves of two images comes of nothing
-comes_of_drill : DrillsAreSound → (seed count : ℕ) (one two a b : List ℕ) → IsOfDrill seed count one two a b → ComesOfNothing (Drills seed count) one two a b
+comes_of_drill : DrillsAreSound → (seed count : ℕ) (one two a b : List ℕ) → IsOfDrill seed count one two a b → ComesOfNothing (DrillsBy seed count) one two a b
 comes_of_drill law seed count one two a b h = record {
   before = h.before;
-  some = (empty, none_submitted seed count);
-  held = ⊎_elim (λ none. inl none) (λ d. inr (record { world = d.0; held = d.2; begun = d.1; sound = law seed count d.0 d.1 })) h.held;
+  some = (
+    empty,
+    first_journal,
+    record { drills = none_submitted seed count; fits = empty_fits empty first_journal refl refl refl; version = refl; generation = refl },
+  );
+  held = ⊎_elim (λ none. inl none)
+      (λ d. inr (record {
+        world = d.0;
+        held = d.3.held;
+        journal = d.1;
+        kept = journal_pair One a b d.0 d.1 d.3;
+        place = refl;
+        begun = d.2;
+        sound = law seed count d.0 d.2.drills;
+      })) h.held;
 }
 
 -- ---- what is told
@@ -150,11 +165,11 @@ module _ {D : Type 0} (g : disk.Ghosts D) (seed count : ℕ) (one two one_new tw
   module _ (counts : (d : D) (t : ℕ) (image : List ℕ) → t ≤ g.moment d → g.may_leave d image → g.left_since d t image) where
     -- disk two is not written
     pub drill_leaves : DrillsAreSound → LeavesOnly g one one_new (DrilledBeside g seed count one two two_new) → LeavesOnly g two two_new (g.may_leave two)
-        → LeavesKept g (Drills seed count) MakesNothing one two one_new two_new
+        → LeavesKept g (DrillsBy seed count) MakesNothing one two one_new two_new
     drill_leaves law first second =
         inr (record {
           rest_only = second;
-          own_only = weaker_run g one one_new (DrilledBeside g seed count one two two_new) (λ a. (b : List ℕ) → g.may_leave two_new b → Kept g (Drills seed count) MakesNothing one two a b) first
+          own_only = weaker_run g one one_new (DrilledBeside g seed count one two two_new) (λ a. (b : List ℕ) → g.may_leave two_new b → Kept g (DrillsBy seed count) MakesNothing one two a b) first
               (λ a left b now.
               ⊎_elim (λ was. inl (was, second.each b (counts two_new (g.moment two) b second.later now)))
               (λ beside. inr (inl (comes_of_drill law seed count (g.seen one) (g.seen two) a b (beside b now)))) left);

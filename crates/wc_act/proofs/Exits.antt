@@ -1,5 +1,6 @@
 -- What each pair of images holds at any moment and at exit.
 use Rattle.std.proofs.Common.{◌≡◌, ◌≤◌, inl, inr, ⊎_elim, ℕ, List, Option, sym, subst}
+use Rattle.wc_journal.specs.declared.journal.Journal.{Journal}
 use Rattle.wc_disk.specs.declared.disk.Disk as disk
 use Rattle.wc_world.specs.World.{World}
 use Rattle.wc_machine.specs.Sound.{IsSound}
@@ -28,7 +29,7 @@ keeping_sound law makes one two a b w (inr sound) held keeping =
     inr (keeping.0, keeping.1, (keeping.3 (subst IsSound same sound.2)).sound)
 
 module _ {D : Type 0} (g : disk.Ghosts D) where
-  kept_sound : HeldIsOne → (begins : World → Type 0) (makes : Images → World → World → Images → Type 0) (one two : D) (a b : List ℕ) → EachPair g one two HoldsSound
+  kept_sound : HeldIsOne → (begins : World → Journal → Type 0) (makes : Images → World → World → Images → Type 0) (one two : D) (a b : List ℕ) → EachPair g one two HoldsSound
       → g.may_leave one (g.seen one) → g.may_leave two (g.seen two) → Kept g begins makes one two a b → HoldsSound a b
   kept_sound law begins makes one two a b entry reads reads_too (inl was) = entry a b was.0 was.1
   kept_sound law begins makes one two a b entry reads reads_too (inr (inl begun)) =

@@ -1,5 +1,5 @@
 -- What a call on a store leaves of its disks at each moment.
-use Rattle.std.proofs.Common.{◌≡◌, ◌≤◌, inl, inr, ⊎_elim, ℕ, List, Result, refl, sym, subst}
+use Rattle.std.proofs.Common.{◌≡◌, ◌≤◌, inl, inr, ⊎_elim, ℕ, List, Result, refl, sym, subst, ◌∙◌, arith}
 use Rattle.wc_disk.specs.declared.disk.Disk as disk
 use Rattle.wc_disk.specs.Images.{LeavesOnly}
 use Rattle.wc_disk.proofs.Runs.{no_call, both_runs, weaker_run}
@@ -18,9 +18,9 @@ use Rattle.wc_store.specs.Choices.{Choice, chosen, on}
 use Rattle.wc_store.specs.Held.{Standing, IsHeld, a_world}
 use Rattle.wc_store.specs.declared.place.Place.{Place}
 use Rattle.wc_store.specs.declared.place.Place.TheVariants.{One, Two}
-use Rattle.wc_store.specs.Places.{its, number_of}
+use Rattle.wc_store.specs.Places.{its, number_of, opposite}
 use Rattle.wc_store.specs.Stepped.{HoldsSome, InGeneration, IsCommitted, IsOrCommitted, LeavesHeld}
-use Rattle.wc_store.specs.Stores.{other, StandsFor, ChoosesAs, HoldsAs, HoldsBy, IsLonger, PackLeaves, InTwoParts, AreImages, BeginsFrom, InitLeaves}
+use Rattle.wc_store.specs.Stores.{other, StandsFor, ChoosesAs, HoldsAs, HoldsBy, HoldsPacked, IsFirst, IsLonger, IsNextOf, PackLeaves, InTwoParts, AreImages, BeginsFrom, InitLeaves}
 use Rattle.wc_store.proofs.Parts.{As, then_none, then_own, then_pack, weaker_parts, OfInit, init_parts}
 use Rattle.wc_store.specs.Laws.{HeldIsReached}
 use Rattle.wc_drill.specs.Runner.Laws.{StaysSound, TurnsKeepSound, WorldsContinueThemselves}
@@ -56,6 +56,12 @@ pub chosen_pair : (place : Place) (a b : List ℕ) (c : Choice) → ChoosesAs pl
 chosen_pair One a b c h = h
 chosen_pair Two a b c h = h
 
+-- the other place's own image is the one beside
+as_opposite : (place : Place) (a b : List ℕ) (v : World) (journal : Journal) → HoldsBy (opposite place) (other place a b) (its place a b) v journal
+    → HoldsBy (opposite place) (its (opposite place) a b) (other (opposite place) a b) v journal
+as_opposite One a b v journal h = h
+as_opposite Two a b v journal h = h
+
 -- a journal by which the images at the place and beside it hold a world
 abbrev pub journal_pair : (place : Place) (a b : List ℕ) (v : World) (journal : Journal) → HoldsBy place (its place a b) (other place a b) v journal
     → HasJournal (a, b) journal
@@ -66,12 +72,28 @@ abbrev HoldsWorld : Place → (World → Journal → Type 0) → (one two a b : 
 HoldsWorld place Q one two a b =
     (other place a b ≡ other place one two) × ((w : World) × (journal : Journal) × Q w journal × HoldsBy place (its place a b) (other place a b) w journal)
 
--- a store is begun with the empty world
+-- the first journal of a store
+abbrev pub first_journal : Journal
+first_journal = record { version = 2; generation = 1; end = 16; is_numbered = omega arith; is_some = omega arith; is_known = omega arith }
+
+pub is_first : IsFirst first_journal
+is_first = record { version = refl; generation = refl; end = refl }
+
+-- a store is begun with the empty world, by its first journal
 begins_empty : (one two a b : List ℕ) → BeginsFrom one two a b → ComesOfNothing IsEmpty one two a b
 begins_empty one two a b begins = record {
   before = begins.before;
-  some = (empty, refl);
-  held = ⊎_elim (λ none. inl none) (λ held. inr (record { world = empty; held = held; begun = refl; sound = empty_stays })) begins.held;
+  some = (empty, first_journal, (refl, is_first));
+  held = ⊎_elim (λ none. inl none)
+      (λ held. inr (record {
+        world = empty;
+        held = held.2.held;
+        journal = held.0;
+        kept = journal_pair One a b empty held.0 held.2;
+        place = refl;
+        begun = (refl, held.1);
+        sound = empty_stays;
+      })) begins.held;
 }
 
 -- ---- what is left
@@ -82,6 +104,11 @@ module _ {D : Type 0} (g : disk.Ghosts D) (at_now : (d : D) (image : List ℕ) �
 
   untouched : (d e : D) → e ≡ d → LeavesOnly g d e (g.may_leave d)
   untouched d e same = subst (λ (x : D). LeavesOnly g d x (g.may_leave d)) (sym same) (none_asked d)
+
+  -- the image at the place
+  seen_its : (place : Place) (one two : D) → g.seen (its place one two) ≡ its place (g.seen one) (g.seen two)
+  seen_its One one two = refl
+  seen_its Two one two = refl
 
   -- the disk at the place is written alone
   own_writes : (place : Place) (one two one_new two_new : D) → other place one_new two_new ≡ other place one two → WritesOne g one two one_new two_new
@@ -179,30 +206,69 @@ module _ {D : Type 0} (g : disk.Ghosts D) (at_now : (d : D) (image : List ℕ) �
         (λ (c : IsCommitted limits cs store v journal). subst (λ (x : World). makes Seen store.world.world x images × Keeps store.world.world x) (sym c.world)
         (after journal images goes c.longer, keeps)))
 
-    -- a pack
-    pub packed : (one_new two_new : D) → PackLeaves g store.place store.world.world one two one_new two_new
-        → LeavesPairs g one two one_new two_new (HoldsKeeping StaysMoving Seen store.world.world)
+    -- a pack: the world stays where it is
+    packed_here : (a b : List ℕ) → its store.place a b ≡ its store.place (g.seen one) (g.seen two)
+        → HoldsBy store.place (its store.place a b) (other store.place a b) store.world.world store.journal → HoldsKeeping StaysMoving Seen store.world.world a b
+    packed_here a b still by = (
+      store.world.world,
+      held_pair store.place a b (a_world store.world.world) by.held,
+      record {
+        same = refl;
+        journal = store.journal;
+        next = store.journal;
+        was = journal_was;
+        is = journal_pair store.place a b store.world.world store.journal by;
+        still = still;
+        moved = inl (refl, refl);
+      },
+      keeps_itself same_law store.world.world reached,
+    )
+
+    -- or it has moved
+    packed_there : (a b : List ℕ) → its store.place a b ≡ its store.place (g.seen one) (g.seen two) → (next : Journal) → IsNextOf store.journal store.world.world next
+        → HoldsBy (opposite store.place) (its (opposite store.place) a b) (other (opposite store.place) a b) store.world.world next
+        → HoldsKeeping StaysMoving Seen store.world.world a b
+    packed_there a b still next is_next by = (
+      store.world.world,
+      held_pair (opposite store.place) a b (a_world store.world.world) by.held,
+      record {
+        same = refl;
+        journal = store.journal;
+        next = next;
+        was = journal_was;
+        is = journal_pair (opposite store.place) a b store.world.world next by;
+        still = still;
+        moved = inr (is_next, refl);
+      },
+      keeps_itself same_law store.world.world reached,
+    )
+
+    pub packed : (one_new two_new : D) → PackLeaves g store one two one_new two_new → LeavesPairs g one two one_new two_new (HoldsKeeping StaysMoving Seen store.world.world)
     packed one_new two_new leaves =
-        with_one StaysMoving (λ a b. IsHeld a b (a_world store.world.world)) one_new two_new
-        (then_pack g at_now one two one two (none_asked one) (none_asked two) stands.durable_one stands.durable_two store.place store.world.world one_new two_new leaves)
-        (λ a b held. (store.world.world, held, refl, keeps_itself same_law store.world.world reached)) (other_writes store.place one two one_new two_new leaves.untouched)
+        with_one StaysMoving
+        (λ a b. (its store.place a b ≡ g.seen (its store.place one two)) × HoldsPacked store (its store.place a b) (other store.place a b)) one_new two_new
+        (then_pack g at_now one two one two (none_asked one) (none_asked two) stands.durable_one stands.durable_two store one_new two_new leaves)
+        (λ a b p.
+        let still = p.0 ∙ seen_its store.place one two in
+        ⊎_elim (packed_here a b still) (λ m. packed_there a b still m.0 m.1 (as_opposite store.place a b store.world.world m.0 m.2)) p.1)
+        (other_writes store.place one two one_new two_new leaves.untouched)
 
     -- a run
     pub taken : {T P : Type 0} (h : transport.Ghosts T) (k : pacer.Ghosts P) (o : RunOptions) (a b : T) (p q : P) → TurnsKeepSound (in_run h k o.limits a b q) → (one_new two_new : D)
-        → LeavesHeld g store.place (InGeneration store.journal (IsLedWithin h k o.limits o.turns a p store.world.world b q)) one two one_new two_new
+        → LeavesHeld g store.place (InGeneration store.journal (IsLedWithin h k o.limits o.turns a p store.world.world store.journal b q)) one two one_new two_new
         → LeavesPairs g one two one_new two_new (HoldsKeeping (TakesSome o (exchange h k a b p q)) Seen store.world.world)
     taken h k o a b p q law one_new two_new =
         let w : World = store.world.world in
-        stepping (IsLedWithin h k o.limits o.turns a p w b q) (TakesSome o (exchange h k a b p q)) one_new two_new
+        stepping (IsLedWithin h k o.limits o.turns a p w store.journal b q) (TakesSome o (exchange h k a b p q)) one_new two_new
         (λ v journal images goes led.
-        let t = (led_is_taken h k o.limits o.turns a p w b q v journal led).0 in
+        let t = (led_is_taken h k o.limits o.turns a p w store.journal b q v journal led).0 in
         (record { journal = store.journal; next = journal; goes = goes; led = led }, λ sound. law t.count t.rests w v reached sound t.turns))
 
   -- ---- whole calls
 
   module _ (counts : (d : D) (t : ℕ) (image : List ℕ) → t ≤ g.moment d → g.may_leave d image → g.left_since d t image) where
     -- a call that writes nothing
-    pub unwritten : (begins : World → Type 0) (makes : Images → World → World → Images → Type 0) (one two one_new two_new : D) → LeavesOnly g one one_new (g.may_leave one)
+    pub unwritten : (begins : World → Journal → Type 0) (makes : Images → World → World → Images → Type 0) (one two one_new two_new : D) → LeavesOnly g one one_new (g.may_leave one)
         → LeavesOnly g two two_new (g.may_leave two) → LeavesKept g begins makes one two one_new two_new
     unwritten begins makes one two one_new two_new first second =
         inl (record {
@@ -212,7 +278,7 @@ module _ {D : Type 0} (g : disk.Ghosts D) (at_now : (d : D) (image : List ℕ) �
         })
 
     -- a call that asks no disk
-    pub unasked : (begins : World → Type 0) (makes : Images → World → World → Images → Type 0) (one two : D) → LeavesKept g begins makes one two one two
+    pub unasked : (begins : World → Journal → Type 0) (makes : Images → World → World → Images → Type 0) (one two : D) → LeavesKept g begins makes one two one two
     unasked begins makes one two = unwritten begins makes one two one two (none_asked one) (none_asked two)
 
     -- a disk is read, and then not written
@@ -237,7 +303,7 @@ module _ {D : Type 0} (g : disk.Ghosts D) (at_now : (d : D) (image : List ℕ) �
     }
 
     -- a call that reads a world, and then leaves worlds that keep it
-    pub goes_on : (begins : World → Type 0) (makes : Images → World → World → Images → Type 0) (w : World) (one two one_mid two_mid one_new two_new : D) → IsHeld (g.seen one) (g.seen two) (a_world w)
+    pub goes_on : (begins : World → Journal → Type 0) (makes : Images → World → World → Images → Type 0) (w : World) (one two one_mid two_mid one_new two_new : D) → IsHeld (g.seen one) (g.seen two) (a_world w)
         → g.seen one_mid ≡ g.seen one → g.seen two_mid ≡ g.seen two → LeavesOnly g one one_mid (g.may_leave one) → LeavesOnly g two two_mid (g.may_leave two)
         → LeavesPairs g one_mid two_mid one_new two_new (HoldsKeeping makes (g.seen one_mid, g.seen two_mid) w) → LeavesKept g begins makes one two one_new two_new
     goes_on begins makes w one two one_mid two_mid one_new two_new held same same_too first second leaves =

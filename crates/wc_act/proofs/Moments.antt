@@ -118,12 +118,12 @@ module _ {D : Type 0} (g : disk.Ghosts D) (at_now : (d : D) (image : List ℕ) �
         → ComesOfNothing (BegunBy told words) one two a b
     begun_by d one two a b plans begun = record {
       before = begun.before;
-      some = (begun.some.0, (d, plans, begun.some.1));
+      some = (begun.some.0, begun.some.1, (d, plans, begun.some.2));
       held = ⊎_elim (λ none. inl none) by_words begun.held;
     }
       where
         by_words : HoldsBegun (row d).begins a b → IsHeld a b nothing ⊎ HoldsBegun (BegunBy told words) a b
-        by_words h = inr (record { world = h.world; held = h.held; begun = (d, plans, h.begun); sound = h.sound })
+        by_words h = inr (record { world = h.world; held = h.held; journal = h.journal; kept = h.kept; place = h.place; begun = (d, plans, h.begun); sound = h.sound })
 
     pub made : (e : Exchange) (d : Deed) (one two one_new two_new : D) → Plans told (command_of words) (plan.On d)
         → LeavesKept g (row d).begins ((row d).makes e) one two one_new two_new → LeavesMade g told words e one two one_new two_new

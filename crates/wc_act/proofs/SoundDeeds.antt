@@ -69,9 +69,9 @@ module _ (events : EventsKeepSound) (same_law : WorldsContinueThemselves) where
     work_keeps old new clock clock_new (work.Event a) before after w v reached m =
         ⊎_elim (λ same. same_keeps w v reached same.0) (λ made. made_keeps a m.journal w v m.next reached made) m.made
     work_keeps old new clock clock_new (work.Run o) before after w v reached m =
-        let t = (led_is_taken g h o.limits o.turns old clock w new clock_new v m.next m.led).0 in
+        let t = (led_is_taken g h o.limits o.turns old clock w m.journal new clock_new v m.next m.led).0 in
         λ sound. turns_sound (in_run g h o.limits old new clock_new) t.count t.rests w v reached sound t.turns
-    work_keeps old new clock clock_new work.Pack before after w v reached m = same_keeps w v reached m
+    work_keeps old new clock clock_new work.Pack before after w v reached m = same_keeps w v reached m.same
 
     pub deeds_keep : DeedsKeepSound g h
     deeds_keep old new clock clock_new (deed.Begin begin.Init) before after w v reached m = absurd m
@@ -82,15 +82,15 @@ module _ (events : EventsKeepSound) (same_law : WorldsContinueThemselves) where
 
 pub images_brought : {T P : Type 0} (g : transport.Ghosts T) (h : pacer.Ghosts P) → ImagesAreBrought g h
 images_brought g h old new clock clock_new o before after w v takes =
-    let t = (led_is_taken g h o.limits o.turns old clock w new clock_new v takes.next takes.led).0 in (
+    let t = (led_is_taken g h o.limits o.turns old clock w takes.journal new clock_new v takes.next takes.led).0 in (
       λ reached sound. turns_bring (in_run g h o.limits old new clock_new) t.count t.rests w v reached sound t.turns,
       λ ok. turns_no_worse (in_run g h o.limits old new clock_new) ok t.count t.rests w v t.turns,
     )
 
 pub deeds_begin : DrillsAreSound → DeedsBeginSound
-deeds_begin drills (deed.Begin begin.Init) v h = subst (StaysSound empty) (sym h) empty_stays
-deeds_begin drills (deed.Begin (begin.Drill seed count)) v h = drills seed count v h
-deeds_begin drills (deed.Work k) v h = absurd h
+deeds_begin drills (deed.Begin begin.Init) v journal h = subst (StaysSound empty) (sym h.0) empty_stays
+deeds_begin drills (deed.Begin (begin.Drill seed count)) v journal h = drills seed count v h.drills
+deeds_begin drills (deed.Work k) v journal h = absurd h
 
 -- ---- what `tree` tells
 

@@ -3,11 +3,13 @@ use Rattle.std.specs.Prelude.{◌≡◌, ◌⊎◌, ℕ, IsTrue, List, Option}
 use Rattle.wc_disk.specs.declared.disk.Disk as disk
 use Rattle.wc_disk.specs.Images.{LeavesOnly}
 use Rattle.wc_disk.specs.Steps.{Only}
+use Rattle.wc_journal.specs.declared.journal.Journal.{Journal}
 use Rattle.wc_world.specs.World.{World, empty}
 use Rattle.wc_machine.specs.Sound.{IsSound}
 use Rattle.wc_drill.specs.Runner.Laws.{StaysSound}
 use Rattle.wc_store.specs.Held.{Standing, IsHeld, nothing, a_world}
 use Rattle.wc_store.specs.Stores.{InTwoParts}
+use Rattle.wc_store.specs.declared.place.Place.TheVariants.{One}
 use Rattle.wc_cli.specs.Words.{command_of}
 use Rattle.wc_plan.specs.declared.deed.Deed.{Deed}
 use Rattle.wc_plan.specs.declared.deed.Plan.TheVariants as plan
@@ -19,7 +21,7 @@ use Rattle.wc_act.specs.Owed.{OfSome}
 use Rattle.wc_plan.specs.Plans.{Plans}
 use Rattle.wc_plan.specs.Replies.{Writes}
 use Rattle.wc_act.specs.Rows.{row}
-use Rattle.wc_act.specs.StoreDeeds.{Images}
+use Rattle.wc_act.specs.StoreDeeds.{HasJournal, Images}
 
 -- ---- what images hold
 
@@ -50,27 +52,30 @@ Keeps w v = IsSound w → StaysSound w v
 abbrev pub HoldsKeeping : (Images → World → World → Images → Type 0) → Images → World → List ℕ → List ℕ → Type 0
 HoldsKeeping makes before w a b = (v : World) × IsHeld a b (a_world v) × makes before w v (a, b) × Keeps w v
 
--- The pair holds a world with which the call may begin a store. It is sound and continues the empty one.
-pub record HoldsBegun (begins : World → Type 0) (a b : List ℕ) : Type 0 where
+-- The pair holds a world with which the call may begin a store, by a journal on disk one. It is sound and continues the empty one.
+pub record HoldsBegun (begins : World → Journal → Type 0) (a b : List ℕ) : Type 0 where
   pub world : World
   pub held : IsHeld a b (a_world world)
-  pub begun : begins world
+  pub journal : Journal
+  pub kept : HasJournal (a, b) journal
+  pub place : kept.place ≡ One
+  pub begun : begins world journal
   pub sound : StaysSound empty world
 
 -- What comes of two images that hold nothing in a call that may begin a store with the worlds that `begins` says, of which there are some:
 -- nothing, or such a world.
-pub record ComesOfNothing (begins : World → Type 0) (one two a b : List ℕ) : Type 0 where
+pub record ComesOfNothing (begins : World → Journal → Type 0) (one two a b : List ℕ) : Type 0 where
   pub before : IsHeld one two nothing
-  pub some : (v : World) × begins v
+  pub some : (v : World) × (journal : Journal) × begins v journal
   pub held : IsHeld a b nothing ⊎ HoldsBegun begins a b
 
--- What comes of two images in a call that begins a store with no other worlds than `begins` says, and makes of a world only what `makes`
+-- What comes of two images in a call that begins a store with no other worlds and journals than `begins` says, and makes of a world only what `makes`
 -- says: where they hold nothing, nothing, or a world with which it begins; where they hold a world, one that it makes of that and that keeps it.
-abbrev pub ComesOf : (begins : World → Type 0) → (makes : Images → World → World → Images → Type 0) → (one two a b : List ℕ) → Type 0
+abbrev pub ComesOf : (begins : World → Journal → Type 0) → (makes : Images → World → World → Images → Type 0) → (one two a b : List ℕ) → Type 0
 ComesOf begins makes one two a b = ComesOfNothing begins one two a b ⊎ ((w : World) × IsHeld one two (a_world w) × HoldsKeeping makes (one, two) w a b)
 
 -- the pair is one that a crash at entry might have left, or holds what comes of what the disks read as at entry
-abbrev pub Kept : {D : Type 0} → disk.Ghosts D → (begins : World → Type 0) → (makes : Images → World → World → Images → Type 0) → D → D → List ℕ → List ℕ → Type 0
+abbrev pub Kept : {D : Type 0} → disk.Ghosts D → (begins : World → Journal → Type 0) → (makes : Images → World → World → Images → Type 0) → D → D → List ℕ → List ℕ → Type 0
 Kept g begins makes one two a b = (g.may_leave one a × g.may_leave two b) ⊎ ComesOf begins makes (g.seen one) (g.seen two) a b
 
 -- one of the disks is not written: each of its images is one that a crash at entry might have left
@@ -114,14 +119,14 @@ IsOfEachMoment g one two one_new two_new P =
 -- ---- by deeds
 
 -- what a deed leaves
-abbrev pub LeavesKept : {D : Type 0} → disk.Ghosts D → (begins : World → Type 0) → (makes : Images → World → World → Images → Type 0) → (one two one_new two_new : D) → Type 0
+abbrev pub LeavesKept : {D : Type 0} → disk.Ghosts D → (begins : World → Journal → Type 0) → (makes : Images → World → World → Images → Type 0) → (one two one_new two_new : D) → Type 0
 LeavesKept g begins makes one two one_new two_new = AtAnyMoment g one two one_new two_new (Kept g begins makes one two)
 
 -- ---- by words
 
--- with which worlds some deed that the words plan begins a store, and what it makes of a world, in such images
-abbrev pub BegunBy : Option (List ℕ → Option (List ℕ)) → List (List ℕ) → World → Type 0
-BegunBy told words v = OfSome told words (λ k. k.begins v)
+-- with which worlds, by which journals, some deed that the words plan begins a store, and what it makes of a world, in such images
+abbrev pub BegunBy : Option (List ℕ → Option (List ℕ)) → List (List ℕ) → World → Journal → Type 0
+BegunBy told words v journal = OfSome told words (λ k. k.begins v journal)
 
 abbrev pub MadeBy : Option (List ℕ → Option (List ℕ)) → List (List ℕ) → Exchange → Images → World → World → Images → Type 0
 MadeBy told words e before w v after = OfSome told words (λ k. k.makes e before w v after)

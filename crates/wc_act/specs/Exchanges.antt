@@ -13,12 +13,12 @@ use Rattle.wc_drill.specs.Runner.Orders.{Went}
 use Rattle.wc_drill.specs.Runner.Outside.{Outside, in_run}
 
 -- What a call has had of the transport and the clock: what a run within these limits sees of them; which worlds, by which journals, at most so many turns
--- and rests led to, each turn with the answer to its own call of the transport; how a run went with the order of a seed, that came to an end or broke off
+-- and rests led to from a world by its journal, each turn with the answer to its own call of the transport; how a run went with the order of a seed, that came to an end or broke off
 -- at a world by this journal, from the transport and the clock as they were to those that are left; how many rests were counted before it and after it;
 -- and which requests were placed.
 pub record Exchange : Type 1 where
   pub sees : Limits → Outside
-  pub leads : Limits → (most : ℕ) → World → World → Journal → Type 0
+  pub leads : Limits → (most : ℕ) → World → Journal → World → Journal → Type 0
   pub went : Limits → (seed most : ℕ) → World → Result RunEnd RunError → Journal → World → Type 0
   pub rests : ℕ
   pub rests_new : ℕ
@@ -28,7 +28,7 @@ pub record Exchange : Type 1 where
 abbrev pub exchange : {T P : Type 0} → transport.Ghosts T → pacer.Ghosts P → (old new : T) → (clock clock_new : P) → Exchange
 exchange g h old new clock clock_new = record {
   sees = λ limits. in_run g h limits old new clock_new;
-  leads = λ limits most w v journal. IsLedWithin g h limits most old clock w new clock_new v journal;
+  leads = λ limits most w before v journal. IsLedWithin g h limits most old clock w before new clock_new v journal;
   went = λ limits seed most w result journal v. Went g h limits old clock w seed most result journal new clock_new v;
   rests = h.rests clock;
   rests_new = h.rests clock_new;

@@ -1,5 +1,6 @@
 -- Laws of deeds and views, without disks.
 use Rattle.std.specs.Prelude.{◌≡◌, true, Some}
+use Rattle.wc_journal.specs.declared.journal.Journal.{Journal}
 use Rattle.wc_value.specs.declared.process.Tree.{Tree}
 use Rattle.wc_report.specs.Trees.{tree_text}
 use Rattle.wc_state.specs.declared.record.ProcessRecord.{ProcessRecord}
@@ -42,7 +43,7 @@ ImagesAreBrought {T} {P} g h = (old new : T) (clock clock_new : P) (o : RunOptio
 
 -- Each world with which a deed may begin a store is sound, and continues the empty one.
 abbrev pub DeedsBeginSound : Type 0
-DeedsBeginSound = (d : Deed) (v : World) → (row d).begins v → StaysSound empty v
+DeedsBeginSound = (d : Deed) (v : World) (journal : Journal) → (row d).begins v journal → StaysSound empty v
 
 -- What `tree` tells of a process of a sound world that has ended is the text of the tree that its definition means, by each table that agrees with
 -- the recorded results, for its recorded inputs and kills and with the fuel that is kept of it.

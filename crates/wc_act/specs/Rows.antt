@@ -1,8 +1,10 @@
 -- What each deed promises: one row each.
-use Rattle.std.specs.Prelude.{◌≡◌, ℕ, false, true, List}
+use Rattle.std.specs.Prelude.{◌≡◌, ◌⊎◌, ℕ, false, true, List}
 use Rattle.wc_journal.specs.declared.journal.Journal.{Journal}
 use Rattle.wc_world.specs.World.{World, empty}
 use Rattle.wc_store.specs.Held.{Standing}
+use Rattle.wc_store.specs.Places.{its, opposite}
+use Rattle.wc_store.specs.Stores.{IsFirst, IsNextOf}
 use Rattle.wc_report.specs.Lines.{submitted_text, paused_text, playing_text, killed_text}
 use Rattle.wc_plan.specs.declared.deed.Asked.{Asked}
 use Rattle.wc_plan.specs.declared.deed.Asked.TheVariants as asked
@@ -16,13 +18,13 @@ use Rattle.wc_plan.specs.declared.deed.Work.{Work}
 use Rattle.wc_plan.specs.declared.deed.Work.TheVariants as work
 use Rattle.wc_plan.specs.declared.reply.Reply.{Reply}
 use Rattle.wc_plan.specs.declared.status.Status.{Status}
-use Rattle.wc_drill.specs.Drilled.{Drills}
+use Rattle.wc_drill.specs.Drilled.{DrillsBy}
 use Rattle.wc_act.specs.Acknowledged.{HasProcess, HasMark, IsKilled}
 use Rattle.wc_act.specs.Drills.{DrillAt, IsToldDrilled}
 use Rattle.wc_act.specs.Events.{MayHappen, Enters}
 use Rattle.wc_act.specs.Exchanges.{Exchange}
 use Rattle.wc_act.specs.Runs.{Runs}
-use Rattle.wc_act.specs.StoreDeeds.{GoesOn, Images, InitAt, AtStore, Packs}
+use Rattle.wc_act.specs.StoreDeeds.{GoesOn, HasJournal, Images, InitAt, AtStore, Packs}
 use Rattle.wc_act.specs.Undone.{IsBeforeStoring, IsBeforeTurns, IsBeforePacking}
 use Rattle.wc_act.specs.Views.{ShowsStill}
 
@@ -79,7 +81,7 @@ pub record TakesSome (o : RunOptions) (e : Exchange) (before : Images) (w v : Wo
   pub journal : Journal
   pub next : Journal
   pub goes : GoesOn before after journal next
-  pub led : e.leads o.limits o.turns w v next
+  pub led : e.leads o.limits o.turns w journal v next
 
 -- any ready process may be the one for which the store is too full, so that its reply isn't certain
 abbrev pub run_row : RunOptions → WorkRow
@@ -91,9 +93,15 @@ run_row o = record {
   acknowledges = λ text w. Unit {0};
 }
 
--- the world is the same, in any images
-abbrev pub StaysMoving : Images → World → World → Images → Type 0
-StaysMoving before w v after = v ≡ w
+-- The world is the same, and the disk that the store is on reads as before. Its journal is the same one on that disk, or the next one on the other disk.
+pub record StaysMoving (before : Images) (w v : World) (after : Images) : Type 0 where
+  pub same : v ≡ w
+  pub journal : Journal
+  pub next : Journal
+  pub was : HasJournal before journal
+  pub is : HasJournal after next
+  pub still : its was.place after.0 after.1 ≡ its was.place before.0 before.1
+  pub moved : ((next ≡ journal) × (is.place ≡ was.place)) ⊎ (IsNextOf journal w next × (is.place ≡ opposite was.place))
 
 abbrev pub pack_row : WorkRow
 pack_row = record {
@@ -113,8 +121,8 @@ work_row work.Pack = pack_row
 -- ---- deeds
 
 pub record Row : Type 1 where
-  -- with which worlds it may begin a store, at any moment, where there is none
-  pub begins : World → Type 0
+  -- with which worlds, by which journals, it may begin a store, at any moment, where there is none
+  pub begins : World → Journal → Type 0
   pub makes : Exchange → (before : Images) → World → World → (after : Images) → Type 0
   -- what it has done, by what the images hold at entry
   pub does : Images → Standing → Images → Reply → Type 0
@@ -126,14 +134,14 @@ pub record Row : Type 1 where
 abbrev pub MakesNothing : Images → World → World → Images → Type 0
 MakesNothing before w v after = ⊥
 
--- the world is the empty one
-abbrev pub IsEmpty : World → Type 0
-IsEmpty v = v ≡ empty
+-- the world is the empty one, by the first journal
+abbrev pub IsEmpty : World → Journal → Type 0
+IsEmpty v journal = (v ≡ empty) × IsFirst journal
 
 -- any ready process may be the one for which the store is too full, so that its reply isn't certain
 abbrev pub drill_row : (seed count : ℕ) → Row
 drill_row seed count = record {
-  begins = Drills seed count;
+  begins = DrillsBy seed count;
   makes = λ e. MakesNothing;
   does = DrillAt seed count;
   certain = ⊥;
@@ -155,7 +163,7 @@ begin_row (begin.Drill seed count) = drill_row seed count
 -- where there is no store, or a disk is damaged, this is told and nothing is done
 abbrev pub on_store : WorkRow → Row
 on_store k = record {
-  begins = λ v. ⊥;
+  begins = λ v journal. ⊥;
   makes = k.makes;
   does = λ before. AtStore before (k.does before);
   certain = k.certain;

@@ -1,7 +1,7 @@
 //! How a drill is made, and what is told of it.
 
 ghost use Rattle.std.specs.Prelude.{◌≡◌, ◌≤◌, ◌↔◌, Some, IsTrue, IsErrOf, IfOk};
-ghost use Rattle.wc_drill.specs.Drilled.{Drills};
+ghost use Rattle.wc_drill.specs.Drilled.{DrillsBy};
 ghost use Rattle.wc_act.specs.Counts.{CountsDisks};
 ghost use Rattle.wc_act.specs.Crashes.{AreDurable, LeavesKept};
 ghost use Rattle.wc_act.specs.Drills.{broken_reply};
@@ -43,7 +43,7 @@ pub(crate) fn drill_reply<D: Disk>(
 ) -> Result<Reply, ActError>
     requires few { count ≤ 10000 }
     ensures does { IfOk result (λ r. OwedDeed (visit D.Disk one.old two.old one.new two.new) (Begin (Drill seed count)) r) }
-    ensures kept { IsTrue (D.tells one.old) → IsTrue (D.tells two.old) → LeavesKept D.Disk (Drills seed count) MakesNothing one.old two.old one.new two.new }
+    ensures kept { IsTrue (D.tells one.old) → IsTrue (D.tells two.old) → LeavesKept D.Disk (DrillsBy seed count) MakesNothing one.old two.old one.new two.new }
     ensures durable { IfOk result (λ r. IsDoneOrFull r.status → IsTrue (D.tells one.old) → IsTrue (D.tells two.old) → AreDurable D.Disk one.new two.new) }
     ensures tells { (D.tells one.new ≡ D.tells one.old) × (D.tells two.new ≡ D.tells two.old) }
     ensures unwritten { EndsWith IsBeforeTurns result → IsTrue (D.tells one.old) → IsTrue (D.tells two.old) → LeavesUnwritten D.Disk one.old two.old one.new two.new }

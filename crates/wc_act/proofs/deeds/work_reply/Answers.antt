@@ -25,14 +25,14 @@ pub returns-in_err-reply-clause-kept : goal.returns-in_err-reply-clause-kept
 returns-in_err-reply-clause-kept g c =
     λ told told_too.
     let e = exchange g.T.Transport g.P.Pacer c.args.transport.now c.args.transport.now c.args.pacer.now c.args.pacer.now in
-    unwritten g.D.Disk g.met.D.Disk.only_now g.met.D.Disk.counts_now (λ v. ⊥) ((work_row c.args.work).makes e) c.args.one.now c.args.two.now c.open_store.new.one c.open_store.new.two
+    unwritten g.D.Disk g.met.D.Disk.only_now g.met.D.Disk.counts_now (λ v journal. ⊥) ((work_row c.args.work).makes e) c.args.one.now c.args.two.now c.open_store.new.one c.open_store.new.two
     c.open_store.ensures.any_moment_one c.open_store.ensures.any_moment_two
 
 pub returns-in-Reply-clause-kept : goal.returns-in-Reply-clause-kept
 returns-in-Reply-clause-kept g c =
     λ told told_too.
     let e = exchange g.T.Transport g.P.Pacer c.args.transport.now c.args.transport.now c.args.pacer.now c.args.pacer.now in
-    unwritten g.D.Disk g.met.D.Disk.only_now g.met.D.Disk.counts_now (λ v. ⊥) ((work_row c.args.work).makes e) c.args.one.now c.args.two.now c.open_store.new.one c.open_store.new.two
+    unwritten g.D.Disk g.met.D.Disk.only_now g.met.D.Disk.counts_now (λ v journal. ⊥) ((work_row c.args.work).makes e) c.args.one.now c.args.two.now c.open_store.new.one c.open_store.new.two
     c.open_store.ensures.any_moment_one c.open_store.ensures.any_moment_two
 
 pub returns-in-Reply-clause-does : goal.returns-in-Reply-clause-does
@@ -60,7 +60,7 @@ returns-in-Store-clause-kept g c =
     let opens = (subst (Opens g.D.Disk one two c.open_store.new.one c.open_store.new.two) c.in-Store.is c.in_ok-reply.ensures.opens).0 told told_too in
     let tells = c.open_store.ensures.tells in
     let e = exchange g.T.Transport g.P.Pacer c.args.transport.now c.worked.new.transport c.args.pacer.now c.worked.new.pacer in
-    goes_on g.D.Disk g.met.D.Disk.only_now g.met.D.Disk.counts_now (λ v. ⊥) ((work_row c.args.work).makes e) store.world.world one two c.open_store.new.one c.open_store.new.two c.worked.new.one c.worked.new.two
+    goes_on g.D.Disk g.met.D.Disk.only_now g.met.D.Disk.counts_now (λ v journal. ⊥) ((work_row c.args.work).makes e) store.world.world one two c.open_store.new.one c.open_store.new.two c.worked.new.one c.worked.new.two
     (held_before g.D.Disk store one two c.open_store.new.one c.open_store.new.two opens) opens.seen_one opens.seen_two c.open_store.ensures.any_moment_one c.open_store.ensures.any_moment_two
     (c.worked.ensures.kept (subst (λ (b : Bool). IsTrue b) (sym tells.0) told) (subst (λ (b : Bool). IsTrue b) (sym tells.1) told_too))
 

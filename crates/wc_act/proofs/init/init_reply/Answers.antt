@@ -27,7 +27,7 @@ returns-in-Ok-clause-kept g c =
 pub returns-in-Ok-clause-does : goal.returns-in-Ok-clause-does
 returns-in-Ok-clause-does g c =
     visit_as (visit g.D.Disk c.args.one.now c.args.two.now c.init.new.one c.init.new.two) (AreOfNew c.in-Ok._store) (Done (row (deed.Begin begin.Init)) c.print.result)
-    (has_begun c.in-Ok._store c.print.result c.in-Ok.ensures.empty c.in-Ok.ensures.made (c.print.ensures ∙ ap prints c.in_ok-text.ensures))
+    (has_begun c.in-Ok._store c.print.result c.in-Ok.ensures.made.empty_yet (c.in-Ok.ensures.made.place, c.in-Ok.ensures.made.first.generation, c.in-Ok.ensures.made.first.version) (c.print.ensures ∙ ap prints c.in_ok-text.ensures))
     (are_of_new g.D.Disk c.args.one.now c.args.two.now c.init.new.one c.init.new.two c.in-Ok._store c.in-Ok.ensures.nothing c.in-Ok.ensures.images c.in-Ok.ensures.ok c.init.ensures.seen_two)
 
 pub returns-in-Err-clause-does : goal.returns-in-Err-clause-does

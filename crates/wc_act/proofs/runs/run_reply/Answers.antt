@@ -1,4 +1,4 @@
-use Rattle.std.proofs.Common.{◌≡◌, inl, inr, IsTrue, Ok, Err, refl, sym, subst, ◌∙◌}
+use Rattle.std.proofs.Common.{◌≡◌, inl, inr, ⊎_elim, IsTrue, Ok, Err, refl, sym, subst, ◌∙◌}
 use Rattle.wc_drill.specs.Runner.declared.error.RunError.{RunError}
 use Rattle.wc_drill.specs.Runner.declared.runs.RunEnd.{RunEnd}
 use Rattle.wc_drill.specs.Runner.declared.error.RunError.TheVariants as run_error
@@ -83,7 +83,7 @@ returns-in_ok-has_run-in-Ok-clause-does g c =
     let o = in_run g.T.Transport g.P.Pacer p.limits c.args.transport.now c.run.new.transport c.run.new.pacer in
     let begun : w.batches ≡ c.batches-begun.result = sym (c.batches-begun.ensures ∙ (λ i. (c.world.ensures i).world.batches)) in
     visit_as (visit g.D.Disk c.args.one.now c.args.two.now c.run.new.one c.run.new.two) (AreOfStores s new) (DoneOn (run_row p) w r)
-    (has_come p s new r (takes_up_to o p.turns w v (g.P.Pacer.rests c.args.pacer.now) (g.P.Pacer.rests c.run.new.pacer) c.run.ensures.takes) c.run.ensures.stepped.comes.holds.led.fits (c.run.ensures.stepped.place, c.run.ensures.stepped.comes.generation, c.run.ensures.stepped.comes.version)
+    (has_come p s new r (takes_up_to o p.turns w v (g.P.Pacer.rests c.args.pacer.now) (g.P.Pacer.rests c.run.new.pacer) c.run.ensures.takes) (⊎_elim (λ still. inl still.0) (λ fits. inr fits) c.run.ensures.stepped.comes.holds.led.fits) (c.run.ensures.stepped.place, c.run.ensures.stepped.comes.generation, c.run.ensures.stepped.comes.version)
     (inl (record {
       end = c.in-Ok.end;
       ends = ends_so o p.turns w v (g.P.Pacer.rests c.args.pacer.now) (g.P.Pacer.rests c.run.new.pacer) c.in-Ok.end c.in-Ok.ensures.ends;
@@ -105,7 +105,7 @@ returns-in_ok-full-in-Err-Full-clause-does g c =
     let full = subst (λ (e : RunError). RefusesRun o new e) f.field-0-is f.ensures.refused in
     let call = subst (λ (x : RunError). Called g.D.Disk (is_live_after {T = RunEnd} (Err x)) c.args.one.now c.args.two.now c.run.new.store c.run.new.one c.run.new.two) f.field-0-is f.ensures.stepped.call in
     visit_as (visit g.D.Disk c.args.one.now c.args.two.now c.run.new.one c.run.new.two) (AreOfStores s new) (DoneOn (run_row p) w r)
-    (has_come p s new r (takes_up_to o p.turns w v (g.P.Pacer.rests c.args.pacer.now) (g.P.Pacer.rests c.run.new.pacer) c.run.ensures.takes) c.run.ensures.stepped.comes.holds.led.fits (c.run.ensures.stepped.place, c.run.ensures.stepped.comes.generation, c.run.ensures.stepped.comes.version)
+    (has_come p s new r (takes_up_to o p.turns w v (g.P.Pacer.rests c.args.pacer.now) (g.P.Pacer.rests c.run.new.pacer) c.run.ensures.takes) (⊎_elim (λ still. inl still.0) (λ fits. inr fits) c.run.ensures.stepped.comes.holds.led.fits) (c.run.ensures.stepped.place, c.run.ensures.stepped.comes.generation, c.run.ensures.stepped.comes.version)
     (inr (fills_at o p w new (g.P.Pacer.rests c.args.pacer.now) (g.P.Pacer.rests c.run.new.pacer) f.what f.count f.limit r refl full f.ensures.ends c.in_ok-full-in-Err-Full.ensures)))
     (are_of_stores g.D.Disk c.args.one.now c.args.two.now c.run.new.one c.run.new.two s new c.requires.stands c.requires.images (call.stands refl)
     c.run.ensures.stepped.images (λ told told_too. (c.run.ensures.stepped.moments told told_too).untouched))

@@ -98,9 +98,12 @@ module _ (q : ℕ) where
     call_spare : (next : ℕ) → q < next → (c : Call) → AllSpare (call_changes w r next c)
     call_spare next lt c =
         let new : called_number w r next c ≢ q = λ e. absurd (omega (arith, e)) in
-        both (plain_data c.args) _ (data_spare c.args) (tt, both (argument_links _ next (called_number w r next c) c.args) _
-        (arguments_spare (input_link (kind_of_callee w r c)) next (called_number w r next c) new c.args)
-        (ap (λ (b : Bool). b && (called_number w r next c == q)) (call_is_no_input (kind_of_callee w r c)), tt))
+        both (plain_data c.args) _ (data_spare c.args) (
+          tt,
+          both (argument_links _ next (called_number w r next c) c.args) _
+              (arguments_spare (input_link (kind_of_callee w r c)) next (called_number w r next c) new c.args)
+              (ap (λ (b : Bool). b && (called_number w r next c == q)) (call_is_no_input (kind_of_callee w r c)), tt),
+        )
 
     calls_spare : (next : ℕ) → q < next → (cs : List Call) → AllSpare (calls_changes w r next cs)
     calls_spare next lt [] = tt

@@ -1,0 +1,10 @@
+//! Worker cores: each takes a lease on a ready process, asks the transport for it, and commits its turn, in three steps, and the steps of all
+//! of them interleave.
+#![tactic(auto)]
+
+mod answers;
+mod steps;
+
+pub use steps::{Done, step};
+pub use wc_pool::{Lease, Pool, Seat, Why};
+pub use wc_runner::RunError as WorkError;

@@ -3,8 +3,10 @@
 #![tactic(auto)]
 
 mod answers;
+mod laws;
 mod steps;
 
+pub use laws::logs_hold;
 pub use steps::{Done, step};
 pub use wc_pool::{Lease, Pool, Seat, Why};
 pub use wc_runner::RunError as WorkError;

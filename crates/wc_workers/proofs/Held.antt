@@ -1,12 +1,11 @@
 -- A turn with an answer that was got before, and a pool whose lease is the last one of its process.
-use Rattle.std.proofs.Common.{◌≡◌, ◌⊎◌, inl, inr, ⊎_elim, ℕ, ◌<◌, ◌≤◌, Bool, true, false, List, Option, Some, None, Result, Ok, Err, refl, sym, ap, subst, ◌∙◌, arith}
-use Rattle.std.specs.Prelude.{◌==◌, nat_le, nat_lt, if◌then◌else◌, IfSome, OnErr}
+use Rattle.std.proofs.Common.{◌≡◌, inl, inr, ⊎_elim, ℕ, ◌≤◌, Bool, true, false, List, Option, Some, None, Result, Ok, Err, refl, ap, ◌∙◌, arith}
+use Rattle.std.specs.Prelude.{nat_lt, if◌then◌else◌, OnErr}
 use Rattle.std.proofs.lemmas.Bool.{eq-eqb, lt-ltb, cases_lt}
 use Rattle.wc_disk.specs.declared.disk.Disk as disk
 use Rattle.wc_journal.specs.declared.journal.Journal.{Journal}
 use Rattle.wc_value.specs.declared.process.Request.{Request}
 use Rattle.wc_state.specs.declared.record.Limits.{Limits}
-use Rattle.wc_state.specs.declared.record.ProcessRecord.{ProcessRecord}
 use Rattle.wc_state.specs.declared.record.Task.{Task}
 use Rattle.wc_state.specs.declared.record.Task.TheVariants as task
 use Rattle.wc_store.specs.declared.store.Store.{Store}
@@ -14,7 +13,6 @@ use Rattle.wc_store.specs.Stepped.{IsCommitted, IsOrCommitted, Stepped}
 use Rattle.wc_store.proofs.Stepping.{weaker_step}
 use Rattle.wc_transport.specs.Outside.{Failed, Running, Done, Brought}
 use Rattle.wc_world.specs.World.{World}
-use Rattle.wc_world.specs.Records.{find_record}
 use Rattle.wc_world.specs.declared.change.Change.{Change}
 use Rattle.wc_machine.specs.declared.answer.TaskAnswer.{TaskAnswer}
 use Rattle.wc_machine.specs.declared.answer.TaskAnswer.TheVariants as answer
@@ -22,13 +20,12 @@ use Rattle.wc_machine.specs.Questions.{Need, nothing, performs, need, fits, fits
 use Rattle.wc_pool.specs.Fits.{FitsNeed, FitsWorld}
 use Rattle.wc_pool.specs.Pools.{IsSamePool, entry_at, epoch_at, is_current, lease_at, lease_in, seat_at, why_given}
 use Rattle.wc_pool.specs.declared.giving.Why.{Why}
-use Rattle.wc_pool.specs.declared.giving.Why.TheVariants.{Stale}
 use Rattle.wc_pool.specs.declared.pool.Lease.{Lease}
 use Rattle.wc_pool.specs.declared.pool.Pool.{Pool}
 use Rattle.wc_pool.specs.declared.pool.Seat.TheVariants.{Answered}
 use Rattle.wc_runner.specs.Asked.{WhatItNeeds}
 use Rattle.wc_runner.specs.Outside.{Answers, AnswersNeed, IsGiven}
-use Rattle.wc_runner.specs.Refusals.{RefusesPrepared, RefusesStep, RefusesStored, is_live_after}
+use Rattle.wc_runner.specs.Refusals.{RefusesStep, RefusesStored, is_live_after}
 use Rattle.wc_runner.specs.Turns.{IsPrepared, IsReady, RefusesChanges}
 use Rattle.wc_runner.specs.declared.error.RunError.{RunError}
 use Rattle.wc_runner.specs.declared.error.RunError.TheVariants.{DiskFault, Full, OutOfMemory}

@@ -1,23 +1,21 @@
 -- What each step keeps of a log.
-use Rattle.std.proofs.Common.{◌≡◌, ◌≢◌, ◌⊎◌, inl, inr, ℕ, ◌+◌, ◌<◌, ◌≤◌, Bool, true, false, List, [], ◌∷◌, ◌++◌, Option, Some, None, refl, sym, ap, subst, ◌∙◌, arith}
+use Rattle.std.proofs.Common.{◌≡◌, ◌≢◌, inl, inr, ℕ, ◌+◌, ◌<◌, ◌≤◌, Bool, true, false, List, [], ◌∷◌, ◌++◌, Option, Some, None, refl, sym, ap, subst, ◌∙◌, arith}
 use Rattle.std.specs.Prelude.{◌==◌, nat_le, nat_lt, if◌then◌else◌, option_map}
 use Rattle.std.specs.List.{AllByRecursion}
-use Rattle.std.proofs.lemmas.Bool.{cases_eq, cases_lt, eqb-true, eq-eqb, le-leb}
+use Rattle.std.proofs.lemmas.Bool.{cases_eq, cases_lt, eqb-true, le-leb}
 use Rattle.wc_transport.specs.declared.transport.Transport as transport
 use Rattle.wc_state.specs.declared.record.Limits.{Limits}
-use Rattle.wc_state.specs.declared.record.ProcessRecord.{ProcessRecord}
 use Rattle.wc_world.specs.Accepted.{IsReached, then_changes}
 use Rattle.wc_world.specs.Applied.{applied}
 use Rattle.wc_world.specs.Records.{find_record}
 use Rattle.wc_world.specs.World.{World}
-use Rattle.wc_world.specs.declared.change.Change.{Change}
 use Rattle.wc_world.proofs.ReachedLists.{found_node}
 use Rattle.wc_machine.specs.declared.answer.TaskAnswer.{TaskAnswer}
 use Rattle.wc_machine.specs.Machine.{Leads, turn}
-use Rattle.wc_machine.specs.Questions.{Need, need}
+use Rattle.wc_machine.specs.Questions.{need}
 use Rattle.wc_pool.specs.Fits.{FitsNeed, FitsWorld}
 use Rattle.wc_pool.specs.Laws.{TurnsLeaveOthers}
-use Rattle.wc_pool.specs.Pools.{HasClosed, HasLost, HasTaken, KeepsEntries, Seats, Turns, entry_at, epoch_at, epoch_of, freed, is_current, lease_at, lease_for, lease_in, seat_at, why_given}
+use Rattle.wc_pool.specs.Pools.{HasClosed, HasTaken, KeepsEntries, Seats, entry_at, epoch_at, epoch_of, freed, is_current, lease_at, lease_for, lease_in, seat_at, why_given}
 use Rattle.wc_pool.specs.declared.giving.Why.{Why}
 use Rattle.wc_pool.specs.declared.pool.Entry.{Entry}
 use Rattle.wc_pool.specs.declared.pool.Lease.{Lease}
@@ -29,7 +27,7 @@ use Rattle.wc_pool.proofs.Seated.{closed_fits, free_fits, kept_fits, taken_fits}
 use Rattle.wc_runner.specs.Outside.{Answers, AnswersNeed, in_turn}
 use Rattle.wc_runner.proofs.Needed.{needs_there}
 use Rattle.wc_runner.proofs.Taken.{what_it_needs}
-use Rattle.wc_workers.specs.Logs.{Commits, CommitsAfter, Happened, HoldsNone, IsEarlier, IsIn, LogsHold, Move, asks, asked_more, begins, commits, lost, moves_of, none, one_more, stepped}
+use Rattle.wc_workers.specs.Logs.{Commits, Happened, HoldsNone, IsEarlier, IsIn, LogsHold, Move, asks, asked_more, begins, commits, lost, moves_of, none, one_more, stepped}
 use Rattle.wc_workers.specs.Steps.{AsksFor, CommitsTurn, StepOf}
 use Rattle.wc_workers.specs.declared.steps.Done.{Done}
 use Rattle.wc_workers.specs.declared.steps.Done.TheVariants.{Took, Idle, Asked, Gave, Committed}

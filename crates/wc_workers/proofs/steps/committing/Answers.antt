@@ -1,4 +1,4 @@
-use Rattle.std.proofs.Common.{◌≡◌, true, inl, refl, sym, ap, subst, Bool, Err}
+use Rattle.std.proofs.Common.{◌≡◌, true, inl, refl, sym, ap, subst, Bool}
 use Rattle.wc_world.specs.Room.{Holding}
 use Rattle.wc_store.specs.Stepped.{Stepped}
 use Rattle.wc_store.proofs.Stepping.{not_stepped}

@@ -1,4 +1,4 @@
-use Rattle.std.proofs.Common.{◌≡◌, ◌<◌, inl, refl, sym, ap, subst, Some, None, Err}
+use Rattle.std.proofs.Common.{◌≡◌, ◌<◌, inl, refl, sym, subst, Err}
 use Rattle.std.specs.Prelude.{IfErr}
 use Rattle.wc_world.specs.Room.{Holding}
 use Rattle.wc_store.specs.Stepped.{Stepped}
@@ -10,7 +10,6 @@ use Rattle.wc_runner.specs.declared.error.RunError.{RunError}
 use Rattle.wc_runner.proofs.Answered.{ok_map}
 use Rattle.wc_workers.specs.Steps.{CommitsTurn, Holds, IsOrHeldTurn, RefusesHeld, StepOf, StepOrHolds}
 use Rattle.wc_workers.specs.declared.steps.Done.{Done}
-use Rattle.wc_workers.specs.declared.steps.Done.TheVariants.{Committed}
 use Rattle.wc_workers.proofs.Held.{on_err, same_pool}
 use Rattle.wc_workers.proofs.steps.step.Goals as goal
 

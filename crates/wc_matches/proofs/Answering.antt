@@ -1,8 +1,8 @@
 -- The sets of a query, and its rows level by level.
-use Rattle.std.proofs.Common.{◌≡◌, ℕ, suc, ◌+◌, ◌<◌, ◌≤◌, Bool, true, false, List, [], ◌∷◌, ◌++◌, length, min, get_or, ◌&&◌, ◌⊎◌, ⊎_elim, sym, ap, ◌∙◌, subst, arith, ◌↔◌}
+use Rattle.std.proofs.Common.{◌≡◌, ℕ, suc, ◌+◌, ◌<◌, ◌≤◌, Bool, true, false, List, [], ◌∷◌, ◌++◌, length, get_or, ◌&&◌, ◌⊎◌, ⊎_elim, sym, ap, ◌∙◌, subst, arith, ◌↔◌}
 use Rattle.std.specs.Prelude.{take, drop, nat_lt, replicate}
 use Rattle.std.proofs.lemmas.Bool.{cases_lt}
-use Rattle.std.proofs.lemmas.List.{drop_more, drop_all, take_more, take_all, take-append-le, length-take, same_from_push, length_push, get_or_append_left, get_or_push, get_or_past, get_or-replicate, length-replicate}
+use Rattle.std.proofs.lemmas.List.{drop_more, drop_all, take_more, take_all, same_from_push, get_or_append_left, get_or_push, get_or_past, get_or-replicate, length-replicate}
 use Rattle.wc_world.specs.World.{World}
 use Rattle.wc_query.specs.declared.query.LinkTest.{LinkTest}
 use Rattle.wc_query.specs.declared.query.NodeTest.{NodeTest}
@@ -88,22 +88,6 @@ module _ (w : World) (q : Query) (most limit : ℕ) (rows : List (List ℕ)) (is
         λ t. subst (λ (xs : List (List ℕ)). HasMore (IsMatch w q) xs) (sym e) (both.0 (sym m ∙ t)),
         λ h. m ∙ both.1 (subst (λ (xs : List (List ℕ)). HasMore (IsMatch w q) xs) e h),
       )
-
--- ---- the first so many, one by one
-
-pub cut_more : (limit : ℕ) (rows kept more : List (List ℕ)) (row : List ℕ) → kept ≡ take limit rows → length kept < limit → more ≡ kept ++ row ∷ []
-    → more ≡ take limit (rows ++ row ∷ [])
-cut_more limit rows kept more row is lt pushed =
-    let count : length kept ≡ min limit (length rows) = ap length is ∙ length-take limit rows in
-    let short : length rows < limit = omega (arith, count, lt) in
-    let one : length (rows ++ row ∷ []) ≡ length rows + 1 = length_push rows row in
-    pushed ∙ ap (λ (xs : List (List ℕ)). xs ++ row ∷ []) (is ∙ take_all limit rows (omega (arith, short)))
-    ∙ sym (take_all limit (rows ++ row ∷ []) (omega (arith, short, one)))
-
-pub cut_past : (limit : ℕ) (rows kept : List (List ℕ)) (row : List ℕ) → kept ≡ take limit rows → limit ≤ length kept → kept ≡ take limit (rows ++ row ∷ [])
-cut_past limit rows kept row is full =
-    let count : length kept ≡ min limit (length rows) = ap length is ∙ length-take limit rows in
-    is ∙ sym (take-append-le limit rows (row ∷ []) (omega (arith, count, full)))
 
 -- ---- marks, one by one
 

@@ -117,10 +117,10 @@ on_more R most rows out out' row ns g h is =
           ∙ sym (joined_push most g.0 firsts),
     )
 
-pub on_next : (R : List ℕ → ℕ → Type 0) (most : ℕ) (rows out more : List (List ℕ)) (i : ℕ) (row ns : List ℕ) → i < length rows → row ≡ get_or rows i row
+pub on_next : (R : List ℕ → ℕ → Type 0) (most : ℕ) (rows out more : List (List ℕ)) (i : ℕ) (row ns : List ℕ) → i < length rows → row ≡ get_or rows i []
     → AllGoOnTo R most (take i rows) out → AreNumbers (R row) ns → more ≡ take most (out ++ with_each row ns) → AllGoOnTo R most (take (i + 1) rows) more
 on_next R most rows out more i row ns lt is g h e =
-    subst (λ (xs : List (List ℕ)). AllGoOnTo R most xs more) (ap (λ (r : List ℕ). take i rows ++ r ∷ []) is ∙ sym (take_more rows i row lt))
+    subst (λ (xs : List (List ℕ)). AllGoOnTo R most xs more) (ap (λ (r : List ℕ). take i rows ++ r ∷ []) is ∙ sym (take_more rows i [] lt))
     (on_more R most (take i rows) out more row ns g h e)
 
 pub on_all : (R : List ℕ → ℕ → Type 0) (most : ℕ) (rows out : List (List ℕ)) (i : ℕ) → length rows ≤ i → AllGoOnTo R most (take i rows) out → GoOnTo R most rows out

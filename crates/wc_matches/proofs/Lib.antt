@@ -7,6 +7,7 @@ pub mod Ordering
 pub mod Growing
 pub mod Placing
 pub mod Answering
-pub mod Rows
+pub mod Examples
 pub mod Names
 pub mod Ends
+pub mod Placed

@@ -11,4 +11,5 @@ pub mod Texts
 pub mod Names
 pub mod Laws
 pub mod Rows
+pub mod Places
 pub mod Ways

@@ -7,8 +7,9 @@ ghost use Rattle.wc_matches.specs.Levels.{Goes, IsBegun};
 ghost use Rattle.wc_matches.specs.Matches.{IsMatch};
 ghost use Rattle.wc_matches.specs.Sets.{AreSets};
 
-use crate::level::{Rows, next_level, put_rows};
+use crate::level::{next_level, put_rows};
 use crate::numbers::numbers;
+use crate::rows::Rows;
 use crate::sets::{Marks, equal_marks, sets_of};
 use std::alloc::{AllocError, Global};
 use wc_query::Query;
@@ -31,23 +32,18 @@ fn first_rows(alloc: Global, set: &[bool], most: usize) -> Result<Rows, AllocErr
 {
     let ids = numbers(alloc, set)?;
     let mut rows = Rows::new(alloc);
-    put_rows(alloc, &mut rows, &[], &ids, most)?;
+    put_rows(&mut rows, &[], &ids, most)?;
     Ok(rows)
 }
 
 /// The first so many rows, and whether there are further ones.
-#[tactic(auto, using(crate::proofs::Answering::cut_more, crate::proofs::Answering::cut_past))]
-fn cut(alloc: Global, rows: Rows, limit: usize) -> Result<Matches, AllocError>
-    ensures { IfOk result (λ found. (found.rows ≡ take limit rows) × (found.more ≡ nat_lt limit (length rows))) }
+fn cut(mut rows: Rows, limit: usize) -> Matches
+    ensures rows { result.rows ≡ take limit rows }
+    ensures more { result.more ≡ nat_lt limit (length rows) }
 {
     let more = rows.len() > limit;
-    let mut kept = Rows::new(alloc);
-    for row in rows.into_vec() {
-        if kept.len() < limit {
-            kept.push(row)?;
-        }
-    }
-    Ok(Matches { rows: kept, more })
+    rows.truncate(limit);
+    Matches { rows, more }
 }
 
 /// The first so many rows that begin a match by all joins, out of those of one node. A row that is kept on the way is the beginning of one
@@ -71,15 +67,7 @@ fn all_levels(
     let mut rows = firsts;
     for join in query.more.as_slice() {
         let set = sets.pop().unwrap();
-        rows = next_level(
-            alloc,
-            graph,
-            &join.0,
-            set.as_slice(),
-            most,
-            rows.as_slice(),
-            marks,
-        )?;
+        rows = next_level(alloc, graph, &join.0, set.as_slice(), most, &rows, marks)?;
     }
     Ok(rows)
 }
@@ -100,5 +88,5 @@ pub fn answers(
     let firsts = first_rows(alloc, first.as_slice(), most)?;
     let mut marks = equal_marks(alloc, world.graph().nodes().len() + 1, false)?;
     let rows = all_levels(alloc, world, query, firsts, sets, most, &mut marks)?;
-    cut(alloc, rows, limit as usize)
+    Ok(cut(rows, limit as usize))
 }

@@ -9,30 +9,16 @@ ghost use Rattle.wc_matches.specs.Levels.{GoOnTo};
 ghost use Rattle.wc_matches.specs.Numbers.{AreNumbers, with_each};
 
 use crate::numbers::{marked_of, put_in_order};
+use crate::rows::Rows;
 use crate::search::{joined, unmark};
 use crate::ways::{Way, ends_from, way_of};
 use std::alloc::{AllocError, Global};
-use wc_graph::{Graph, Ids};
+use wc_graph::Graph;
 use wc_query::LinkTest;
-use wc_value::List;
-
-/// Rows of numbers of nodes.
-pub type Rows = List<Ids>;
-
-/// A row with one number more.
-fn longer(alloc: Global, row: &[u32], number: u32) -> Result<Ids, AllocError>
-    ensures { IfOk result (λ longer. longer ≡ row.now ++ number ∷ []) }
-{
-    let mut longer = Ids::new(alloc);
-    longer.extend(row)?;
-    longer.push(number)?;
-    Ok(longer)
-}
 
 /// Puts a row with each of these numbers behind others, as long as there are fewer than the most.
 #[tactic(auto, using(crate::proofs::Growing::puts_more, crate::proofs::Growing::puts_full, crate::proofs::Growing::puts_all))]
 pub(crate) fn put_rows(
-    alloc: Global,
     out: &mut Rows,
     row: &[u32],
     numbers: &[u32],
@@ -45,7 +31,7 @@ pub(crate) fn put_rows(
         if out.len() >= most {
             return Ok(());
         }
-        out.push(longer(alloc, row, *number)?)?;
+        out.push(row, *number)?;
     }
     Ok(())
 }
@@ -128,7 +114,7 @@ pub(crate) fn next_level(
     join: &LinkTest,
     set: &[bool],
     most: usize,
-    rows: &[Ids],
+    rows: &Rows,
     marks: &mut [bool],
 ) -> Result<Rows, AllocError>
     requires size { length graph.now.nodes < length marks.old }
@@ -138,12 +124,13 @@ pub(crate) fn next_level(
 {
     let way = way_of(alloc, graph, join, set, rows.len())?;
     let mut out = Rows::new(alloc);
-    for row in rows {
+    for at in 0..rows.len() {
         if out.len() >= most {
             return Ok(out);
         }
-        let numbers = behind(alloc, graph, join, set, &way, row.as_slice(), marks)?;
-        put_rows(alloc, &mut out, row.as_slice(), &numbers, most)?;
+        let row = rows.row(at);
+        let numbers = behind(alloc, graph, join, set, &way, row, marks)?;
+        put_rows(&mut out, row, &numbers, most)?;
     }
     Ok(out)
 }

@@ -4,29 +4,28 @@ ghost use Rattle.std.specs.Prelude.{◌≡◌, ◌++◌, IfOk, OnOk, flat_map, s
 ghost use Rattle.wc_matches.specs.Texts.{count_line, further_text, more_text, row_line, rows_text};
 
 use crate::found::Matches;
+use crate::rows::Rows;
 use std::alloc::{AllocError, Global};
-use wc_graph::Ids;
+use std::fmt::Write;
 use wc_value::Text;
 
 /// Writes the further numbers of a row.
-fn put_further(alloc: Global, out: &mut String, numbers: &[u32]) -> Result<(), AllocError>
+fn put_further(out: &mut String, numbers: &[u32]) -> Result<(), AllocError>
     ensures { OnOk result (string_bytes out.new ≡ string_bytes out.old ++ further_text numbers.now) }
 {
     for number in numbers {
-        let text = format!(in alloc; " {number}")?;
-        out.push_str(text.as_str())?;
+        write!(out, " {number}")?;
     }
     Ok(())
 }
 
 /// Writes the line of a row.
-fn put_row(alloc: Global, out: &mut String, row: &[u32]) -> Result<(), AllocError>
+fn put_row(out: &mut String, row: &[u32]) -> Result<(), AllocError>
     ensures { OnOk result (string_bytes out.new ≡ string_bytes out.old ++ row_line row.now) }
 {
     if let [first, further @ ..] = row {
-        let text = format!(in alloc; "{first}")?;
-        out.push_str(text.as_str())?;
-        put_further(alloc, out, further)?;
+        write!(out, "{first}")?;
+        put_further(out, further)?;
     }
     out.push_str("\n")
 }
@@ -49,11 +48,11 @@ fn count_line(alloc: Global, count: usize, more: bool) -> Result<String, AllocEr
 }
 
 /// Writes a line for each row.
-fn put_rows(alloc: Global, out: &mut String, rows: &[Ids]) -> Result<(), AllocError>
+fn put_rows(out: &mut String, rows: &Rows) -> Result<(), AllocError>
     ensures { OnOk result (string_bytes out.new ≡ string_bytes out.old ++ flat_map row_line rows.now) }
 {
-    for row in rows {
-        put_row(alloc, out, row.as_slice())?;
+    for at in 0..rows.len() {
+        put_row(out, rows.row(at))?;
     }
     Ok(())
 }
@@ -62,9 +61,9 @@ fn put_rows(alloc: Global, out: &mut String, rows: &[Ids]) -> Result<(), AllocEr
 pub fn rows_text(alloc: Global, matches: &Matches) -> Result<Text, AllocError>
     ensures { IfOk result (λ text. text ≡ rows_text matches.now.rows matches.now.more) }
 {
-    let rows = matches.rows.as_slice();
+    let rows = &matches.rows;
     let mut out = String::new(alloc);
-    put_rows(alloc, &mut out, rows)?;
+    put_rows(&mut out, rows)?;
     let last = count_line(alloc, rows.len(), matches.more)?;
     out.push_str(last.as_str())?;
     Text::of_string(out)

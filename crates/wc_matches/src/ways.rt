@@ -98,8 +98,21 @@ fn barred(
     Ok(barred)
 }
 
-/// How the marked nodes are found that a join leads to from the last nodes of so many rows. One search needs no help. Of more, each follows the
-/// walk from a row's end, so where the marked nodes are few, and fewer than the rows, one is made from each of these.
+/// A search from each row's end, which along a walk comes to no node that leads to no marked one.
+#[tactic(auto, using(crate::proofs::Ends::none_barred))]
+fn search(alloc: Global, graph: &Graph, join: &LinkTest, set: &[bool]) -> Result<Way, AllocError>
+    requires { length set.now < 2 ^ 32 }
+    ensures { IfOk result (IsWay graph.now.links join.now set.now) }
+{
+    if !join.walk {
+        return Ok(Way::Search(Vec::new(alloc)));
+    }
+    Ok(Way::Search(barred(alloc, graph, join, set)?))
+}
+
+/// How the marked nodes are found that a join leads to from the last nodes of so many rows. One search needs no help. Of more, each follows
+/// the links or the walks from a row's end, of which several rows may have the same, so where the marked nodes are few, and fewer than the rows,
+/// one is made from each of these.
 #[tactic(auto, using(crate::proofs::Ends::none_barred))]
 pub(crate) fn way_of(
     alloc: Global,
@@ -110,12 +123,12 @@ pub(crate) fn way_of(
 ) -> Result<Way, AllocError>
     ensures { IfOk result (IsWay graph.now.links join.now set.now) }
 {
-    if !join.walk || rows < 2 || set.len() > u32::MAX as usize {
+    if rows < 2 || set.len() > u32::MAX as usize {
         return Ok(Way::Search(Vec::new(alloc)));
     }
     let ends = numbers(alloc, set)?;
     if ends.len() > MOST_ENDS || ends.len() >= rows {
-        return Ok(Way::Search(barred(alloc, graph, join, set)?));
+        return search(alloc, graph, join, set);
     }
     let columns = columns(alloc, graph, join, &ends)?;
     Ok(Way::Ends(ends, columns))

@@ -1,4 +1,4 @@
-use Rattle.std.proofs.Common.{◌≡◌, ◌<◌, ◌++◌, ℕ, Bool, List, [], ◌∷◌, length, get_or, ap, ◌∙◌, subst, arith}
+use Rattle.std.proofs.Common.{◌≡◌, ◌<◌, ◌++◌, Bool, List, [], ◌∷◌, length, get_or, ap, ◌∙◌, subst, arith}
 use Rattle.std.specs.Prelude.{option_to_list}
 use Rattle.wc_graph.specs.declared.link.Link.{Link}
 use Rattle.wc_query.specs.declared.query.LinkTest.{LinkTest}
@@ -24,8 +24,7 @@ loop-join-preserved c =
     let out = c.in_ok-rows.rows in
     let on : GoOnTo (LeadsInto w.links join.0 set) c.args.most l.rows out =
     subst (λ (ls : List Link). GoOnTo (LeadsInto ls join.0 set) c.args.most l.rows out) c.graph-graph.ensures.links.0
-    (subst (λ (xs : List Bool). GoOnTo (LeadsInto c.graph-graph.result.now.links join.0 xs) c.args.most l.rows out) c.as_slice.ensures
-    (subst (λ (xs : List (List ℕ)). GoOnTo (LeadsInto c.graph-graph.result.now.links join.0 c.as_slice.result.now) c.args.most xs out) c.as_slice-in-loop-join.ensures c.in_ok-rows.ensures.rows)) in
+    (subst (λ (xs : List Bool). GoOnTo (LeadsInto c.graph-graph.result.now.links join.0 xs) c.args.most l.rows out) c.as_slice.ensures c.in_ok-rows.ensures.rows) in
     record {
       size = c.next_level.auto.marks ∙ l.invariant.size;
       blank = c.in_ok-rows.ensures.blank;

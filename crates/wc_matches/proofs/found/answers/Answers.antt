@@ -1,5 +1,4 @@
 use Rattle.std.proofs.Common.{Bool, List, refl, sym, subst}
-use Rattle.std.proofs.lemmas.Result.{IfOk-weaker}
 use Rattle.wc_matches.specs.Sets.{IsSet}
 use Rattle.wc_matches.proofs.Answering.{rows_match, more_match}
 use Rattle.wc_matches.proofs.Placing.{first_begun}
@@ -13,9 +12,8 @@ all_levels-requires-clause-firsts c =
 
 pub returns-clause-rows : goal.returns-clause-rows
 returns-clause-rows c =
-    IfOk-weaker c.cut.result _ _ (λ found h. rows_match c.args.world.now.world c.args.query.now _ c.args.limit c.in_ok-rows.rows refl c.in_ok-rows.ensures found.rows h.0) c.cut.ensures
+    rows_match c.args.world.now.world c.args.query.now _ c.args.limit c.in_ok-rows.rows refl c.in_ok-rows.ensures c.cut.result.rows c.cut.ensures.rows
 
 pub returns-clause-more : goal.returns-clause-more
 returns-clause-more c =
-    IfOk-weaker c.cut.result _ _
-    (λ found h. more_match c.args.world.now.world c.args.query.now _ c.args.limit c.in_ok-rows.rows refl c.in_ok-rows.ensures found.rows found.more h.0 h.1) c.cut.ensures
+    more_match c.args.world.now.world c.args.query.now _ c.args.limit c.in_ok-rows.rows refl c.in_ok-rows.ensures c.cut.result.rows c.cut.result.more c.cut.ensures.rows c.cut.ensures.more

@@ -1,4 +1,4 @@
-use Rattle.wc_matches.proofs.Rows.{sums_are_found, origins_are_found, one_origin_is_found}
+use Rattle.wc_matches.proofs.Examples.{sums_are_found, origins_are_found, one_origin_is_found}
 use Rattle.wc_matches.proofs.laws.rows_are_found.Goals as goal
 
 pub returns : goal.returns

@@ -3,5 +3,5 @@ use Rattle.std.specs.Prelude.{string_bytes, flat_map}
 use Rattle.wc_matches.specs.Texts.{row_line}
 use Rattle.wc_matches.proofs.text.put_rows.Given as goal
 
-abbrev pub invariant-loop-row : goal.invariant-loop-row
-invariant-loop-row l = string_bytes l.out ++ flat_map row_line (drop l.row-index l.rows) ≡ string_bytes l.fn.out ++ flat_map row_line l.rows
+abbrev pub invariant-loop-at : goal.invariant-loop-at
+invariant-loop-at l = string_bytes l.out ++ flat_map row_line (drop l.at l.rows) ≡ string_bytes l.fn.out ++ flat_map row_line l.rows

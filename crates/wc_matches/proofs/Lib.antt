@@ -11,3 +11,4 @@ pub mod Examples
 pub mod Names
 pub mod Ends
 pub mod Placed
+pub mod Masked

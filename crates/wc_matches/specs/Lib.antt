@@ -13,3 +13,4 @@ pub mod Laws
 pub mod Rows
 pub mod Places
 pub mod Ways
+pub mod Masks

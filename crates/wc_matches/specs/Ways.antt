@@ -1,8 +1,9 @@
 -- How the marked nodes are found that a join leads to.
-use Rattle.std.specs.Prelude.{◌≡◌, ◌↔◌, ℕ, Bool, true, false, if◌then◌else◌, List, [], ◌∷◌, slice_index_or}
+use Rattle.std.specs.Prelude.{◌≡◌, ◌≤◌, ◌↔◌, ℕ, Bool, true, false, if◌then◌else◌, List, [], ◌∷◌, length, slice_index_or}
 use Rattle.wc_graph.specs.declared.link.Link.{Link}
 use Rattle.wc_query.specs.declared.query.LinkTest.{LinkTest}
 use Rattle.wc_matches.specs.Joins.{IsJoined}
+use Rattle.wc_matches.specs.Masks.{AreMasks}
 use Rattle.wc_matches.specs.Numbers.{AreNumbers}
 use Rattle.wc_matches.specs.Sets.{AreOpen}
 use Rattle.wc_matches.specs.declared.ways.Way.{Way}
@@ -25,7 +26,10 @@ ends_from [] columns n = []
 ends_from (end ∷ ends) [] n = []
 ends_from (end ∷ ends) (column ∷ columns) n = if slice_index_or column n false then end ∷ ends_from ends columns n else ends_from ends columns n
 
--- A search finds the marked nodes though some are barred; or the ends are the marked nodes, each with the nodes from which the join leads to it.
+-- A search finds the marked nodes though some are barred; or the ends are the marked nodes, each with the nodes from which the join leads to it, or
+-- with its bit in the numbers of these.
 abbrev pub IsWay : List Link → LinkTest → List Bool → Way → Type 0
 IsWay links join set (way.Search barred) = AreOpen links join set barred.items
 IsWay links join set (way.Ends ends columns) = AreNumbers (λ m. slice_index_or set m false ≡ true) ends.items × AreColumns (IsJoined links join) ends.items columns
+IsWay links join set (way.Masks ends masks) =
+    AreNumbers (λ m. slice_index_or set m false ≡ true) ends.items × AreMasks links join ends.items masks.items × (length ends.items ≤ 64)

@@ -8,6 +8,7 @@ ghost use Rattle.wc_matches.specs.Found.{AreBlank};
 ghost use Rattle.wc_matches.specs.Levels.{GoOnTo};
 ghost use Rattle.wc_matches.specs.Numbers.{AreNumbers, with_each};
 
+use crate::masks::masked_ends;
 use crate::numbers::{marked_of, put_in_order};
 use crate::rows::Rows;
 use crate::search::{joined, unmark};
@@ -80,6 +81,7 @@ fn nexts(
     match way {
         Way::Search(barred) => searched(alloc, graph, join, set, barred, node, marks),
         Way::Ends(ends, columns) => ends_from(alloc, ends, columns.as_slice(), node),
+        Way::Masks(ends, masks) => masked_ends(alloc, ends, masks, node),
     }
 }
 

@@ -4,6 +4,7 @@
 mod found;
 mod laws;
 mod level;
+mod masks;
 mod nodes;
 mod numbers;
 mod rows;

@@ -11,14 +11,14 @@ use wc_graph::{Graph, Link, LinkSet};
 use wc_query::LinkTest;
 
 /// The node that a link leads from in a direction.
-fn start_of(forward: bool, link: &Link) -> u32
+pub(crate) fn start_of(forward: bool, link: &Link) -> u32
     ensures { result ≡ start_of forward link.now }
 {
     if forward { link.source } else { link.target }
 }
 
 /// The node that a link leads to in a direction.
-fn end_of(forward: bool, link: &Link) -> u32
+pub(crate) fn end_of(forward: bool, link: &Link) -> u32
     ensures { result ≡ end_of forward link.now }
 {
     if forward { link.target } else { link.source }

@@ -5,6 +5,7 @@ ghost use Rattle.wc_matches.specs.Joins.{IsJoined};
 ghost use Rattle.wc_matches.specs.Sets.{AreOpen};
 ghost use Rattle.wc_matches.specs.Ways.{IsColumn, AreColumns, IsWay, ends_from};
 
+use crate::masks::masks_of;
 use crate::numbers::{is_at, is_marked, numbers};
 use crate::sets::{Marks, leading, leading_to};
 use std::alloc::{AllocError, Global};
@@ -22,6 +23,8 @@ pub enum Way {
     Search(Vec<bool>),
     /// Out of all marked nodes, in order, and for each of them a mark for each node from which the join leads to it.
     Ends(Vec<u32>, List<Marks>),
+    /// Out of all marked nodes, in order, and for each node a number whose bits say to which of them the join leads from it.
+    Masks(Vec<u32>, Vec<u64>),
 }
 
 /// Which nodes a join leads from to a node.
@@ -112,8 +115,8 @@ fn search(alloc: Global, graph: &Graph, join: &LinkTest, set: &[bool]) -> Result
 
 /// How the marked nodes are found that a join leads to from the last nodes of so many rows. One search needs no help. Of more, each follows
 /// the links or the walks from a row's end, of which several rows may have the same, so where the marked nodes are few, and fewer than the rows,
-/// one is made from each of these.
-#[tactic(auto, using(crate::proofs::Ends::none_barred))]
+/// it goes from these: for all of them together, unless the links bring something new too often, and then one search for each.
+#[tactic(auto, using(crate::proofs::Ends::none_barred, crate::proofs::Masked::ends_inside))]
 pub(crate) fn way_of(
     alloc: Global,
     graph: &Graph,
@@ -123,12 +126,15 @@ pub(crate) fn way_of(
 ) -> Result<Way, AllocError>
     ensures { IfOk result (IsWay graph.now.links join.now set.now) }
 {
-    if rows < 2 || set.len() > u32::MAX as usize {
+    if rows < 2 || set.len() > graph.nodes().len() + 1 {
         return Ok(Way::Search(Vec::new(alloc)));
     }
     let ends = numbers(alloc, set)?;
     if ends.len() > MOST_ENDS || ends.len() >= rows {
         return search(alloc, graph, join, set);
+    }
+    if let Some(masks) = masks_of(alloc, graph, join, &ends)? {
+        return Ok(Way::Masks(ends, masks));
     }
     let columns = columns(alloc, graph, join, &ends)?;
     Ok(Way::Ends(ends, columns))

@@ -4,6 +4,7 @@ ghost use Rattle.wc_file_disk.specs.Calls.{calls_of, is_open, is_apart, is_named
 ghost use Rattle.wc_file_disk.specs.Calls.FileCall.{opened, missing, created, apart, named, locked, closed, measured, read as read_piece, wrote, failed_to_write, cut, failed_to_cut, synced};
 
 use std::fs::{File, OpenOptions};
+use std::os::fd::AsRawFd;
 use std::os::unix::fs::FileExt;
 use std::path::Path;
 use std::rt::Files;
@@ -45,6 +46,8 @@ pub struct SystemFile<R: Drop> {
     rt: R,
     path: Text,
     file: Option<File>,
+    // Whether the system was told to drop its copies of the file's pages.
+    is_fresh: bool,
     log: Record,
 }
 
@@ -54,6 +57,12 @@ fn opened_file(file: &Option<File>) -> io::Result<&File> {
         Some(file) => Ok(file),
         None => Err(io::Error::from(io::ErrorKind::NotFound)),
     }
+}
+
+/// Tells the system to drop its copies of the file's pages, so that a read gives what the disk has: behind a sync that failed in an
+/// earlier program the system may hold pages that it never wrote as if they were on the disk. It is advice, and changes no answer.
+fn forget_pages(file: &File) {
+    let _ = libc::posix_fadvise(file.as_raw_fd(), 0, 0, libc::POSIX_FADV_DONTNEED);
 }
 
 /// The folder that the path lies in.
@@ -132,6 +141,7 @@ impl<R: Files<File = File> + Drop> SystemFile<R> {
             rt,
             path,
             file: None,
+            is_fresh: false,
             log: Record::new(),
         }
     }
@@ -300,14 +310,19 @@ impl<R: Files<File = File> + Drop> SystemFile<R> {
         outcome
     }
 
-    /// Brings the bytes to the disk.
+    /// Brings the bytes to the disk. Behind the first time the system's copies of them are dropped.
     pub fn sync(&mut self) -> io::Result<()>
         requires held { is_held (calls_of self.old.log.events) ≡ true }
         ensures path { self.new.path ≡ self.old.path }
         ensures noted { OnOk result (calls_of self.new.log.events ≡ synced ∷ calls_of self.old.log.events) }
         ensures refused { OnErr result (calls_of self.new.log.events ≡ calls_of self.old.log.events) }
     {
-        opened_file(&self.file)?.sync_data()?;
+        let file = opened_file(&self.file)?;
+        file.sync_data()?;
+        if !self.is_fresh {
+            forget_pages(file);
+            self.is_fresh = true;
+        }
         self.log.note(&[SYNCED], &[], &[]);
         Ok(())
     }

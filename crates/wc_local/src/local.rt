@@ -72,8 +72,11 @@ pub struct LocalTransport<R: Drop> {
 }
 
 impl<R: Files<File = File> + Processes + Env + Drop> LocalTransport<R> {
+    ghost use Rattle.wc_local.specs.Folders.{jobs_folder};
+
     /// The programs of this machine, below a folder. No call of the system is made yet.
     pub fn new(rt: R, alloc: Global, folder: Text) -> LocalTransport<R>
+        ensures folder { jobs_folder result ≡ folder }
         ensures untold { ⟦<LocalTransport<R> as Transport>⟧.table result ≡ None }
         ensures unplaced { ⟦<LocalTransport<R> as Transport>⟧.placed result ≡ None }
         ensures unfinished { ⟦<LocalTransport<R> as Transport>⟧.tells_finished result ≡ false }

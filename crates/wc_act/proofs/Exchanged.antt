@@ -18,7 +18,7 @@ use Rattle.wc_drill.specs.Runner.Outside.{Outside}
 use Rattle.wc_drill.specs.Runner.Refusals.{IsFullAt}
 use Rattle.wc_drill.specs.Runner.Runs.{EndsAs, TakesAll, TakesFewer, TakesUpTo}
 use Rattle.wc_cli.specs.declared.command.Command.{Command}
-use Rattle.wc_cli.specs.declared.command.Command.TheVariants.{Dry, Check, Init, Submit, Run, View, Pause, Play, Kill, Pack, Drill, Query}
+use Rattle.wc_cli.specs.declared.command.Command.TheVariants.{Dry, Check, Init, Submit, Run, View, Pause, Play, Kill, Pack, Drill, Query, Expand}
 use Rattle.wc_plan.specs.declared.deed.Deed.{Deed}
 use Rattle.wc_plan.specs.declared.deed.Deed.TheVariants as deed
 use Rattle.wc_plan.specs.declared.deed.Plan.TheVariants as plan
@@ -94,6 +94,7 @@ module _ {T : Type 0} (g : transport.Ghosts T) where
   asked_by told (Some Pack) d old new plans asked idle = idle_asked told (Some Pack) d 0 old new plans tt idle
   asked_by told (Some (Drill seed count)) d old new plans asked idle = idle_asked told (Some (Drill seed count)) d 0 old new plans tt idle
   asked_by told (Some (Query words limit)) d old new plans asked idle = idle_asked told (Some (Query words limit)) d 0 old new plans tt idle
+  asked_by told (Some (Expand file spec)) d old new plans asked idle = idle_asked told (Some (Expand file spec)) d 0 old new plans tt idle
 
 -- ---- how a run ended
 

@@ -2,7 +2,7 @@
 use Rattle.std.proofs.Common.{◌≡◌, ℕ, List, Option, Some, None, Result, Ok, Err, sym, subst}
 use Rattle.wc_config.specs.declared.settings.Settings.{Settings}
 use Rattle.wc_cli.specs.declared.command.Command.{Command}
-use Rattle.wc_cli.specs.declared.command.Command.TheVariants.{Dry, Check, Init, Submit, Run, View, Pause, Play, Kill, Pack, Drill, Query}
+use Rattle.wc_cli.specs.declared.command.Command.TheVariants.{Dry, Check, Init, Submit, Run, View, Pause, Play, Kill, Pack, Drill, Query, Expand}
 use Rattle.wc_plan.specs.Words.{query_of}
 use Rattle.wc_plan.specs.QueryError.{QueryError}
 use Rattle.wc_matches.specs.Query.{Query as Sought}
@@ -48,3 +48,4 @@ plan_idle told (Some (Kill pid)) p is none = idle_is p _ is tt
 plan_idle told (Some Pack) p is none = idle_is p _ is tt
 plan_idle told (Some (Drill seed count)) p is none = idle_is p _ is tt
 plan_idle told (Some (Query words limit)) p is none = query_idle limit (query_of words) p is
+plan_idle told (Some (Expand file spec)) p (r, reads, reply, owes, is) none = idle_is p _ is tt

@@ -159,6 +159,9 @@ formed_masked (form.Alone which) operands f = refl
 formed_masked (form.Numbered bounds which) operands f = refl
 formed_masked (form.Drill seeds counts) operands f = refl
 formed_masked form.Query operands f = refl
+formed_masked form.Expand [] f = refl
+formed_masked form.Expand (file ∷ []) f = refl
+formed_masked form.Expand (file ∷ w ∷ ws) f = refl
 
 masked_same : (f g : Values) → ((n : Text) → bytes_eq set.operand_id n ≡ false → f n ≡ g n) → masked f ≡ masked g
 masked_same f g is = λ i n. at n i

@@ -5,7 +5,7 @@ use Rattle.wc_cli.specs.declared.table.Bounds.{Bounds}
 use Rattle.wc_cli.specs.declared.table.Choice.{Choice as Taken}
 use Rattle.wc_cli.specs.declared.table.Choice.TheVariants as taken
 use Rattle.wc_cli.specs.declared.table.Form.{Form}
-use Rattle.wc_cli.specs.declared.table.Form.TheVariants.{Dry, Check, Submit, Run, Alone, Numbered, Drill, Query}
+use Rattle.wc_cli.specs.declared.table.Form.TheVariants.{Dry, Check, Submit, Run, Alone, Numbered, Drill, Query, Expand}
 use Rattle.wc_cli.specs.declared.table.Lone.TheVariants.{Init, List as Processes, Graph, Verify, Pack}
 use Rattle.wc_cli.specs.declared.table.Numbered.TheVariants.{Tree, Show, Pause, Play, Kill}
 use Rattle.wc_cli.specs.declared.table.Entry.{Entry as Written}
@@ -60,6 +60,9 @@ for_results = codes "table"
 abbrev pub for_settings : List ℕ
 for_settings = codes "settings"
 
+abbrev pub for_spec : List ℕ
+for_spec = codes "spec"
+
 -- an option: one that takes a text, or one that takes a number
 pub data Choice : Type 0 where
   text : List ℕ → Choice
@@ -81,7 +84,7 @@ abbrev entry : List ℕ → Form → List Choice → Entry
 entry word form options = record { word = word; form = form; options = options }
 
 -- The commands. `Dry` and `Submit` take `FILE NAME [PORT=VALUE]...`, `Check` takes `FILE`, `Run` and `Alone` take no operands,
--- `Numbered` takes one number within its bounds, `Drill` two, and `Query` any number of operands.
+-- `Numbered` takes one number within its bounds, `Drill` two, `Query` any number of operands, and `Expand` takes `FILE`.
 unfoldable pub table : List Entry
 table =
     entry (codes "dry") Dry (text for_inputs ∷ text for_results ∷ number for_fuel ∷ [])
@@ -100,6 +103,7 @@ table =
     ∷ entry (codes "pack") (Alone Pack) []
     ∷ entry (codes "drill") (Drill seeds chain_counts) []
     ∷ entry (codes "query") Query (number for_limit ∷ [])
+    ∷ entry (codes "expand") Expand (text for_spec ∷ [])
     ∷ []
 
 -- ---- what the table says of a word

@@ -5,7 +5,7 @@ use Rattle.std.specs.List.{position_or_len, before_first, after_first, list_all,
 use Rattle.std.specs.Str.{bytes_eq}
 use Rattle.std.specs.Str.Parse.{digits_value}
 use Rattle.wc_cli.specs.declared.command.Command.{Command}
-use Rattle.wc_cli.specs.declared.command.Command.TheVariants.{Check, Dry, Init, Submit, Run, View, Pause, Play, Kill, Pack, Drill, Query}
+use Rattle.wc_cli.specs.declared.command.Command.TheVariants.{Check, Dry, Init, Submit, Run, View, Pause, Play, Kill, Pack, Drill, Query, Expand}
 use Rattle.wc_cli.specs.declared.command.View.TheVariants as view
 use Rattle.wc_cli.specs.declared.table.Bounds.{Bounds}
 use Rattle.wc_cli.specs.declared.table.Form.{Form}
@@ -14,7 +14,7 @@ use Rattle.wc_cli.specs.declared.table.Lone.{Lone}
 use Rattle.wc_cli.specs.declared.table.Lone.TheVariants as lone
 use Rattle.wc_cli.specs.declared.table.Numbered.{Numbered}
 use Rattle.wc_cli.specs.declared.table.Numbered.TheVariants as numbered
-use Rattle.wc_cli.specs.Table.{Amount, for_inputs, for_results, for_settings, for_fuel, for_turns, for_seed, for_limit, form_of, options_of}
+use Rattle.wc_cli.specs.Table.{Amount, for_inputs, for_results, for_settings, for_spec, for_fuel, for_turns, for_seed, for_limit, form_of, options_of}
 
 -- ---- a word PORT=VALUE
 
@@ -184,6 +184,11 @@ query_with words None = None
 abbrev pub query_of : List (List ℕ) → Values → Option Command
 query_of words value = query_with words (amount_of for_limit value)
 
+-- `FILE`, where the option for the other file is given; without it the words are no command
+abbrev pub expand_of : List (List ℕ) → Values → Option Command
+expand_of (file ∷ []) value = option_map (Expand file) (value for_spec)
+expand_of _ value = None
+
 -- a command that takes no operands
 abbrev pub alone : Command → List (List ℕ) → Option Command
 alone c [] = Some c
@@ -213,6 +218,7 @@ formed (form.Alone which) operands value = alone (lone_command which) operands
 formed (form.Numbered bounds which) operands value = option_map (with_number which) (one_number bounds operands)
 formed (form.Drill seeds counts) operands value = drill_of seeds counts operands
 formed form.Query operands value = query_of operands value
+formed form.Expand operands value = expand_of operands value
 
 -- ---- all words
 

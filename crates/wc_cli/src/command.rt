@@ -5,12 +5,12 @@ ghost use Rattle.std.specs.List.{list_all};
 ghost use Rattle.std.specs.Str.{is_utf8};
 ghost use Rattle.clap.specs.Words.{all_of, found_of, rows_of, subcommand_rows_of};
 ghost use Rattle.wc_cli.specs.Line.{operand_id, operands_in, values_in, command_met};
-ghost use Rattle.wc_cli.specs.Words.{cut_word, cut_all, digits_of, within, number_in, number_or, dry_of, check_of, submit_of, run_of, drill_of, query_of, one_number, alone, lone_command, with_number, formed, named_command, command_of};
+ghost use Rattle.wc_cli.specs.Words.{cut_word, cut_all, digits_of, within, number_in, number_or, dry_of, check_of, submit_of, run_of, drill_of, query_of, expand_of, one_number, alone, lone_command, with_number, formed, named_command, command_of};
 
 use crate::line::{OPERAND, matches_of};
 use crate::table::{
-    Amount, Bounds, FUEL, Form, INPUTS, LIMIT, Lone, Numbered, RESULTS, SEED, SETTINGS, TURNS,
-    form_of,
+    Amount, Bounds, FUEL, Form, INPUTS, LIMIT, Lone, Numbered, RESULTS, SEED, SETTINGS, SPEC,
+    TURNS, form_of,
 };
 use clap::ArgMatches;
 use std::alloc::{AllocError, Global};
@@ -123,6 +123,13 @@ pub enum Command {
         words: Words,
         /// How many rows are listed at most.
         limit: u32,
+    },
+    /// `expand FILE --spec F`: the text of a library with one more work chain, which runs a job until it succeeds, with no store.
+    Expand {
+        /// The file that holds the library.
+        file: Text,
+        /// The file that says what the chain is made of.
+        spec: Text,
     },
 }
 
@@ -344,6 +351,26 @@ fn query_command(words: &Words, matches: &ArgMatches) -> Result<Option<Command>,
     }
 }
 
+/// The command `expand` with these operands and options.
+fn expand_command(
+    alloc: Global,
+    operands: &[Text],
+    matches: &ArgMatches,
+) -> Result<Option<Command>, AllocError>
+    ensures { IfOk result (λ c. c ≡ expand_of operands.now (values_in (rows_of (found_of matches.now)))) }
+{
+    let [file] = operands else {
+        return Ok(None);
+    };
+    match value_of(alloc, matches, SPEC)? {
+        Some(spec) => Ok(Some(Command::Expand {
+            file: file.copy()?,
+            spec,
+        })),
+        None => Ok(None),
+    }
+}
+
 /// The number that is the one operand.
 fn numbered(bounds: Bounds, operands: &[Text]) -> Option<u32>
     ensures { result ≡ one_number bounds operands.now }
@@ -416,6 +443,7 @@ fn formed(alloc: Global, form: Form, matches: &ArgMatches) -> Result<Option<Comm
         Form::Numbered(bounds, which) => Ok(numbered_command(bounds, which, operands)),
         Form::Drill(seeds, counts) => Ok(drill_command(seeds, counts, operands)),
         Form::Query => query_command(&words, matches),
+        Form::Expand => expand_command(alloc, operands, matches),
     }
 }
 

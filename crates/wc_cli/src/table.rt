@@ -82,6 +82,8 @@ pub enum Form {
     Drill(Bounds, Bounds),
     /// `query NODE [LINK NODE]...`: any number of operands.
     Query,
+    /// `expand FILE --spec F`: one operand, and an option that must be there.
+    Expand,
 }
 
 /// A command of the command line.
@@ -133,6 +135,9 @@ pub const RESULTS: &str = "table";
 /// The option for a file with the settings.
 pub const SETTINGS: &str = "settings";
 
+/// The option for a file that says what a restart chain is made of.
+pub const SPEC: &str = "spec";
+
 /// The option for the turns of loops and calls that an evaluation may take.
 pub const FUEL: Amount = Amount {
     name: "fuel",
@@ -162,7 +167,7 @@ pub const LIMIT: Amount = Amount {
 };
 
 /// The commands. The command line is built of this table, and the reader takes words and ranges of it.
-static COMMANDS: [Entry; 16] = [
+static COMMANDS: [Entry; 17] = [
     Entry {
         word: "dry",
         form: Form::Dry,
@@ -250,6 +255,11 @@ static COMMANDS: [Entry; 16] = [
         word: "query",
         form: Form::Query,
         options: &[Choice::Number(LIMIT)],
+    },
+    Entry {
+        word: "expand",
+        form: Form::Expand,
+        options: &[Choice::Text(SPEC)],
     },
 ];
 

@@ -12,6 +12,7 @@ ghost use Rattle.wc_act.specs.Enough.{EndsOrBreaks, HasEnoughToRun};
 ghost use Rattle.wc_act.specs.Exchanges.{exchange};
 ghost use Rattle.wc_act.specs.Outside.{turns_of, ServesOutside, TakesNoTurns};
 ghost use Rattle.wc_act.specs.Owed.{visit, AskNoDisk, IsCertain, IsNoDeeds, IsOwed, LeaveUndone, NeedDisks};
+ghost use Rattle.wc_plan.specs.Expand.{SparesSpec};
 ghost use Rattle.wc_plan.specs.Naming.{files_named, AsksFirst};
 ghost use Rattle.wc_plan.specs.Plans.{NamesNoFile};
 ghost use Rattle.wc_plan.specs.Replies.{IsReplied, OwesStatus, Writes};
@@ -45,6 +46,7 @@ fn answer<R: Shelf, D: Disk, T: Transport, P: Pacer>(
     ensures tells { (D.tells one.new ≡ D.tells one.old) × (D.tells two.new ≡ D.tells two.old) }
     ensures unnamed { NamesNoFile (command_of words.now) → shelf.new ≡ shelf.old }
     ensures named { AsksFirst (files_named (command_of words.now)) (R.asked shelf.old) (R.asked shelf.new) }
+    ensures spared { SparesSpec (R.contents shelf.old) (command_of words.now) (R.asked shelf.old) (R.asked shelf.new) }
     ensures idle { TakesNoTurns (command_of words.now) → (transport.new ≡ transport.old) × (pacer.new ≡ pacer.old) }
     ensures unbegun { IsBeforeTurns (status_of result) → (transport.new ≡ transport.old) × (pacer.new ≡ pacer.old) }
     ensures asked { IsAskedFor T.Transport (turns_of (command_of words.now)) transport.old transport.new }
@@ -73,7 +75,8 @@ fn answer<R: Shelf, D: Disk, T: Transport, P: Pacer>(
 /// the sink fails: the words are no command, or those behind `query` no query; the settings file isn't there or gives no settings;
 /// the file isn't there, isn't UTF-8, stands for no library, or its library breaks a rule; the library doesn't define the name; the
 /// file of inputs isn't there or gives none; for `dry`: the table file isn't there or has no table; a port is given badly, of which
-/// the least is named; for `dry`: the table has no result of a job, or the fuel doesn't suffice; for a command of a store: a disk
+/// the least is named; for `dry`: the table has no result of a job, or the fuel doesn't suffice; for `expand`: the spec file isn't there,
+/// or no restart chain is added to the library as it says; for a command of a store: a disk
 /// is damaged; there is no store, or for `init` and `drill` there is one; there is no such process or node; it has ended; the store
 /// would be too full. Else the text of the command is written, also where `run` took as many turns as it may, or where each live
 /// process rests.
@@ -120,16 +123,18 @@ pub fn serve<R: Shelf, W: Sink, D: Disk, T: Transport, P: Pacer>(
     // with Refused, Damaged or ReadFault; by events and `pack` that end with Full; nor by `init` and events that end with OutOfMemory. Then
     // each image at any moment of the call is one that a crash at entry might have left, and the disks read as before.
     ensures undone { LeaveUndone (R.contents shelf.old) words.now result → IsTrue (D.tells one.old) → IsTrue (D.tells two.old) → LeavesUnwritten D.Disk one.old two.old one.new two.new }
-    // The disks are as they were, and none of them failed, for words that plan no deed: `check`, `dry`, words that are no command, and a `submit`,
+    // The disks are as they were, and none of them failed, for words that plan no deed: `check`, `dry`, `expand`, words that are no command, and a `submit`,
     // `run` or `query` that is refused for its words or its files, where the shelf tells its contents.
     ensures files { AskNoDisk (R.contents shelf.old) words.now → (one.new ≡ one.old) × (two.new ≡ two.old) × (result ≡ Status.DiskFault → ⊥) }
     // They also are where the cause of a refusal is none of a deed's, whether the shelf tells its contents or not.
     ensures early { (c : ACause) → result ≡ Status.Refused c → IsNoDeeds (R.contents shelf.old) words.now c → (one.new ≡ one.old) × (two.new ≡ two.old) }
     // The shelf is as it was for words that name no file.
     ensures unnamed { NamesNoFile (command_of words.now) → shelf.new ≡ shelf.old }
-    // It was asked for the first of the files that the words name, each once and in the order of settings, library, inputs and results of jobs, and
-    // for nothing else, however the call ends.
+    // It was asked for the first of the files that the words name, each once and in the order of settings, library, inputs and results of jobs, or library and what a restart chain is
+    // made of, and for nothing else, however the call ends.
     ensures named { AsksFirst (files_named (command_of words.now)) (R.asked shelf.old) (R.asked shelf.new) }
+    // Where the shelf tells its contents, and the library's file of `expand` is refused, that file alone was asked for, if any was, however the call ends.
+    ensures spared { SparesSpec (R.contents shelf.old) (command_of words.now) (R.asked shelf.old) (R.asked shelf.new) }
     // The transport and the clock are as they were for words that are no `run`.
     ensures idle { TakesNoTurns (command_of words.now) → (transport.new ≡ transport.old) × (pacer.new ≡ pacer.old) }
     // They also are where the status is Refused, Damaged or ReadFault, whatever the words.

@@ -7,6 +7,7 @@ pub mod Means
 pub mod Submitted
 pub mod Configured
 pub mod Once
+pub mod Spared
 pub mod Planned
 pub mod Replied
 mod GivenBadly

@@ -26,6 +26,10 @@ asks_one file back old new one = asks_part (file ∷ []) back old new one
 pub asks_one_then : (file : List ℕ) (back old mid new : List (List ℕ)) → mid ≡ old ++ (file ∷ []) → AsksFirst back mid new → AsksFirst (file ∷ back) old new
 asks_one_then file back old mid new one asks = asks_then (file ∷ []) back old mid new one asks
 
+-- the first file, and then this one or none
+pub asks_behind : (file : List ℕ) (back old mid new : List (List ℕ)) → mid ≡ old ++ (file ∷ []) → new ≡ mid ++ back → new ≡ old ++ (file ∷ back)
+asks_behind file back old mid new one then = then ∙ ap (λ (l : List (List ℕ)). l ++ back) one ∙ append_assoc old (file ∷ []) back
+
 -- no file is named
 pub asks_nothing : (old : List (List ℕ)) → old ≡ old ++ []
 asks_nothing old = sym (append-nil old)

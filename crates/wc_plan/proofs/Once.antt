@@ -13,7 +13,7 @@ use Rattle.wc_parser.proofs.Texts.{one_text_answer}
 use Rattle.wc_check.proofs.Single.{one_first}
 use Rattle.wc_config.specs.declared.settings.Settings.{Settings}
 use Rattle.wc_cli.specs.declared.command.Command.{Command}
-use Rattle.wc_cli.specs.declared.command.Command.TheVariants.{Check, Dry, Init, Submit, Run, View, Pause, Play, Kill, Pack, Drill, Query}
+use Rattle.wc_cli.specs.declared.command.Command.TheVariants.{Check, Dry, Init, Submit, Run, View, Pause, Play, Kill, Pack, Drill, Query, Expand}
 use Rattle.wc_plan.specs.declared.commands.dry.Trial.{Trial}
 use Rattle.wc_plan.specs.declared.libraries.Read.{Read}
 use Rattle.wc_plan.specs.declared.libraries.Read.TheVariants as read
@@ -24,6 +24,7 @@ use Rattle.wc_plan.specs.declared.submission.Prepared.{Prepared}
 use Rattle.wc_plan.specs.Files.{read_found, ReadsLibrary, ReadsParsed, ReadsText, ReadsBytes, Reads, ReadsFrom}
 use Rattle.wc_plan.specs.Further.{InputsFrom, TableFrom, kinds_of, read_file}
 use Rattle.wc_plan.specs.Dry.{owed_check, owed_rows, OwesRows, OwesDefinition, OwesDry}
+use Rattle.wc_plan.specs.Expand.{owed_content, OwesExpand}
 use Rattle.wc_plan.specs.Plans.{Plans, PlansSubmission, plan_of_prepared, plan_of_run}
 use Rattle.wc_plan.specs.Submits.{inputs_beside, prepared_with, InputsFor, PreparesRead, PreparesFrom}
 use Rattle.wc_plan.proofs.Configured.{settings_from}
@@ -115,6 +116,18 @@ one_dry : (told : Option (List ℕ → Option (List ℕ))) (t : Trial) (file : L
     → OwesDry told t r a → OwesDry told t s b → a ≡ b
 one_dry told t file r s a b h x y p q = one_dry_read told t r a b h p (subst (λ (z : Read). OwesDry told t z b) (one_from told file s r h y x) q)
 
+-- ---- what `expand` owes
+
+one_expand_read : (told : Option (List ℕ → Option (List ℕ))) (spec : List ℕ) (r : Read) (a b : Reply) → IsSome told → OwesExpand told spec r a → OwesExpand told spec r b → a ≡ b
+one_expand_read told spec (read.Refused c) a b h p q = p ∙ sym q
+one_expand_read None spec (read.Library library) a b h p q = absurd (cc)
+one_expand_read (Some contents) spec (read.Library library) a b h p q = p.2 ∙ ap (owed_content library spec) (p.1 ∙ sym q.1) ∙ sym q.2
+
+one_expand : (told : Option (List ℕ → Option (List ℕ))) (file spec : List ℕ) (r s : Read) (a b : Reply) → IsSome told → ReadsFrom told file r → ReadsFrom told file s
+    → OwesExpand told spec r a → OwesExpand told spec s b → a ≡ b
+one_expand told file spec r s a b h x y p q =
+    one_expand_read told spec r a b h p (subst (λ (z : Read). OwesExpand told spec z b) (one_from told file s r h y x) q)
+
 -- ---- a plan
 
 one_submission : (told : Option (List ℕ → Option (List ℕ))) (file name : List ℕ) (given : List (List ℕ × List ℕ)) (inputs : Option (List ℕ)) (s : Result Settings Cause) (p q : Plan) → IsSome told
@@ -141,3 +154,5 @@ one_plan told (Some (View v)) p q h a b = a ∙ sym b
 one_plan told (Some Pack) p q h a b = a ∙ sym b
 one_plan told (Some (Drill seed count)) p q h a b = a ∙ sym b
 one_plan told (Some (Query words limit)) p q h a b = a ∙ sym b
+one_plan told (Some (Expand file spec)) p q h a b =
+    a.4 ∙ ap (λ (r : Reply). plan.Reply r) (one_expand told file spec a.0 b.0 a.2 b.2 h a.1 b.1 a.3 b.3) ∙ sym b.4

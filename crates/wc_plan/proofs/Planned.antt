@@ -3,7 +3,7 @@ use Rattle.std.proofs.Common.{◌≡◌, ◌≤◌, ℕ, List, Option, Some, Non
 use Rattle.wc_state.specs.Ranges.{AreLimits}
 use Rattle.wc_config.specs.declared.settings.Settings.{Settings}
 use Rattle.wc_cli.specs.declared.command.Command.{Command}
-use Rattle.wc_cli.specs.declared.command.Command.TheVariants.{Dry, Check, Init, Submit, Run, View, Pause, Play, Kill, Pack, Drill, Query}
+use Rattle.wc_cli.specs.declared.command.Command.TheVariants.{Dry, Check, Init, Submit, Run, View, Pause, Play, Kill, Pack, Drill, Query, Expand}
 use Rattle.wc_query.specs.Words.{query_of}
 use Rattle.wc_query.specs.declared.error.QueryError.{QueryError}
 use Rattle.wc_query.specs.declared.query.Query.{Query as Sought}
@@ -64,3 +64,4 @@ plan_ready told (Some (View v)) d p = subst IsReadyDeed (same_deed d _ p) tt
 plan_ready told (Some Pack) d p = subst IsReadyDeed (same_deed d _ p) tt
 plan_ready told (Some (Drill seed count)) d p = subst IsReadyDeed (same_deed d (deed.Begin (begin.Drill seed (chains_of count))) p) (few_chains count)
 plan_ready told (Some (Query words limit)) d p = query_ready limit (query_of words) d p
+plan_ready told (Some (Expand file spec)) d p = absurd (cc p.4)

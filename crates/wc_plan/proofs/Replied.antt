@@ -9,7 +9,7 @@ use Rattle.wc_semantics.specs.Tables.{plain, no_kills}
 use Rattle.wc_semantics.specs.Meaning.{meaning}
 use Rattle.wc_config.specs.declared.settings.Settings.{Settings}
 use Rattle.wc_cli.specs.declared.command.Command.{Command}
-use Rattle.wc_cli.specs.declared.command.Command.TheVariants.{Check, Dry, Init, Submit, Run, View, Pause, Play, Kill, Pack, Drill, Query}
+use Rattle.wc_cli.specs.declared.command.Command.TheVariants.{Check, Dry, Init, Submit, Run, View, Pause, Play, Kill, Pack, Drill, Query, Expand}
 use Rattle.wc_query.specs.Words.{query_of}
 use Rattle.wc_query.specs.declared.error.QueryError.{QueryError}
 use Rattle.wc_query.specs.declared.query.Query.{Query as Sought}
@@ -26,6 +26,11 @@ use Rattle.wc_plan.specs.declared.status.Status.{Status}
 use Rattle.wc_plan.specs.declared.status.Status.TheVariants as status
 use Rattle.wc_plan.specs.Given.{bad_given, fields_of}
 use Rattle.wc_plan.specs.Dry.{owed_answer, owed_inputs, owed_rows, owed_check, OwesRows, OwesDefinition, OwesDry}
+use Rattle.wc_handlers.specs.declared.error.RestartError.{RestartError}
+use Rattle.wc_handlers.specs.declared.spec.Spec.{Spec}
+use Rattle.wc_handlers.specs.Reading.{spec_in}
+use Rattle.wc_restart.specs.Judging.{refusal}
+use Rattle.wc_plan.specs.Expand.{owed_chain, owed_spec, owed_content, OwesExpand}
 use Rattle.wc_plan.specs.Plans.{Plans, PlansSubmission, plan_of_prepared, plan_of_query, plan_of_run}
 use Rattle.wc_plan.specs.Replies.{refuses, IsReplied}
 use Rattle.wc_plan.specs.declared.submission.Prepared.{Prepared}
@@ -110,6 +115,23 @@ query_refused : (limit : ℕ) (q : Result Sought QueryError) (r : Reply) → pla
 query_refused limit (Err e) r is = subst HasReplied (same_reply (refuses (cause.Query e)) r is) tt
 query_refused limit (Ok query) r is = absurd (cc)
 
+-- an expansion
+chain_replied : (library : List Definition) (s : Spec) (e : Option RestartError) → HasReplied (owed_chain library s e)
+chain_replied library s None = tt
+chain_replied library s (Some e) = tt
+
+spec_replied : (library : List Definition) (s : Result Spec RestartError) → HasReplied (owed_spec library s)
+spec_replied library (Ok s) = chain_replied library s (refusal library s)
+spec_replied library (Err e) = tt
+
+content_replied : (library : List Definition) (spec : List ℕ) (content : Option (List ℕ)) → HasReplied (owed_content library spec content)
+content_replied library spec None = tt
+content_replied library spec (Some bytes) = spec_replied library (spec_in bytes)
+
+expand_replied : (told : Option (List ℕ → Option (List ℕ))) (spec : List ℕ) (x : Read) (r : Reply) → OwesExpand told spec x r → HasReplied r
+expand_replied told spec (read.Refused c) r o = subst HasReplied (sym o) tt
+expand_replied told spec (read.Library library) r o = subst HasReplied (sym o.2) (content_replied library spec o.0)
+
 pub told_replied : (told : Option (List ℕ → Option (List ℕ))) (command : Option Command) (r : Reply) → Plans told command (plan.Reply r) → HasReplied r
 told_replied told None r p = subst HasReplied (same_reply (refuses cause.Words) r (sym p)) tt
 told_replied told (Some (Check file)) r p = subst HasReplied (same_reply (owed_check p.0) r (sym p.2)) (check_replied p.0)
@@ -125,3 +147,4 @@ told_replied told (Some (View v)) r p = absurd (cc)
 told_replied told (Some Pack) r p = absurd (cc)
 told_replied told (Some (Drill seed count)) r p = absurd (cc)
 told_replied told (Some (Query words limit)) r p = query_refused limit (query_of words) r (sym p)
+told_replied told (Some (Expand file spec)) r p = subst HasReplied (same_reply p.2 r (sym p.4)) (expand_replied told spec p.0 p.2 p.3)

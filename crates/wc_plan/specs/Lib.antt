@@ -10,4 +10,5 @@ pub mod Submits
 pub mod Settings
 pub mod Counts
 pub mod Naming
+pub mod Expand
 pub mod Plans

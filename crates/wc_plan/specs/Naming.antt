@@ -1,14 +1,14 @@
 -- Which files words name, and which of them a shelf was asked for.
 use Rattle.std.specs.Prelude.{◌≡◌, ◌++◌, ℕ, List, [], ◌∷◌, Option, Some, None}
 use Rattle.wc_cli.specs.declared.command.Command.{Command}
-use Rattle.wc_cli.specs.declared.command.Command.TheVariants.{Dry, Check, Init, Submit, Run, View, Pause, Play, Kill, Pack, Drill, Query}
+use Rattle.wc_cli.specs.declared.command.Command.TheVariants.{Dry, Check, Init, Submit, Run, View, Pause, Play, Kill, Pack, Drill, Query, Expand}
 
 -- the file of an option, if it is given
 abbrev pub given_file : Option (List ℕ) → List (List ℕ)
 given_file None = []
 given_file (Some file) = file ∷ []
 
--- the files that a command names, in the order in which they are read: settings first, then the library, inputs, and results of jobs
+-- the files that a command names, in the order in which they are read: settings first, then the library, inputs, and results of jobs, or what a restart chain is made of
 abbrev pub files_named : Option Command → List (List ℕ)
 files_named None = []
 files_named (Some (Check file)) = file ∷ []
@@ -23,6 +23,7 @@ files_named (Some (View v)) = []
 files_named (Some Pack) = []
 files_named (Some (Drill seed count)) = []
 files_named (Some (Query words limit)) = []
+files_named (Some (Expand file spec)) = file ∷ spec ∷ []
 
 -- A shelf was asked for the first of these files, each once and in their order, and for nothing else.
 pub record AsksFirst (files old new : List (List ℕ)) : Type 0 where

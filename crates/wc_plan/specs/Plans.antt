@@ -3,7 +3,7 @@ use Rattle.std.specs.Prelude.{◌≡◌, ◌≤◌, ℕ, min, List, Option, Some
 use Rattle.wc_state.specs.Ranges.{AreLimits}
 use Rattle.wc_config.specs.declared.settings.Settings.{Settings}
 use Rattle.wc_cli.specs.declared.command.Command.{Command}
-use Rattle.wc_cli.specs.declared.command.Command.TheVariants.{Dry, Check, Init, Submit, Run, View, Pause, Play, Kill, Pack, Drill, Query}
+use Rattle.wc_cli.specs.declared.command.Command.TheVariants.{Dry, Check, Init, Submit, Run, View, Pause, Play, Kill, Pack, Drill, Query, Expand}
 use Rattle.wc_query.specs.Words.{query_of}
 use Rattle.wc_query.specs.declared.error.QueryError.{QueryError}
 use Rattle.wc_query.specs.declared.query.Query.{Query as Sought}
@@ -25,6 +25,7 @@ use Rattle.wc_plan.specs.declared.status.Cause.TheVariants as cause
 use Rattle.wc_plan.specs.declared.submission.Prepared.{Prepared}
 use Rattle.wc_plan.specs.declared.submission.Prepared.TheVariants as prepared
 use Rattle.wc_plan.specs.Dry.{OwesDry, owed_check}
+use Rattle.wc_plan.specs.Expand.{OwesExpand}
 use Rattle.wc_plan.specs.Files.{ReadsFrom}
 use Rattle.wc_plan.specs.Replies.{refuses}
 use Rattle.wc_plan.specs.Settings.{SettingsFrom, submitted_with}
@@ -79,6 +80,7 @@ Plans told (Some (View v)) p = p ≡ on (work.View (shown.View v))
 Plans told (Some Pack) p = p ≡ on work.Pack
 Plans told (Some (Drill seed count)) p = p ≡ plan.On (deed.Begin (begin.Drill seed (chains_of count)))
 Plans told (Some (Query words limit)) p = p ≡ plan_of_query limit (query_of words)
+Plans told (Some (Expand file spec)) p = (r : Read) × ReadsFrom told file r × (reply : Reply) × OwesExpand told spec r reply × (p ≡ plan.Reply reply)
 
 -- the command names no file
 abbrev pub NamesNoFile : Option Command → Type 0
@@ -87,6 +89,7 @@ NamesNoFile (Some (Check file)) = ⊥
 NamesNoFile (Some (Dry file name given inputs table fuel)) = ⊥
 NamesNoFile (Some (Submit file name given inputs settings)) = ⊥
 NamesNoFile (Some (Run turns seed (Some file))) = ⊥
+NamesNoFile (Some (Expand file spec)) = ⊥
 NamesNoFile (Some _) = Unit {0}
 
 -- what is to be submitted is ready

@@ -16,6 +16,8 @@ use Rattle.wc_config.specs.declared.error.ConfigError.{ConfigError}
 use Rattle.wc_config.specs.declared.error.ConfigError.TheVariants as config
 use Rattle.wc_query.specs.declared.error.QueryError.{QueryError}
 use Rattle.wc_query.specs.declared.error.QueryError.TheVariants as query
+use Rattle.wc_handlers.specs.declared.error.RestartError.{RestartError}
+use Rattle.wc_handlers.specs.declared.error.RestartError.TheVariants as restart
 use Rattle.wc_plan.specs.declared.status.Cause.{Cause}
 use Rattle.wc_plan.specs.declared.status.Cause.TheVariants as cause
 
@@ -81,6 +83,18 @@ query_text query.TooLong = codes "query too long"
 query_text (query.BadWord at) = codes "query word " ++ decimal at
 query_text query.OutOfMemory = codes "out of memory"
 
+-- why no restart chain is added
+abbrev pub restart_text : RestartError → List ℕ
+restart_text restart.NotToml = codes "not toml"
+restart_text (restart.UnknownKey key) = codes "unknown key " ++ key
+restart_text (restart.BadValue key) = codes "bad value " ++ key
+restart_text (restart.UnknownName name) = codes "unknown name " ++ name
+restart_text (restart.NameTaken name) = codes "name taken " ++ name
+restart_text (restart.BadPorts name) = codes "bad ports " ++ name
+restart_text (restart.SamePriority priority) = codes "same priority " ++ decimal priority
+restart_text restart.TooMany = codes "too many"
+restart_text restart.OutOfMemory = codes "out of memory"
+
 abbrev pub cause_text : Cause → List ℕ
 cause_text cause.Words = codes "words"
 cause_text (cause.NoFile file) = codes "no file " ++ file
@@ -95,6 +109,7 @@ cause_text (cause.BadInput port) = codes "bad input " ++ port
 cause_text (cause.NoAnswer q) = codes "no answer " ++ q.program
 cause_text cause.Fuel = codes "fuel"
 cause_text (cause.Query e) = query_text e
+cause_text (cause.Restart e) = codes "restart " ++ restart_text e
 cause_text cause.NoStore = codes "no store"
 cause_text cause.StoreExists = codes "store exists"
 cause_text (cause.UnknownProcess pid) = codes "unknown process " ++ decimal pid

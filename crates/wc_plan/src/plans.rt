@@ -1,16 +1,18 @@
 //! What words ask for, as the shelf's files make it. No disk is in scope.
 
-ghost use Rattle.std.specs.Prelude.{◌≡◌, ◌≤◌, ◌∷◌, ◌++◌, None, Some, IfOk};
+ghost use Rattle.std.specs.Prelude.{◌≡◌, ◌≤◌, [], ◌∷◌, ◌++◌, None, Some, IfOk};
 ghost use Rattle.wc_state.specs.Ranges.{AreLimits};
 ghost use Rattle.wc_cli.specs.Words.{command_of};
+ghost use Rattle.wc_cli.specs.declared.command.Command.TheVariants.{Expand};
 ghost use Rattle.wc_query.specs.Words.{query_of};
 ghost use Rattle.wc_plan.specs.Counts.{CountsShelf};
+ghost use Rattle.wc_plan.specs.Expand.{SparesSpec};
 ghost use Rattle.wc_plan.specs.Naming.{given_file, files_named, AsksFirst};
 ghost use Rattle.wc_plan.specs.Plans.{IsReadyPlan, NamesNoFile, Plans, PlansSubmission, chains_of, plan_of_prepared, plan_of_query, plan_of_run, seed_of};
 ghost use Rattle.wc_plan.specs.Settings.{SettingsFrom, SettingsReady};
 ghost use Rattle.wc_plan.specs.Submits.{SubmitsReady};
 
-use crate::commands::{Trial, reply_to_check, reply_to_dry};
+use crate::commands::{Trial, reply_to_check, reply_to_dry, reply_to_expand};
 use crate::deed::{Asked, Begin, Deed, Plan, RunOptions, Shown, Work};
 use crate::error::PlanError;
 use crate::libraries::read_from;
@@ -144,6 +146,25 @@ fn plan_of_query(alloc: Global, words: &Words, limit: u32) -> Result<Plan, Alloc
     }
 }
 
+/// What the words of `expand` plan. The library's file is read and understood wholly before the spec file is asked for.
+#[tactic(auto, using(crate::proofs::Naming::asks_one, crate::proofs::Spared::asks_both, crate::proofs::Spared::spared, crate::proofs::Spared::spared_first))]
+fn plan_expansion<R: Shelf>(
+    alloc: Global,
+    shelf: &mut R,
+    file: &Text,
+    spec: &Text,
+) -> Result<Plan, PlanError>
+    ensures plans { IfOk result (λ p. Plans (R.contents shelf.old) (Some (Expand file.now spec.now)) p) }
+    ensures ready { IfOk result (λ p. IsReadyPlan p) }
+    ensures counts { CountsShelf result (R.faults shelf.old) (R.faults shelf.new) (R.failed shelf.new) }
+    ensures kept { R.contents shelf.new ≡ R.contents shelf.old }
+    ensures named { AsksFirst (file.now ∷ spec.now ∷ []) (R.asked shelf.old) (R.asked shelf.new) }
+    ensures spared { SparesSpec (R.contents shelf.old) (Some (Expand file.now spec.now)) (R.asked shelf.old) (R.asked shelf.new) }
+{
+    let read = read_from(alloc, shelf, file)?;
+    Ok(Plan::Reply(reply_to_expand(alloc, shelf, read, spec)?))
+}
+
 /// What a command asks for. Each file that it names is read and understood wholly here, before the next is read.
 #[tactic(auto, using(crate::proofs::Naming::asks_none, crate::proofs::Naming::asks_all, crate::proofs::Naming::asks_part, crate::proofs::Naming::asks_then, crate::proofs::Naming::asks_one, crate::proofs::Naming::asks_one_then))]
 fn plan_command<R: Shelf>(alloc: Global, command: Command, shelf: &mut R) -> Result<Plan, PlanError>
@@ -153,6 +174,7 @@ fn plan_command<R: Shelf>(alloc: Global, command: Command, shelf: &mut R) -> Res
     ensures unasked { NamesNoFile (Some command) → shelf.new ≡ shelf.old }
     ensures kept { R.contents shelf.new ≡ R.contents shelf.old }
     ensures named { AsksFirst (files_named (Some command)) (R.asked shelf.old) (R.asked shelf.new) }
+    ensures spared { SparesSpec (R.contents shelf.old) (Some command) (R.asked shelf.old) (R.asked shelf.new) }
 {
     match command {
         Command::Check { file } => {
@@ -209,6 +231,7 @@ fn plan_command<R: Shelf>(alloc: Global, command: Command, shelf: &mut R) -> Res
         Command::Kill { pid } => Ok(Plan::On(Deed::Work(Work::Event(Asked::Kill(pid))))),
         Command::View(view) => Ok(Plan::On(Deed::Work(Work::View(Shown::View(view))))),
         Command::Query { words, limit } => Ok(plan_of_query(alloc, &words, limit)?),
+        Command::Expand { file, spec } => plan_expansion(alloc, shelf, &file, &spec),
         Command::Pack => Ok(Plan::On(Deed::Work(Work::Pack))),
         Command::Drill { seed, count } => Ok(Plan::On(Deed::Begin(Begin::Drill {
             seed,
@@ -226,6 +249,7 @@ pub fn plan<R: Shelf>(alloc: Global, words: &Words, shelf: &mut R) -> Result<Pla
     ensures unasked { NamesNoFile (command_of words.now) → shelf.new ≡ shelf.old }
     ensures kept { R.contents shelf.new ≡ R.contents shelf.old }
     ensures named { AsksFirst (files_named (command_of words.now)) (R.asked shelf.old) (R.asked shelf.new) }
+    ensures spared { SparesSpec (R.contents shelf.old) (command_of words.now) (R.asked shelf.old) (R.asked shelf.new) }
 {
     match command_of(alloc, words)? {
         None => Ok(Plan::Reply(refuse(alloc, Cause::Words)?)),

@@ -5,6 +5,7 @@ ghost use Rattle.wc_plan.specs.Replies.{code_of};
 
 use wc_check::CheckError;
 use wc_config::ConfigError;
+use wc_expansion::RestartError;
 use wc_json::JsonError;
 use wc_parser::ParseError;
 use wc_query::QueryError;
@@ -40,6 +41,8 @@ pub enum Cause {
     Fuel,
     /// The words of a query are none.
     Query(QueryError),
+    /// No restart chain is added to the library.
+    Restart(RestartError),
     /// There is no store.
     NoStore,
     /// There is a store already.

@@ -2,12 +2,13 @@
 
 ghost use Rattle.std.specs.Prelude.{◌≡◌, ◌∷◌, ◌++◌, [], IfOk, codes, string_bytes};
 ghost use Rattle.std.specs.Fmt.{decimal};
-ghost use Rattle.wc_plan.specs.Texts.{at_place, at_name, lex_text, parse_text, check_text, at_path, json_text, config_text, query_text, ended_text, cause_text, refusal_text};
+ghost use Rattle.wc_plan.specs.Texts.{at_place, at_name, lex_text, parse_text, check_text, at_path, json_text, config_text, query_text, restart_text, ended_text, cause_text, refusal_text};
 
 use crate::status::Cause;
 use std::alloc::{AllocError, Global};
 use wc_check::CheckError;
 use wc_config::ConfigError;
+use wc_expansion::RestartError;
 use wc_json::JsonError;
 use wc_lexer::LexError;
 use wc_parser::ParseError;
@@ -149,6 +150,31 @@ fn query_name(alloc: Global, error: &QueryError) -> Result<String, AllocError>
     }
 }
 
+/// What a refusal of a restart chain is called.
+fn restart_name(alloc: Global, error: &RestartError) -> Result<String, AllocError>
+    ensures { IfOk result (λ text. string_bytes text ≡ restart_text error.now) }
+{
+    match error {
+        RestartError::NotToml => String::from_str(alloc, "not toml"),
+        RestartError::UnknownKey(key) => format!(in alloc; "unknown key {}", key.as_str()),
+        RestartError::BadValue(key) => format!(in alloc; "bad value {}", key.as_str()),
+        RestartError::UnknownName(name) => format!(in alloc; "unknown name {}", name.as_str()),
+        RestartError::NameTaken(name) => format!(in alloc; "name taken {}", name.as_str()),
+        RestartError::BadPorts(name) => format!(in alloc; "bad ports {}", name.as_str()),
+        RestartError::SamePriority(priority) => format!(in alloc; "same priority {priority}"),
+        RestartError::TooMany => String::from_str(alloc, "too many"),
+        RestartError::OutOfMemory => String::from_str(alloc, "out of memory"),
+    }
+}
+
+/// The text of a refusal of a restart chain.
+fn chain_name(alloc: Global, error: &RestartError) -> Result<String, AllocError>
+    ensures { IfOk result (λ text. string_bytes text ≡ codes "restart " ++ restart_text error.now) }
+{
+    let name = restart_name(alloc, error)?;
+    format!(in alloc; "restart {}", name.as_str())
+}
+
 /// What a cause is called.
 fn cause_name(alloc: Global, cause: &Cause) -> Result<String, AllocError>
     ensures { IfOk result (λ text. string_bytes text ≡ cause_text cause.now) }
@@ -167,6 +193,7 @@ fn cause_name(alloc: Global, cause: &Cause) -> Result<String, AllocError>
         Cause::NoAnswer(request) => format!(in alloc; "no answer {}", request.program.as_str()),
         Cause::Fuel => String::from_str(alloc, "fuel"),
         Cause::Query(error) => query_name(alloc, error),
+        Cause::Restart(error) => chain_name(alloc, error),
         Cause::NoStore => String::from_str(alloc, "no store"),
         Cause::StoreExists => String::from_str(alloc, "store exists"),
         Cause::UnknownProcess(pid) => format!(in alloc; "unknown process {pid}"),

@@ -19,7 +19,7 @@ _maroonclamp() {
   first=1 command=$name
   if [ "$name" = maroonclamp ]; then
     if [ "$COMP_CWORD" -eq 1 ]; then
-      _maroonclamp_words "check dry init submit run list tree show graph pause play kill verify pack drill query"
+      _maroonclamp_words "check dry init submit run list tree show graph pause play kill verify pack drill query expand"
       return
     fi
     command=${COMP_WORDS[1]} first=2
@@ -32,13 +32,13 @@ _maroonclamp() {
   fi
   case $before in
     --inputs | --table) _maroonclamp_files '*.json'; return ;;
-    --settings) _maroonclamp_files '*.toml'; return ;;
+    --settings | --spec) _maroonclamp_files '*.toml'; return ;;
   esac
   for ((at = first; at < COMP_CWORD; at++)); do
     operand=${COMP_WORDS[at]}
     case $operand in
       --*) ;;
-      *) case ${COMP_WORDS[at - 1]} in --inputs | --table | --settings | --fuel | --turns | --seed) ;; *) operands+=("$operand") ;; esac ;;
+      *) case ${COMP_WORDS[at - 1]} in --inputs | --table | --settings | --spec | --fuel | --turns | --seed) ;; *) operands+=("$operand") ;; esac ;;
     esac
   done
   case $command in
@@ -60,6 +60,7 @@ _maroonclamp() {
           ;;
       esac
       ;;
+    expand) case $word in -*) _maroonclamp_words --spec ;; *) _maroonclamp_files '*.wcf' ;; esac ;;
     run) _maroonclamp_words "--turns --seed --settings" ;;
     daemon)
       case $COMP_CWORD in

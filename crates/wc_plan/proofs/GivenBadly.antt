@@ -1,5 +1,5 @@
 -- The least port that is given badly, found in two steps.
-use Rattle.std.proofs.Common.{◌≡◌, ◌++◌, ◌∙◌, ℕ, List, Option, Some, None, sym, ap}
+use Rattle.std.proofs.Common.{◌≡◌, ◌∙◌, ℕ, List, Option, None, sym, ap}
 use Rattle.wc_meaning.specs.Inputs.{least, least_after}
 use Rattle.wc_meaning.proofs.Least.{least_after_append}
 use Rattle.wc_value.specs.declared.value.Value.{Value}

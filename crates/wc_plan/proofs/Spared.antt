@@ -1,5 +1,5 @@
 -- A second file isn't asked for where the first is refused.
-use Rattle.std.proofs.Common.{◌≡◌, ℕ, List, [], ◌∷◌, ◌++◌, Option, Some, None, refl, sym, ap, subst, ◌∙◌}
+use Rattle.std.proofs.Common.{◌≡◌, ℕ, List, [], ◌∷◌, ◌++◌, Option, Some, ap, ◌∙◌}
 use Rattle.std.specs.Prelude.{IsSome}
 use Rattle.wc_cli.specs.declared.command.Command.TheVariants.{Expand}
 use Rattle.wc_plan.specs.declared.libraries.Read.{Read}

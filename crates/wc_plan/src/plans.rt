@@ -147,7 +147,7 @@ fn plan_of_query(alloc: Global, words: &Words, limit: u32) -> Result<Plan, Alloc
 }
 
 /// What the words of `expand` plan. The library's file is read and understood wholly before the spec file is asked for.
-#[tactic(auto, using(crate::proofs::Naming::asks_one, crate::proofs::Spared::asks_both, crate::proofs::Spared::spared, crate::proofs::Spared::spared_first))]
+#[tactic(auto, using(crate::proofs::Naming::asks_one, crate::proofs::Spared::asks_both, crate::proofs::Spared::spared_first))]
 fn plan_expansion<R: Shelf>(
     alloc: Global,
     shelf: &mut R,

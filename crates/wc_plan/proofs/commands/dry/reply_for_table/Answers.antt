@@ -1,4 +1,4 @@
-use Rattle.std.proofs.Common.{◌≡◌, ℕ, List, Option, Some, None, Result, Ok, IfOk, subst, sym}
+use Rattle.std.proofs.Common.{◌≡◌, ℕ, List, Option, Result, Ok, IfOk, subst, sym}
 use Rattle.wc_value.specs.declared.value.Value.{Value}
 use Rattle.wc_semantics.specs.Tables.{plain, no_kills}
 use Rattle.wc_semantics.specs.Meaning.{meaning}

@@ -11,7 +11,7 @@ use Rattle.wc_machine.specs.Kills.{kill_changes}
 use Rattle.wc_machine.specs.Machine.{Event, Leads, submit, turn, pause, play, kill, submits, turns, pauses, plays, kills, pause_changes, play_changes}
 use Rattle.wc_machine.specs.Submissions.{Submits, submission}
 use Rattle.wc_drill.proofs.Runner.Happening.{batch_more}
-use Rattle.wc_soundness.proofs.NoChanges.{only_marks_change_nothing}
+use Rattle.wc_drill.proofs.Soundness.NoChanges.{only_marks_change_nothing}
 use Rattle.wc_plan.specs.declared.deed.Asked.{Asked}
 use Rattle.wc_plan.specs.declared.deed.Asked.TheVariants as asked
 use Rattle.wc_plan.specs.declared.submission.Submission.{Submission}

@@ -16,7 +16,7 @@ use Rattle.wc_world.proofs.ReachedLists.{found_node}
 use Rattle.wc_world.proofs.ReachedWorlds.{reached_is_consistent}
 use Rattle.wc_machine.specs.Machine.{after_changes, marked, renewed}
 use Rattle.wc_machine.specs.Submissions.{submitted_number}
-use Rattle.wc_soundness.proofs.KillOrder.{changes_are}
+use Rattle.wc_drill.proofs.Soundness.KillOrder.{changes_are}
 use Rattle.wc_drill.proofs.Runner.Happening.{after_some}
 use Rattle.wc_plan.specs.declared.deed.Asked.{Asked}
 use Rattle.wc_plan.specs.declared.deed.Asked.TheVariants as asked

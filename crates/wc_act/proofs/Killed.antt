@@ -13,10 +13,10 @@ use Rattle.wc_world.specs.Records.{find_record, has_called, has_ended, is_call_f
 use Rattle.wc_world.proofs.After.{find_at}
 use Rattle.wc_world.proofs.FoundRecords.{IsDeeper, call_is_deeper, found_holds, left, right}
 use Rattle.wc_world.proofs.ReachedLists.{found_node}
-use Rattle.wc_soundness.specs.Replaced.{set_to}
-use Rattle.wc_soundness.proofs.KillOrder.{CallsOne, add, all_below, change_of, fuel_then, its_own, kids}
-use Rattle.wc_soundness.proofs.OthersOnTrack.{any_gives}
-use Rattle.wc_soundness.specs.Killed.{IsAtOrBelow, itself, called}
+use Rattle.wc_drill.specs.Soundness.Replaced.{set_to}
+use Rattle.wc_drill.proofs.Soundness.KillOrder.{CallsOne, add, all_below, change_of, fuel_then, its_own, kids}
+use Rattle.wc_drill.proofs.Soundness.OthersOnTrack.{any_gives}
+use Rattle.wc_drill.specs.Soundness.Killed.{IsAtOrBelow, itself, called}
 use Rattle.wc_act.specs.Acknowledged.{IsKilled}
 use Rattle.wc_act.proofs.Asking.{some_process}
 

@@ -10,7 +10,7 @@ use Rattle.wc_world.proofs.ReachedWorlds.{reached_is_consistent}
 use Rattle.wc_machine.specs.Continues.{Continues}
 use Rattle.wc_machine.specs.Machine.{after_changes, marked, renewed}
 use Rattle.wc_machine.specs.Sound.{IsSound}
-use Rattle.wc_soundness.proofs.KillOrder.{all_below, change_of, changes_are}
+use Rattle.wc_drill.proofs.Soundness.KillOrder.{all_below, change_of, changes_are}
 use Rattle.wc_drill.specs.Runner.CoreRefusals.{AreChangesOf}
 use Rattle.wc_drill.proofs.Runner.Happening.{after_some}
 use Rattle.wc_store.specs.Held.{is_plain}

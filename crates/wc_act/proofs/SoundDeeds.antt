@@ -20,7 +20,7 @@ use Rattle.wc_machine.specs.Machine.{after_changes}
 use Rattle.wc_machine.specs.Paths.{kills}
 use Rattle.wc_machine.specs.Rest.{GivesTree, meant}
 use Rattle.wc_machine.specs.Sound.{IsSound, IsMeant}
-use Rattle.wc_soundness.specs.EventLaws.{EventsKeepSound}
+use Rattle.wc_drill.specs.Soundness.EventLaws.{EventsKeepSound}
 use Rattle.wc_drill.proofs.Runner.Happening.{after_some}
 use Rattle.wc_drill.specs.Sound.{DrillsAreSound}
 use Rattle.wc_drill.specs.Runner.Laws.{StaysSound, WorldsContinueThemselves}

@@ -6,7 +6,7 @@ use Rattle.wc_value.specs.declared.process.ProcessState.TheVariants as state
 use Rattle.wc_state.specs.declared.record.ProcessRecord.{ProcessRecord}
 use Rattle.wc_world.specs.World.{World}
 use Rattle.wc_world.specs.Records.{find_record, has_ended, kind_of_definition, library_at}
-use Rattle.wc_soundness.specs.Killed.{IsAtOrBelow}
+use Rattle.wc_drill.specs.Soundness.Killed.{IsAtOrBelow}
 use Rattle.wc_machine.specs.Calls.{caching_in}
 use Rattle.wc_machine.specs.Recorded.{recorded_inputs}
 use Rattle.wc_plan.specs.declared.submission.Submission.{Submission}

@@ -11,9 +11,8 @@ ghost use Rattle.wc_act.specs.Laws.{DeedsBeginSound, DeedsKeepSound, ImagesAreBr
 ghost use Rattle.wc_act.specs.Rows.{row};
 
 use wc_disk::Disk;
-use wc_drill::{drills_are_sound, worlds_continue_themselves};
+use wc_drill::{drills_are_sound, events_keep_sound, worlds_continue_themselves};
 use wc_io::Pacer;
-use wc_soundness::events_keep_sound;
 use wc_store::{held_worlds_are_reached, images_hold_one_thing};
 use wc_transport::Transport;
 

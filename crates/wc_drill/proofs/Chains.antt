@@ -17,8 +17,8 @@ use Rattle.wc_world.specs.Accepted.{IsAccepted}
 use Rattle.wc_world.specs.Applied.{applied}
 use Rattle.wc_machine.specs.Machine.{Leads, submits}
 use Rattle.wc_machine.specs.Submissions.{Submits}
-use Rattle.wc_soundness.specs.AcceptedLaws.{IsPlain}
-use Rattle.wc_soundness.proofs.Parts.{events_are_plain}
+use Rattle.wc_ends.specs.Soundness.AcceptedLaws.{IsPlain}
+use Rattle.wc_ends.proofs.Soundness.Parts.{events_are_plain}
 use Rattle.wc_machine.specs.Refusals.{HasRoom, RefusesSubmission}
 use Rattle.wc_machine.specs.declared.error.TurnError.{TurnError}
 use Rattle.wc_machine.specs.declared.error.TurnError.TheVariants as turn_error

@@ -10,9 +10,9 @@ use Rattle.wc_machine.specs.Laws.{HasPlaces}
 use Rattle.wc_machine.specs.Machine.{Event, after_changes}
 use Rattle.wc_machine.specs.Sound.{IsSound}
 use Rattle.wc_machine.proofs.EmptyWorld.{empty_is_sound}
-use Rattle.wc_soundness.proofs.NoChanges.{only_marks_change_nothing}
-use Rattle.wc_soundness.specs.EventLaws.{LeavesSound}
-use Rattle.wc_soundness.proofs.SoundEvents.{events_keep_sound}
+use Rattle.wc_ends.proofs.Soundness.NoChanges.{only_marks_change_nothing}
+use Rattle.wc_ends.specs.Soundness.EventLaws.{LeavesSound}
+use Rattle.wc_ends.proofs.Soundness.SoundEvents.{events_keep_sound}
 use Rattle.wc_ends.specs.Runner.Laws.{StaysSound}
 use Rattle.wc_ends.proofs.Runner.Continuing.{continues_itself, continues_on}
 use Rattle.wc_ends.proofs.Runner.ManyTurns.{turns_sound}

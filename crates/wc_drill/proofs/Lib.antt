@@ -1,4 +1,5 @@
 pub use Rattle.wc_ends.proofs.Runner as Runner
+pub use Rattle.wc_ends.proofs.Soundness as Soundness
 pub use Rattle.wc_ends.proofs.EveryProcess
 mod Results
 mod Chains

@@ -43,8 +43,8 @@ use Rattle.wc_semantics.specs.Tables.{Path}
 use Rattle.wc_semantics.specs.declared.outcomes.Parsed.{Parsed}
 use Rattle.wc_semantics.specs.declared.progress.Progress.{Progress}
 use Rattle.wc_semantics.specs.declared.progress.Stepped.TheVariants.{Makes}
-use Rattle.wc_soundness.proofs.Expressions.{x_is}
-use Rattle.wc_soundness.proofs.Values.{bare_gives, binary_gives, folder_allowed, int_allowed, one_gives, quoted_gives, text_allowed, two_gives}
+use Rattle.wc_ends.proofs.Soundness.Expressions.{x_is}
+use Rattle.wc_ends.proofs.Soundness.Values.{bare_gives, binary_gives, folder_allowed, int_allowed, one_gives, quoted_gives, text_allowed, two_gives}
 use Rattle.wc_ends.specs.Costs.Cost.{Tolls, cost, more, step_cost, unasked}
 use Rattle.wc_drill.specs.Library.{bare, chain_inputs, first, last, output_of, second, square, sum_of_both, total, word}
 use Rattle.wc_drill.specs.PairCost.{PairCosts}

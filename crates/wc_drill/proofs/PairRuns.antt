@@ -44,7 +44,7 @@ use Rattle.wc_semantics.specs.declared.progress.Planned.{Planned}
 use Rattle.wc_semantics.specs.declared.progress.Progress.{Progress}
 use Rattle.wc_semantics.specs.declared.progress.Replayed.{Replayed}
 use Rattle.wc_semantics.specs.declared.progress.Stepped.TheVariants.{Makes}
-use Rattle.wc_soundness.proofs.Expressions.{x_is}
+use Rattle.wc_ends.proofs.Soundness.Expressions.{x_is}
 use Rattle.wc_ends.specs.Costs.Cost.{Prices, Tolls, bill, cost, due_of, front_cost, job_cost, more, price, price_by, step_cost, tolls, unasked}
 use Rattle.wc_ends.specs.Costs.Left.{by_request}
 use Rattle.wc_drill.specs.Library.{chain_inputs, chain_name, first, given, input, last, library, output_of, pair, second, square, total, word}

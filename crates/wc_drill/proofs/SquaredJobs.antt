@@ -21,8 +21,8 @@ use Rattle.wc_semantics.specs.Requests.{request, text_at}
 use Rattle.wc_semantics.specs.Rules.{env_of}
 use Rattle.wc_semantics.specs.Tables.{or_else, request_eq, row_of}
 use Rattle.wc_meaning.proofs.Requests.{request_itself, request_same}
-use Rattle.wc_soundness.proofs.Expressions.{x_is}
-use Rattle.wc_soundness.proofs.Values.{bare_gives, int_allowed, one_gives, quoted_gives, text_allowed}
+use Rattle.wc_ends.proofs.Soundness.Expressions.{x_is}
+use Rattle.wc_ends.proofs.Soundness.Values.{bare_gives, int_allowed, one_gives, quoted_gives, text_allowed}
 use Rattle.wc_drill.specs.Library.{argument, bare, program, square}
 use Rattle.wc_drill.specs.Squares.{square_request, square_result, square_row, square_rows}
 use Rattle.wc_drill.proofs.Rows.{number_of, rows_more, rows_none}

@@ -1,4 +1,5 @@
 pub use Rattle.wc_ends.specs.Runner as Runner
+pub use Rattle.wc_ends.specs.Soundness as Soundness
 pub use Rattle.wc_ends.specs.Enough
 pub mod Drilled
 pub mod Submissions

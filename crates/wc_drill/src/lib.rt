@@ -22,6 +22,6 @@ pub use numbers::{next_numbers, sum_of_squares};
 pub use squares::square_table;
 pub use text::drilled_text;
 pub use wc_ends::{
-    RunEnd, RunError, TurnError, kill_changes, pause_changes, play_changes, run, submit_changes,
-    turns_keep_sound, worlds_continue_themselves,
+    RunEnd, RunError, TurnError, events_keep_sound, kill_changes, pause_changes, play_changes, run,
+    submit_changes, turns_keep_sound, worlds_continue_themselves,
 };

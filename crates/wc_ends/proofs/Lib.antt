@@ -1,5 +1,6 @@
 pub use Rattle.wc_runner.proofs as Runner
 pub use Rattle.wc_cost.proofs as Costs
+pub use Rattle.wc_soundness.proofs as Soundness
 pub mod Counts
 pub mod Rows
 pub mod HeldUp

@@ -8,3 +8,4 @@ pub use wc_runner::{
     RunEnd, RunError, TurnError, commit_changes, kill_changes, pause_changes, play_changes, run,
     submit_changes, turns_keep_sound, worlds_continue_themselves,
 };
+pub use wc_soundness::events_keep_sound;

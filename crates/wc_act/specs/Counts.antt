@@ -20,10 +20,12 @@ CountsDisks (Err act_error.DiskFault) one one' two two' failed_one failed_two = 
 
 -- ---- a plan and a deed
 
+-- the error of a call whose plan failed
 abbrev pub of_plan : PlanError → ReplyError
 of_plan plan_error.OutOfMemory = reply_error.OutOfMemory
 of_plan plan_error.ReadFault = reply_error.ReadFault
 
+-- the error of a call whose deed failed
 abbrev pub of_act : ActError → ReplyError
 of_act act_error.OutOfMemory = reply_error.OutOfMemory
 of_act act_error.DiskFault = reply_error.DiskFault

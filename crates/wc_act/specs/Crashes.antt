@@ -128,6 +128,7 @@ LeavesKept g begins makes one two one_new two_new = AtAnyMoment g one two one_ne
 abbrev pub BegunBy : Option (List ℕ → Option (List ℕ)) → List (List ℕ) → World → Journal → Type 0
 BegunBy told words v journal = OfSome told words (λ k. k.begins v journal)
 
+-- what some deed that the words plan may make of a world
 abbrev pub MadeBy : Option (List ℕ → Option (List ℕ)) → List (List ℕ) → Exchange → Images → World → World → Images → Type 0
 MadeBy told words e before w v after = OfSome told words (λ k. k.makes e before w v after)
 

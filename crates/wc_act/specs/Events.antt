@@ -89,6 +89,7 @@ IsNotLive w pid c =
     ((find_record pid w.records ≡ None) × (c ≡ cause.UnknownProcess pid))
     ⊎ ((s : ProcessState) × HasEndedAs w pid s × (c ≡ cause.Ended pid s))
 
+-- the event is refused for this cause
 abbrev pub IsRefusedFor : Asked → World → Cause → Type 0
 IsRefusedFor (asked.Submit s) w c = ⊥
 IsRefusedFor (asked.Pause pid) w c = IsNotLive w pid c

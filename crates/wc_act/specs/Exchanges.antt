@@ -25,6 +25,9 @@ pub record Exchange : Type 1 where
   pub placed : Option (ℕ → Option Request)
   pub placed_new : Option (ℕ → Option Request)
 
+-- What a run within some limits sees of the transport and the clock (`in_run`), to which worlds turns and rests led from those before (`IsLedWithin`),
+-- how a run went from those before to those after, in the order of a seed (`Went`), how many rests were counted, and which requests were placed, before
+-- and after
 abbrev pub exchange : {T P : Type 0} → transport.Ghosts T → pacer.Ghosts P → (old new : T) → (clock clock_new : P) → Exchange
 exchange g h old new clock clock_new = record {
   sees = λ limits. in_run g h limits old new clock_new;

@@ -23,6 +23,7 @@ pub record Visit : Type 0 where
   pub before : Images
   pub after : Images
 
+-- What a call sees of the disks: whether they tell their bytes, and what they read as at entry and at exit
 abbrev pub visit : {D : Type 0} → disk.Ghosts D → (one two one_new two_new : D) → Visit
 visit g one two one_new two_new = record {
   tells_one = g.tells one;

@@ -30,6 +30,9 @@ use Rattle.wc_act.specs.Views.{ShowsStill}
 
 -- ---- what is done on a store that is there
 
+-- What is promised of work on a store that is there: what it may make of the world at any moment, from which images in which, by what it had of the
+-- transport and the clock (`makes`), what it has done once it replied (`does`), whether one reply at most is owed (`certain`), the statuses with which
+-- nothing was written (`undone`), and what the world at exit has once this text was written with Ok (`acknowledges`)
 pub record WorkRow : Type 1 where
   -- what it may make of the world, from which images in which, at any moment, by what it has had of the transport and the clock
   pub makes : Exchange → (before : Images) → World → World → (after : Images) → Type 0
@@ -49,6 +52,7 @@ pub record Stays (before : Images) (w v : World) (after : Images) : Type 0 where
   pub next : Journal
   pub goes : GoesOn before after journal next
 
+-- the row of a view and of a query: the world stays, nothing is written, and one reply at most is owed
 abbrev pub view_row : Shown → WorkRow
 view_row v = record {
   makes = λ e. Stays;
@@ -66,6 +70,7 @@ HasHappened (asked.Pause pid) text w = (text ≡ paused_text pid) × HasMark w p
 HasHappened (asked.Play pid) text w = (text ≡ playing_text pid) × HasMark w pid false
 HasHappened (asked.Kill pid) text w = (text ≡ killed_text pid) × IsKilled w pid
 
+-- the row of an event: the world stays, or the event happens to it; one reply at most is owed
 abbrev pub event_row : Asked → WorkRow
 event_row a = record {
   makes = λ e. MayHappen a;
@@ -103,6 +108,7 @@ pub record StaysMoving (before : Images) (w v : World) (after : Images) : Type 0
   pub still : its was.place after.0 after.1 ≡ its was.place before.0 before.1
   pub moved : ((next ≡ journal) × (is.place ≡ was.place)) ⊎ (IsNextOf journal w next × (is.place ≡ opposite was.place))
 
+-- the row of `pack`: the world stays, and may move to the other disk; one reply at most is owed
 abbrev pub pack_row : WorkRow
 pack_row = record {
   makes = λ e. StaysMoving;
@@ -112,6 +118,7 @@ pack_row = record {
   acknowledges = λ text w. Unit {0};
 }
 
+-- The row of each kind of work
 abbrev pub work_row : Work → WorkRow
 work_row (work.View v) = view_row v
 work_row (work.Event a) = event_row a
@@ -120,6 +127,7 @@ work_row work.Pack = pack_row
 
 -- ---- deeds
 
+-- What is promised of a deed: what `WorkRow` has, and the worlds, by their journals, with which it may begin a store where there is none (`begins`)
 pub record Row : Type 1 where
   -- with which worlds, by which journals, it may begin a store, at any moment, where there is none
   pub begins : World → Journal → Type 0
@@ -149,6 +157,7 @@ drill_row seed count = record {
   acknowledges = IsToldDrilled seed count;
 }
 
+-- the row of a deed that begins a store: `init`, or a drill
 abbrev pub begin_row : Begin → Row
 begin_row begin.Init = record {
   begins = IsEmpty;
@@ -171,6 +180,7 @@ on_store k = record {
   acknowledges = k.acknowledges;
 }
 
+-- The row of each deed; work on a store begins none, and where there is no store, or a disk is damaged, that is told and nothing is done
 abbrev pub row : Deed → Row
 row (deed.Begin b) = begin_row b
 row (deed.Work w) = on_store (work_row w)

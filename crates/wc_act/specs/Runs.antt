@@ -20,6 +20,7 @@ use Rattle.wc_plan.specs.declared.status.Status.{Status}
 use Rattle.wc_plan.specs.declared.status.Status.TheVariants as status
 use Rattle.wc_act.specs.StoreDeeds.{Images, Hold, GoesOn, Fits, is_full}
 
+-- the status of a run that ended so: all ended, the turns spent, or resting
 abbrev pub status_of : RunEnd → Status
 status_of AllEnded = status.Ok
 status_of Spent = status.Spent

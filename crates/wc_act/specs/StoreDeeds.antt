@@ -28,6 +28,7 @@ use Rattle.wc_plan.specs.Replies.{refuses, prints}
 abbrev pub Images : Type 0
 Images = List ℕ × List ℕ
 
+-- two images hold this (`IsHeld`)
 abbrev pub Hold : Images → Standing → Type 0
 Hold images s = IsHeld images.0 images.1 s
 
@@ -58,9 +59,11 @@ abbrev pub byte_of : Found → Option ℕ
 byte_of (Byte b) = Some b
 byte_of End = None
 
+-- the reply of a damaged store: the disk, the place, and the byte that was found, or none at the end
 abbrev pub is_damaged : (disk at : ℕ) → Found → Reply
 is_damaged disk at found = record { status = status.Damaged disk at (byte_of found); text = damaged_text disk at (byte_of found) }
 
+-- the reply of a store that would be too full: of what, how many, and the limit
 abbrev pub is_full : What → (count limit : ℕ) → Reply
 is_full what count limit = record { status = status.Full what count limit; text = full_text what count limit }
 
@@ -104,6 +107,7 @@ AtStore before does nothing after r = (after ≡ before) × (r ≡ refuses cause
 AtStore before does (damage disk at found) after r = (after ≡ before) × (r ≡ is_damaged disk at found)
 AtStore before does (a_world w) after r = does w after r
 
+-- A command on a store: where nothing or damage was held, that is told, and the disks read as before
 abbrev pub OnStore : (Images → World → Images → Reply → Type 0) → Images → Images → Reply → Type 0
 OnStore does before after r = (s : Standing) × Hold before s × AtStore before (does before) s after r
 

@@ -40,6 +40,7 @@ node_reply node (Some text) = prints text
 
 -- ---- what is checked
 
+-- the line for what is wrong with a world
 abbrev pub fault_text : Fault → List ℕ
 fault_text (fault.Cycle node) = cycle_text node
 fault_text (fault.Value pid) = wrong_value_text pid
@@ -70,6 +71,7 @@ abbrev pub ShowsRows : Query → ℕ → World → Reply → Type 0
 ShowsRows query limit w r = (rows : List (List ℕ)) × (more : Bool) × AreFirst (IsMatch w query) limit rows × ((more ≡ true) ↔ HasMore (IsMatch w query) rows)
     × (r ≡ prints (rows_text rows more))
 
+-- what is replied where a world is shown: by a view (`ShowsView`), or by a query with its first rows (`ShowsRows`)
 abbrev pub Shows : Shown → World → Reply → Type 0
 Shows (shown.View v) w r = ShowsView v w r
 Shows (shown.Query query limit) w r = ShowsRows query limit w r

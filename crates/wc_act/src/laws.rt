@@ -18,18 +18,23 @@ use wc_transport::Transport;
 
 /// Two empty disks hold nothing, so they meet what the clause `sound` of the top call asks of each pair of images at entry.
 pub fn empty_disks_hold_nothing()
+    // Two empty images hold nothing.
     ensures nothing { IsHeld [] [] nothing }
+    // They meet what `sound` asks.
     ensures meets { HoldsSound [] [] }
 {}
 
 /// Where nothing is pending at entry on a disk that is not written, what is promised of each image of the other, beside those that this one may leave at
 /// exit, is promised beside each image that it has at any moment: what `act` leaves, what the words of the top call make, and that it is sound.
 pub fn pairs_of_any_moments_are_kept<D: Disk, T: Transport, P: Pacer>()
+    // So it is of what a deed may leave.
     ensures kept { (d : Deed) (old new : T) (clock clock_new : P) (one two one_new two_new : D) → IsOfEachMoment D.Disk one two one_new two_new
         (Kept D.Disk (row d).begins ((row d).makes (exchange T.Transport P.Pacer old new clock clock_new)) one two) }
+    // So it is of what words may leave.
     ensures made { (told : Option (List ℕ → Option (List ℕ))) (words : List (List ℕ)) (old new : T) (clock clock_new : P) (one two one_new two_new : D)
         → IsOfEachMoment D.Disk one two one_new two_new
         (Kept D.Disk (BegunBy told words) (MadeBy told words (exchange T.Transport P.Pacer old new clock clock_new)) one two) }
+    // So it is of sound worlds.
     ensures sound { (one two one_new two_new : D) → IsOfEachMoment D.Disk one two one_new two_new HoldsSound }
 {}
 

@@ -29,9 +29,11 @@ use Rattle.wc_archive_file.specs.Archives.{archive_object, AreNodes, IsArchive, 
 
 -- ---- what a part may be
 
+-- anything
 abbrev pub IsAny : {A : Type 0} → A → Type 0
 IsAny a = Unit {0}
 
+-- a value that has canonical bytes and is at most 32 deep
 abbrev pub IsShallow : Value → Type 0
 IsShallow v = Spells v (spelling v) × (depth v ≤ 32)
 
@@ -39,13 +41,16 @@ IsShallow v = Spells v (spelling v) × (depth v ≤ 32)
 abbrev pub value_digits : Value → List ℕ
 value_digits v = encode_lower (spelling v)
 
+-- an exit code is there
 abbrev pub HasCode : Option ℤ → Type 0
 HasCode None = ⊥
 HasCode (Some z) = Unit {0}
 
+-- a process that can be written, with an exit code
 abbrev pub IsCoded : ArchiveProcess → Type 0
 IsCoded p = IsProcess p × HasCode p.code
 
+-- a process that can be written, without an exit code
 abbrev pub IsUncoded : ArchiveProcess → Type 0
 IsUncoded p = IsProcess p × (p.code ≡ None)
 
@@ -53,12 +58,15 @@ IsUncoded p = IsProcess p × (p.code ≡ None)
 abbrev pub form_object : Form → Members
 form_object f = archive_object f.library f.links f.nodes
 
+-- as JSON, an archive whose library is kept as a text
 abbrev pub form_data : Form → Data
 form_data f = object (form_object f)
 
+-- the links and the nodes of an archive can be written
 abbrev pub IsForm : Form → Type 0
 IsForm f = All IsLink f.links × AreNodes f.nodes
 
+-- whether an exit code is there and below 0
 abbrev pub below_zero : Option ℤ → Bool
 below_zero None = false
 below_zero (Some z) = int_lt z (pos 0)
@@ -74,12 +82,15 @@ abbrev pub chosen : {A : Type 0} → (A → List ℕ) → List A → List ℕ �
 chosen text [] name = None
 chosen text (a ∷ rest) name = if bytes_eq name (text a) then Some a else chosen text rest name
 
+-- the kinds of processes; a name stands for the first of these whose text it is
 abbrev pub process_kinds : List ProcessKind
 process_kinds = kind.Function ∷ kind.Job ∷ kind.Chain ∷ []
 
+-- the types of links; a name stands for the first of these whose text it is
 abbrev pub link_types : List LinkType
 link_types = link.InputCalc ∷ link.InputWork ∷ link.Create ∷ link.Return ∷ link.CallCalc ∷ link.CallWork ∷ []
 
+-- the reasons; a name stands for the first of these whose text it is
 abbrev pub reasons : List Reason
 reasons =
     reason.Overflow ∷ reason.DivideByZero ∷ reason.MissingKey ∷ reason.WrongKind ∷ reason.NoOutput ∷ reason.BadText ∷ reason.TooLong ∷ reason.Depth

@@ -31,6 +31,7 @@ at_ports ports (v ∷ vs) = if is_among v.0 (port_names ports) then v ∷ at_por
 
 -- ---- which handler decides
 
+-- whether a handler names a status
 abbrev pub names_status : ℕ → Handler → Bool
 names_status status h = list_any (λ n. status == n) h.statuses
 
@@ -55,6 +56,7 @@ pub data Attempted : Type 0 where
   ends : Parsed → Attempted
   wants : Request → Attempted
 
+-- an end with a status and outputs
 abbrev pub finished : ℕ → Values → Attempted
 finished n outs = ends (record { state = Finished n; outputs = outs })
 
@@ -65,10 +67,12 @@ pub record Attempts : Type 0 where
   pub function : List ℕ → Option Function
   pub rows : List (Request × JobResult)
 
+-- what the job comes to by the row of its request, or the request that has none
 abbrev pub by_row : Attempts → Values → Request → Option JobResult → Attempted
 by_row x v q None = wants q
 by_row x v q (Some r) = ends (parsed x.job v r)
 
+-- what the job comes to by its request, or the exception of its want
 abbrev pub by_request : Attempts → Values → Outcome Request → Attempted
 by_request x v (Faults r) = ends (excepted r [])
 by_request x v (Gives q) = by_row x v q (row_of q x.rows)
@@ -94,27 +98,33 @@ goes_on_with next last x u =
 abbrev pub mended : Attempts → Values → Function → Values
 mended x v f = at_ports (required x.job.head.inputs) (calculated f (at_ports f.head.inputs v)).outputs
 
+-- what follows where the handler's function is there
 abbrev pub by_function : Next → (last : Bool) → Attempts → Values → Bool → Option Function → Attempted
 by_function next last x v bad None = unhandled next v bad
 by_function next last x v bad (Some f) = goes_on_with next last x (mended x v f)
 
+-- what follows a failure with a handler
 abbrev pub by_remedy : Next → (last : Bool) → Attempts → Values → Bool → Remedy → Attempted
 by_remedy next last x v bad (remedy.Abort status) = finished status []
 by_remedy next last x v bad (remedy.Call name) = by_function next last x v bad (x.function name)
 
+-- what follows a failure, by the handler that names its status: without one it is unhandled
 abbrev pub handled : Next → (last : Bool) → Attempts → Values → Bool → Option Handler → Attempted
 handled next last x v bad None = unhandled next v bad
 handled next last x v bad (Some h) = by_remedy next last x v bad h.remedy
 
+-- what follows an attempt, by the state of its job
 abbrev pub by_state : Next → (last : Bool) → Attempts → Values → Bool → ProcessState → Values → Attempted
 by_state next last x v bad (Finished zero) outs = finished 0 (at_ports (required x.job.head.outputs) outs)
 by_state next last x v bad (Finished (suc n)) outs = handled next last x v bad (handler_for (suc n) x.handlers)
 by_state next last x v bad s outs = unhandled next v bad
 
+-- what follows an attempt, where its request had a row
 abbrev pub after : Next → (last : Bool) → Attempts → Values → Bool → Attempted → Attempted
 after next last x v bad (wants q) = wants q
 after next last x v bad (ends p) = by_state next last x v bad p.state p.outputs
 
+-- whether no attempt is left
 abbrev pub is_last : ℕ → Bool
 is_last zero = true
 is_last (suc left) = false

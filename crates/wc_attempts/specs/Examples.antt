@@ -9,13 +9,16 @@ use Rattle.wc_semantics.specs.Rules.{Values}
 abbrev pub asked : List ℕ → Request
 asked argument = record { program = codes "double"; args = argument ∷ []; files = []; fetch = codes "out.txt" ∷ [] }
 
+-- the results of the examples' job for 2 and for 9
 abbrev pub rows : List (Request × JobResult)
 rows =
     (asked (codes "2"), record { code = pos 0; files = (codes "out.txt", codes "4\n") ∷ [] })
     ∷ ((asked (codes "9"), record { code = pos 0; files = [] }) ∷ [])
 
+-- the input 9
 abbrev pub nine : Values
 nine = (codes "x", value.Int (pos 9)) ∷ []
 
+-- the output 4
 abbrev pub four : Values
 four = (codes "value", value.Int (pos 4)) ∷ []

@@ -22,6 +22,7 @@ Meets (ends p) (Gave t m) = ((out-Tree t.tree).state ≡ p.state) × ((out-Tree 
 Meets (wants q) (Without r) = q ≡ r
 Meets _ _ = ⊥
 
+-- the attempts of a spec, with the functions of a library and the rows of a table
 abbrev pub attempts_of : List Definition → Spec → Job → List (Request × JobResult) → Attempts
 attempts_of library s j rows = record { job = j; handlers = s.handlers; function = λ name. function_named name library; rows = rows }
 

@@ -37,7 +37,10 @@ pub fn inputs_in_order()
 
 /// What these three chains mean, by the law: the states and outputs of their attempts, with three of fuel for each attempt.
 pub fn worked_chains()
+    // The chain whose handler mends the input is finished with 0 and the output 4.
     ensures mended { Meets (finished 0 four) (meaning 15 (expanded library (spec 5 (mends ∷ []))) (plain rows) no_kills 15 (codes "safe") nine) }
+    // The one without a handler is finished with 402.
     ensures unhandled { Meets (finished 402 []) (meaning 15 (expanded library (spec 5 [])) (plain rows) no_kills 15 (codes "safe") nine) }
+    // The one with one attempt is finished with 401.
     ensures spent { Meets (finished 401 []) (meaning 15 (expanded library (spec 1 (mends ∷ []))) (plain rows) no_kills 3 (codes "safe") nine) }
 {}

@@ -103,7 +103,9 @@ fn find_lowest(alloc: Global, world: &World, key: &[u8]) -> Result<Option<u32>, 
 /// process that has the key. Of the calculations that have finished, those with the digest of the key alone are looked at,
 /// where the world's digests are made, and else all.
 pub fn find(alloc: Global, world: &World, key: &[u8]) -> Result<Option<u32>, AllocError>
+    // The process that is named is the lowest valid source with this key for a start in the next batch, and none is named only where there is none.
     ensures lowest { IfOk result (IsLowestWith world.now.world (world.now.world.batches + 1) key.now) }
+    // Each process with this key has this source.
     ensures source { IfOk result (λ source. (r : ProcessRecord) → IsKeyOf world.now.world r key.now
         → IsLowestSource world.now.world (world.now.world.batches + 1) r source) }
 {

@@ -6,10 +6,12 @@ use Rattle.wc_calculation_turns.specs.declared.tasks.Answer.{Answer}
 use Rattle.wc_calculation_turns.specs.declared.tasks.Answer.TheVariants as answer
 use Rattle.wc_calculation_turns.specs.declared.tasks.JobStep.{JobStep}
 
+-- an answer of this crate in the words of the machine
 abbrev pub task_answer : Answer → TaskAnswer
 task_answer answer.Failed = given.Failed
 task_answer answer.Running = given.Running
 task_answer answer.Done = given.Done
 
+-- a job's step of this crate in the words of the machine
 abbrev pub moved : JobStep → Moved
 moved s = record { part = s.part; paused = s.paused }

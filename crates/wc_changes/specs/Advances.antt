@@ -29,6 +29,7 @@ is_now = chain_set empty
 
 -- ---- ends
 
+-- outputs by label
 abbrev pub Outs : Type 0
 Outs = List (List ℕ × ℕ)
 
@@ -36,6 +37,7 @@ Outs = List (List ℕ × ℕ)
 abbrev pub is_missing : Outs → Port → Bool
 is_missing outputs p = not p.optional && is_none (lookup p.name.text outputs)
 
+-- whether a required output is missing
 abbrev pub lacks : Outs → Option Definition → Bool
 lacks outputs None = false
 lacks outputs (Some d) = list_any (is_missing outputs) (head_of d).outputs
@@ -44,10 +46,12 @@ lacks outputs (Some d) = list_any (is_missing outputs) (head_of d).outputs
 abbrev pub status : Bool → ℕ → ℕ
 status missing n = if (n == 0) && missing then 11 else n
 
+-- the state at the end: 11 in place of 0 where a required output is missing
 abbrev pub final : Bool → ProcessState → ProcessState
 final missing (state.Finished n) = state.Finished (status missing n)
 final missing s = s
 
+-- the link that returns an output
 abbrev pub return_link : ℕ → List ℕ × ℕ → Change
 return_link pid o = change.Link (record { source = pid; target = o.1; link = link.Return; label = o.0 })
 
@@ -56,6 +60,7 @@ abbrev pub returned : ℕ → ProcessState → Outs → List Change
 returned pid (state.Finished n) outputs = map (return_link pid) outputs
 returned pid s outputs = []
 
+-- the changes of an advance that ends the chain: its outputs are returned, and its state is set, 11 in place of 0 where a required output is missing
 abbrev pub ending : ProcessRecord → Bool → ProcessState → Outs → List Change
 ending r missing s outputs = returned r.node s outputs ++ is_now r (final missing s) r.fuel part.Over ∷ []
 
@@ -65,6 +70,7 @@ ending r missing s outputs = returned r.node s outputs ++ is_now r (final missin
 abbrev pub waiting : ℕ → Checkpoint → List Call → Checkpoint
 waiting next c calls = record { frames = c.frames; ctx = c.ctx; awaiting = waited next calls; calls = c.calls + length calls; outputs = c.outputs }
 
+-- the changes of an advance that submits calls: those of the calls, and the chain that waits
 abbrev pub submission : Caller → ℕ → Checkpoint → List Call → List Change
 submission x next c calls = all_calls x next calls ++ is_now x.process.now state.Waiting x.process.now.fuel (part.Chain (waiting next c calls)) ∷ []
 

@@ -15,6 +15,7 @@ use Rattle.wc_changes.specs.declared.children.Caller.{Caller}
 
 -- ---- arguments
 
+-- arguments by port
 abbrev pub Args : Type 0
 Args = List (List ℕ × Argument)
 
@@ -23,6 +24,7 @@ abbrev pub datum : Argument → List Change
 datum (argument.Node n) = []
 datum (argument.Plain v) = change.Data v ∷ []
 
+-- the changes that add the new values among arguments
 abbrev pub data_of : Args → List Change
 data_of [] = []
 data_of (a ∷ rest) = datum a.1 ++ data_of rest
@@ -60,6 +62,7 @@ waited next [] = []
 waited next (c ∷ cs) = record { key = c.key; append = c.append; pid = number_at next c } ∷ waited (suc (number_at next c)) cs
 
 module _ (x : Caller) where
+  -- the kind of process that a call makes
   abbrev pub kind_at : Call → ProcessKind
   kind_at c = kind_named (definition_named c.definition x.library.now)
 
@@ -74,6 +77,7 @@ module _ (x : Caller) where
     caching = is_among c.definition x.caching.now;
   })
 
+  -- the link of a call to the process that it makes
   abbrev pub link_to : ℕ → Call → Change
   link_to next c = change.Link (record { source = x.process.now.node; target = number_at next c; link = call_link (kind_at c); label = c.label })
 
@@ -81,6 +85,7 @@ module _ (x : Caller) where
   abbrev pub one_call : ℕ → Call → List Change
   one_call next c = data_of c.args ++ child c ∷ (links_of (input_link (kind_at c)) next (number_at next c) c.args ++ link_to next c ∷ [])
 
+  -- the changes of calls one after another, which make nodes from this number on
   abbrev pub all_calls : ℕ → List Call → List Change
   all_calls next [] = []
   all_calls next (c ∷ cs) = one_call next c ++ all_calls (suc (number_at next c)) cs

@@ -14,6 +14,7 @@ use Rattle.wc_check.specs.declared.pieces.Piece.TheVariants as piece
 abbrev pub behind : {A : Type 0} → List (Bor A) → List A
 behind = map (λ r. r.now)
 
+-- a mention as contracts see it
 abbrev pub seen_mention : Mention → syntax.Mention
 seen_mention (mention.Bare n) = syntax.Bare n.now
 seen_mention (mention.Given n) = syntax.Given n.now
@@ -21,6 +22,7 @@ seen_mention (mention.Input at n) = syntax.Input at n.now
 seen_mention (mention.Context at n) = syntax.Context at n.now
 seen_mention (mention.Label n) = syntax.Label n.now
 
+-- a piece as contracts see it
 abbrev pub seen_piece : Piece → syntax.Piece
 seen_piece (piece.Begins at) = syntax.Begins at
 seen_piece (piece.Named n) = syntax.Named n.now
@@ -28,6 +30,7 @@ seen_piece (piece.Does s) = syntax.Does s.now
 seen_piece (piece.Tests e) = syntax.Tests e.now
 seen_piece (piece.Returns n) = syntax.Returns n.now
 
+-- pieces as contracts see them
 abbrev pub seen_pieces : List Piece → List syntax.Piece
 seen_pieces = map seen_piece
 

@@ -23,6 +23,7 @@ abbrev pub stands_before : Option Finding → ℕ → Bool
 stands_before None at = false
 stands_before (Some f) at = nat_lt f.at at
 
+-- the number of a rule, by which rules are ordered
 abbrev pub number_of : Fault → ℕ
 number_of fault.Twice = 1
 number_of fault.Unknown = 2

@@ -9,6 +9,7 @@ use Rattle.wc_check.specs.Least.{number_of, told}
 use Rattle.wc_check.specs.declared.error.CheckError.{CheckError}
 use Rattle.wc_check.specs.declared.error.CheckError.TheVariants as error
 
+-- a finding as contracts see it
 abbrev pub finding_seen : Found → Finding
 finding_seen f = record { number = number_of f.fault; name = told f.name; at = f.at }
 

@@ -9,6 +9,7 @@ use Rattle.wc_check.specs.Least.{Agree}
 abbrev pub known_names : Bool → Bool → List (List ℕ) → List (List ℕ) → List (List ℕ)
 known_names in_chain has_results ports lets = if in_chain then lets else ports ++ ((if has_results then result_names else []) ++ lets)
 
+-- a scope as contracts see it
 abbrev pub scope_seen : Place → Scope
 scope_seen s = record { in_chain = s.in_chain; ports = s.ports.now; known = known_names s.in_chain s.has_results s.ports.now s.lets }
 

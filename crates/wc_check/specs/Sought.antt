@@ -9,6 +9,7 @@ use Rattle.wc_check.specs.declared.mentions.Search.{Search}
 use Rattle.wc_check.specs.declared.mentions.Search.TheVariants as search
 use Rattle.wc_check.specs.Scopes.{scope_seen}
 
+-- a finding where a name that is mentioned is too long
 abbrev pub long_mention : Mention → List Finding
 long_mention m = long_name (mentioned m)
 

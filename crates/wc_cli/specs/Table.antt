@@ -38,15 +38,19 @@ pub record Amount : Type 0 where
   pub bounds : Bounds
   pub usual : ℕ
 
+-- the option `--fuel`: from 0 to 1,000,000,000, usually 100,000
 abbrev pub for_fuel : Amount
 for_fuel = record { name = codes "fuel"; bounds = turn_counts; usual = 100000 }
 
+-- the option `--turns`: from 0 to 1,000,000,000, usually 1,000,000
 abbrev pub for_turns : Amount
 for_turns = record { name = codes "turns"; bounds = turn_counts; usual = 1000000 }
 
+-- the option `--seed`: from 0 to 2,147,483,647, usually 0
 abbrev pub for_seed : Amount
 for_seed = record { name = codes "seed"; bounds = seeds; usual = 0 }
 
+-- the option `--limit`: from 1 to 1,000,000, usually 10,000
 abbrev pub for_limit : Amount
 for_limit = record { name = codes "limit"; bounds = row_counts; usual = 10000 }
 
@@ -54,12 +58,15 @@ for_limit = record { name = codes "limit"; bounds = row_counts; usual = 10000 }
 abbrev pub for_inputs : List ℕ
 for_inputs = codes "inputs"
 
+-- the name of the option for results of jobs
 abbrev pub for_results : List ℕ
 for_results = codes "table"
 
+-- the name of the option for settings
 abbrev pub for_settings : List ℕ
 for_settings = codes "settings"
 
+-- the name of the option for a file of handlers
 abbrev pub for_spec : List ℕ
 for_spec = codes "spec"
 
@@ -68,6 +75,7 @@ pub data Choice : Type 0 where
   text : List ℕ → Choice
   number : Amount → Choice
 
+-- the name of an option
 abbrev pub name_of : Choice → List ℕ
 name_of (text name) = name
 name_of (number amount) = amount.name
@@ -112,6 +120,7 @@ table =
 abbrev pub entry_among : List ℕ → List Entry → Option Entry
 entry_among word = find (λ e. bytes_eq word e.word)
 
+-- which operands the command of a word takes, if there is such a command
 abbrev pub form_among : List ℕ → List Entry → Option Form
 form_among word entries = option_map (λ e. e.form) (entry_among word entries)
 
@@ -123,6 +132,7 @@ form_of word = form_among word table
 abbrev pub option_names : Entry → List (List ℕ)
 option_names e = map name_of e.options
 
+-- the options of the command of a word
 abbrev pub options_among : List ℕ → List Entry → List (List ℕ)
 options_among word entries = unwrap_or (option_map option_names (entry_among word entries)) []
 
@@ -132,9 +142,11 @@ options_of word = options_among word table
 
 -- ---- what the program writes
 
+-- an option, as the definition has it, of the program's table
 abbrev pub choice_of : Taken → Choice
 choice_of (taken.Text name) = text name.now
 choice_of (taken.Number a) = number (record { name = a.name.now; bounds = a.bounds; usual = a.usual })
 
+-- a command, as the definition has it, of the program's table
 abbrev pub entry_of : Written → Entry
 entry_of e = entry e.word.now e.form (map choice_of e.options.now)

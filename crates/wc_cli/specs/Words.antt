@@ -32,6 +32,7 @@ abbrev pub cut_after : List (List ℕ × List ℕ) → List (List ℕ) → Optio
 cut_after front [] = Some front
 cut_after front (w ∷ ws) = option_and_then (λ g. cut_after (front ++ g ∷ []) ws) (cut_word w)
 
+-- all words cut so, where each has one
 abbrev pub cut_all : List (List ℕ) → Option (List (List ℕ × List ℕ))
 cut_all = cut_after []
 
@@ -55,6 +56,7 @@ pub record Line : Type 0 where
   pub operands : List (List ℕ)
   pub options : List (List ℕ × List ℕ)
 
+-- a line with operands and no option
 abbrev pub operands_alone : List (List ℕ) → Line
 operands_alone ws = record { operands = ws; options = [] }
 
@@ -83,6 +85,7 @@ line_from None (w ∷ ws) =
     else if is_option w then None
     else option_map (with_operand w) (line_from None ws)
 
+-- The operands and the options behind the command's name, in their order; options stand up to a word `--`
 abbrev pub line_of : List (List ℕ) → Option Line
 line_of = line_from None
 
@@ -125,11 +128,13 @@ abbrev pub number_or : Bounds → ℕ → Option (List ℕ) → Option ℕ
 number_or bounds usual None = Some usual
 number_or bounds usual (Some text) = number_in bounds text
 
+-- What an option writes, or the usual number where it isn't there
 abbrev pub amount_of : Amount → Values → Option ℕ
 amount_of a value = number_or a.bounds a.usual (value a.name)
 
 -- ---- the operands of a command, and the command that they make
 
+-- `dry`, where its inputs and its fuel are right
 abbrev pub dry_with : List ℕ → List ℕ → Option (List (List ℕ × List ℕ)) → Option (List ℕ) → Option (List ℕ) → Option ℕ → Option Command
 dry_with file name (Some given) inputs table (Some fuel) = Some (Dry file name given inputs table fuel)
 dry_with file name _ inputs table _ = None
@@ -144,6 +149,7 @@ abbrev pub check_of : List (List ℕ) → Option Command
 check_of (file ∷ []) = Some (Check file)
 check_of _ = None
 
+-- `submit`, where its inputs are right
 abbrev pub submit_with : List ℕ → List ℕ → Option (List (List ℕ × List ℕ)) → Option (List ℕ) → Option (List ℕ) → Option Command
 submit_with file name (Some given) inputs settings = Some (Submit file name given inputs settings)
 submit_with file name None inputs settings = None
@@ -153,6 +159,7 @@ abbrev pub submit_of : List (List ℕ) → Values → Option Command
 submit_of (file ∷ name ∷ given) value = submit_with file name (cut_all given) (value for_inputs) (value for_settings)
 submit_of _ value = None
 
+-- `run`, where its numbers are right
 abbrev pub run_with : Option ℕ → Option ℕ → Option (List ℕ) → Option Command
 run_with (Some turns) (Some seed) settings = Some (Run turns seed settings)
 run_with _ _ settings = None
@@ -167,6 +174,7 @@ abbrev pub one_number : Bounds → List (List ℕ) → Option ℕ
 one_number bounds (n ∷ []) = number_in bounds n
 one_number bounds _ = None
 
+-- `drill`, where its numbers are right
 abbrev pub drill_with : Option ℕ → Option ℕ → Option Command
 drill_with (Some seed) (Some count) = Some (Drill seed count)
 drill_with _ _ = None
@@ -176,6 +184,7 @@ abbrev pub drill_of : Bounds → Bounds → List (List ℕ) → Option Command
 drill_of seeds counts (seed ∷ count ∷ []) = drill_with (number_in seeds seed) (number_in counts count)
 drill_of seeds counts _ = None
 
+-- `query`, where its limit is right
 abbrev pub query_with : List (List ℕ) → Option ℕ → Option Command
 query_with words (Some limit) = Some (Query words limit)
 query_with words None = None
@@ -194,6 +203,7 @@ abbrev pub alone : Command → List (List ℕ) → Option Command
 alone c [] = Some c
 alone c _ = None
 
+-- the command of a word that stands alone
 abbrev pub lone_command : Lone → Command
 lone_command lone.Init = Init
 lone_command lone.List = View view.List
@@ -201,6 +211,7 @@ lone_command lone.Graph = View view.Graph
 lone_command lone.Verify = View view.Verify
 lone_command lone.Pack = Pack
 
+-- the command of a word with the number of a node or a process
 abbrev pub with_number : Numbered → ℕ → Command
 with_number numbered.Tree n = View (view.Tree n)
 with_number numbered.Show n = View (view.Show n)

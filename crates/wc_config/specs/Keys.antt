@@ -6,12 +6,14 @@ use Rattle.wc_config.specs.declared.keys.Holds.TheVariants.{Truth, Names, Number
 use Rattle.wc_config.specs.declared.keys.Part.{Part}
 use Rattle.wc_config.specs.declared.keys.Part.TheVariants as part
 
+-- the table of settings with this name
 abbrev pub part_named : List ℕ → Option Part
 part_named name =
     if bytes_eq name (codes "caching") then Some part.Caching
     else (if bytes_eq name (codes "limits") then Some part.Limits
     else (if bytes_eq name (codes "run") then Some part.Run else None))
 
+-- the name of a table of settings
 abbrev pub name_of : Part → List ℕ
 name_of part.Caching = codes "caching"
 name_of part.Limits = codes "limits"

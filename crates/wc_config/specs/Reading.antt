@@ -25,6 +25,7 @@ pub record RefusesAt (bytes : List ℕ) (k : Kind) (key : List ℕ) : Type 0 whe
   pub parsed : parse_document bytes ≡ Some table
   pub least : least (refusals table) ≡ Some (k, key)
 
+-- a refusal as an error
 abbrev pub told : Refusal → ConfigError
 told (kind.UnknownKey, key) = error.UnknownKey key
 told (kind.BadValue, key) = error.BadValue key

@@ -24,14 +24,17 @@ path p key = name_of p ++ codes "." ++ key
 
 -- ---- values
 
+-- whether a number is there and within its range
 abbrev pub is_within : ℤ → ℤ → Option ℤ → Bool
 is_within least most None = false
 is_within least most (Some z) = int_le least z && int_le z most
 
+-- whether all items are texts
 abbrev pub all_strings : Items → Bool
 all_strings no_items = true
 all_strings (item d ds) = is_some (as_str d) && all_strings ds
 
+-- whether an array of texts is there
 abbrev pub are_names : Option Items → Bool
 are_names None = false
 are_names (Some ds) = all_strings ds
@@ -44,10 +47,12 @@ is_held (Number least most) d = is_within least most (as_integer d)
 
 -- ---- all refusals
 
+-- the refusals of a key: that it is unknown, or that its value is bad
 abbrev pub value_refusals : Part → List ℕ → Option Holds → Data → List Refusal
 value_refusals p key None d = (UnknownKey, path p key) ∷ []
 value_refusals p key (Some h) d = if is_held h d then [] else (BadValue, path p key) ∷ []
 
+-- the refusals of the keys of a table
 abbrev pub member_refusals : Part → Members → List Refusal
 member_refusals p no_members = []
 member_refusals p (member key d ms) = value_refusals p key (holds_of p key) d ++ member_refusals p ms
@@ -57,10 +62,12 @@ abbrev pub part_refusals : Part → Option Members → List Refusal
 part_refusals p None = (BadValue, name_of p) ∷ []
 part_refusals p (Some ms) = member_refusals p ms
 
+-- the refusals of a key at the top: that it is unknown, or those of its table
 abbrev pub top_refusals : List ℕ → Option Part → Data → List Refusal
 top_refusals key None d = (UnknownKey, key) ∷ []
 top_refusals key (Some p) d = part_refusals p (as_table d)
 
+-- the refusals of all keys
 abbrev pub all_refusals : Members → List Refusal
 all_refusals no_members = []
 all_refusals (member key d ms) = top_refusals key (part_named key) d ++ all_refusals ms
@@ -69,10 +76,12 @@ all_refusals (member key d ms) = top_refusals key (part_named key) d ++ all_refu
 abbrev pub has_both : List (List ℕ) → List (List ℕ) → Bool
 has_both names others = list_any (λ n. list_any (λ o. bytes_eq o n) others) names
 
+-- the refusal of names that are both enabled and disabled
 abbrev pub both_refusals : Members → List Refusal
 both_refusals ms =
     if has_both (names_at (codes "enabled") ms) (names_at (codes "disabled") ms) then (BadValue, path part.Caching (codes "enabled")) ∷ [] else []
 
+-- all refusals of a document
 abbrev pub refusals : Members → List Refusal
 refusals ms = all_refusals ms ++ both_refusals ms
 
@@ -88,9 +97,11 @@ abbrev pub lesser : Option Refusal → Refusal → Option Refusal
 lesser None r = Some r
 lesser (Some a) r = match_ordering (slice_cmp nat_cmp r.1 a.1) (Some r) (Some (of_two a r)) (Some a)
 
+-- the least refusal, of one and those behind it
 abbrev pub least_after : Option Refusal → List Refusal → Option Refusal
 least_after best [] = best
 least_after best (r ∷ rs) = least_after (lesser best r) rs
 
+-- the least refusal, if there is one
 abbrev pub least : List Refusal → Option Refusal
 least rs = least_after None rs

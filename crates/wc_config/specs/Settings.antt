@@ -15,6 +15,7 @@ entry_at p key ms = option_and_then (get_member key) (option_and_then as_table (
 
 -- ---- names
 
+-- a name in front of names, where it is one
 abbrev pub name_then : Option (List ℕ) → List (List ℕ) → List (List ℕ)
 name_then None names = names
 name_then (Some n) names = n ∷ names
@@ -24,6 +25,7 @@ abbrev pub strings : Items → List (List ℕ)
 strings no_items = []
 strings (item d ds) = name_then (as_str d) (strings ds)
 
+-- the names of an array
 abbrev pub names_in : Option Items → List (List ℕ)
 names_in None = []
 names_in (Some ds) = strings ds
@@ -34,13 +36,16 @@ names_at key ms = names_in (option_and_then as_array (entry_at part.Caching key 
 
 -- ---- numbers and truths
 
+-- a number within its range, else the usual one
 abbrev pub within : ℤ → ℤ → ℤ → Option ℤ → ℤ
 within least most usual None = usual
 within least most usual (Some z) = if int_le least z && int_le z most then z else usual
 
+-- the number of a setting, else the usual one
 abbrev pub number_at : Part → List ℕ → (least most usual : ℤ) → Members → ℤ
 number_at p key least most usual ms = within least most usual (option_and_then as_integer (entry_at p key ms))
 
+-- whether caching is on where nothing else is said
 abbrev pub default_on : Members → Bool
 default_on ms = unwrap_or (option_and_then as_bool (entry_at part.Caching (codes "default") ms)) false
 
@@ -58,6 +63,7 @@ pub record AreOf (ms : Members) (s : Settings) : Type 0 where
 
 -- ---- whether caching is on
 
+-- whether a name is in a list
 abbrev pub is_listed : List ℕ → List (List ℕ) → Bool
 is_listed name names = list_any (λ n. bytes_eq n name) names
 

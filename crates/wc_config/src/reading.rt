@@ -136,7 +136,9 @@ fn told(refused: Refused) -> ConfigError
 
 /// The settings that a file's bytes give, or the refusal of the least key path in byte order.
 pub fn read_settings(alloc: Global, bytes: &[u8]) -> Result<Settings, ConfigError>
+    // The settings are those that the bytes say.
     ensures ok { IfOk result (Reads bytes.now) }
+    // A refusal is the first one that the bytes call for, or want of memory.
     ensures refused { IfErr result (Refuses bytes.now) }
 {
     let table = match toml::table_from_slice(alloc, bytes) {

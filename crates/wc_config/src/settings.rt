@@ -25,8 +25,11 @@ pub struct Settings {
 impl Settings {
     /// The settings where no file gives any. They take no memory.
     pub fn usual(alloc: Global) -> Settings
+        // Caching is off for all.
         ensures caching { (result.default_on ≡ false) × (result.enabled ≡ []) × (result.disabled ≡ []) }
+        // A million nodes, 268,435,456 bytes, a second between looks.
         ensures limits { (result.limits.max_nodes ≡ 1000000) × (result.limits.max_bytes ≡ 268435456) × (result.limits.poll_ms ≡ 1000) }
+        // The limits lie within their ranges.
         ensures ranges { AreLimits result.limits }
     {
         Settings {

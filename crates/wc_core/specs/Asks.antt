@@ -15,12 +15,14 @@ use Rattle.wc_machine.specs.Questions.{Need, nothing, performs, need, fits}
 use Rattle.wc_core.specs.declared.needs.Asks.{Asks}
 use Rattle.wc_core.specs.declared.needs.Asks.TheVariants as asks
 
+-- the question of a task with its request
 abbrev pub asks_task : Task → Request → Asks
 asks_task task.Upload q = asks.Upload q
 asks_task task.Submit q = asks.Submit q
 asks_task task.Update q = asks.Update q
 asks_task task.Retrieve q = asks.Retrieve q
 
+-- what a process asks of the transport, as it is told
 abbrev pub asks_of : Need → Asks
 asks_of nothing = asks.Nothing
 asks_of (performs t q) = asks_task t q

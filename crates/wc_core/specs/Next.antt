@@ -10,6 +10,7 @@ use Rattle.wc_core.specs.Ready.{is_ready_at}
 use Rattle.wc_core.specs.declared.next.Next.{Next}
 use Rattle.wc_core.specs.declared.next.Next.TheVariants.{Turn, Rest}
 
+-- the moment from which on a job is asked about; no other part has one
 abbrev pub due_in : Part → Option ℕ
 due_in part.Fresh = None
 due_in (part.Chain c) = None

@@ -4,6 +4,7 @@ use Rattle.wc_state.specs.declared.record.ProcessRecord.{ProcessRecord}
 use Rattle.wc_records.specs.Ready as records
 use Rattle.wc_world.specs.World.{World}
 
+-- whether a record is there and is ready at a moment
 abbrev pub is_ready_by : World → ℕ → Option ProcessRecord → Bool
 is_ready_by w now o = records.is_ready_by w.records now o
 

@@ -50,6 +50,7 @@ pub record Tolls : Type 0 where
 abbrev pub Costing : Type 0
 Costing = List Instr → Progress → Option ℕ
 
+-- so many more, where there is a cost
 abbrev pub more : ℕ → Option ℕ → Option ℕ
 more n = option_map (λ k. n + k)
 
@@ -87,6 +88,7 @@ module _ (g : Tolls) where
   cost (suc b) [] e = Some 1
   cost (suc b) (i ∷ is) e = more 1 (front_cost (out-Instr i) i (cost b) b is e)
 
+  -- a list of instructions takes this many turns, with some bound
   abbrev pub Costs : List Instr → Progress → ℕ → Type 0
   Costs is e k = (b : ℕ) × (cost b is e ≡ Some k)
 
@@ -116,6 +118,7 @@ abbrev pub price_by : Option ℕ → Option Definition → (Request → Option J
 price_by None d results run inputs = price_of d results run inputs
 price_by (Some c) d results run inputs = Some 0
 
+-- what the calls of a chain cost; too deep, none may be made
 abbrev pub tolls_by : List Definition → Option Due → List Port → Tolls
 tolls_by library None ports = record { due = λ l n name inputs. None; deep = true; takes = takes_of library; kinds = kinds_of ports }
 tolls_by library (Some due) ports = record { due = due; deep = false; takes = takes_of library; kinds = kinds_of ports }
@@ -129,6 +132,7 @@ price (suc levels) library table kills b name inputs =
     (λ ports. cost (tolls_by library (Some (λ l n x y. due_of (meaning levels library (under l table) (under l kills) n x y)
     (price levels library (under l table) (under l kills) n x y))) ports) b) inputs
 
+-- what a call costs, by its meaning and its price, so many levels deep
 abbrev pub dues_of : ℕ → List Definition → Table → Kills → Option Due
 dues_of zero library table kills = None
 dues_of (suc levels) library table kills = Some (λ l n x y. due_of (meaning levels library (under l table) (under l kills) n x y)
@@ -138,11 +142,13 @@ dues_of (suc levels) library table kills = Some (λ l n x y. due_of (meaning lev
 abbrev pub tolls : ℕ → List Definition → Table → Kills → List Port → Tolls
 tolls levels library table kills = tolls_by library (dues_of levels library table kills)
 
+-- a definition takes this many turns for these inputs, with some bound
 abbrev pub Prices : ℕ → List Definition → Table → Kills → List ℕ → Values → ℕ → Type 0
 Prices levels library table kills name inputs k = (b : ℕ) × (price levels library table kills b name inputs ≡ Some k)
 
 -- ---- progress with nothing asked
 
+-- calls without what they asked for
 abbrev pub bare_calls : List (Label × Replayed) → List (Label × Replayed)
 bare_calls [] = []
 bare_calls (c ∷ cs) = (c.0, unasked c.1.tree) ∷ bare_calls cs

@@ -36,9 +36,11 @@ pub record MeaningsHaveOnePrice (levels : ℕ) (library : List Definition) (tabl
   pub one : (k k' : ℕ) → Prices levels library table kills name inputs k → Prices levels library table kills name inputs k' → k ≡ k'
   pub some : (n : ℕ) (t : Replayed) (m : ℕ) → meaning levels library table kills n name inputs ≡ Gave t m → (k : ℕ) × Prices levels library table kills name inputs k
 
+-- The law: a run has one cost at most, and one that ends and isn't killed has one
 abbrev pub RunsCost : Type 0
 RunsCost = (levels : ℕ) (library : List Definition) (table : Table) (kills : Kills) (ports : List Port) → RunsHaveOneCost levels library table kills ports
 
+-- The law: a definition has one price at most for its inputs, and where its meaning gives a tree it has one
 abbrev pub MeaningsCost : Type 0
 MeaningsCost = (levels : ℕ) (library : List Definition) (table : Table) (kills : Kills) (name : List ℕ) (inputs : Values)
     → MeaningsHaveOnePrice levels library table kills name inputs

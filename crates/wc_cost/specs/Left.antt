@@ -60,6 +60,8 @@ module _ (results : Request → Option JobResult) (w : World) where
   FreshOwes r None n = ⊥
   FreshOwes r (Some library) n = Prices (levels_of r) library (by_request results) (kills w r.node) r.definition (recorded_inputs w r.node) n
 
+  -- what a process owes, by its part: one that hasn't begun its price, a job its tasks, a work chain the cost of what its frames leave, one that has ended
+  -- nothing
   abbrev pub PartOwes : ProcessRecord → Part → ℕ → Type 0
   PartOwes r part.Fresh n = FreshOwes r (library_at w.libraries r.library) n
   PartOwes r (part.Chain c) n = ChainOwes r c (library_at w.libraries r.library) (its_definition w r) (awaited w c.awaiting) (progress_of w r c) n
@@ -71,5 +73,6 @@ module _ (results : Request → Option JobResult) (w : World) where
   AllOwe [] n = n ≡ 0
   AllOwe (r ∷ rs) n = (a : ℕ) × (b : ℕ) × PartOwes r r.part a × AllOwe rs b × (n ≡ a + b)
 
+  -- what is left of a world: what its processes owe together
   abbrev pub IsLeft : ℕ → Type 0
   IsLeft = AllOwe w.records

@@ -29,6 +29,7 @@ pub record SmallCosts (t : Tree) (p q : Planned) (e : Progress) (s : ProcessStat
   pub no_calls : with_step (each_takes t 5) 1 [] env outs e (cost (each_takes t 5) 1) ≡ Some 2
   pub two_calls : with_step (each_takes t 5) 1 (p ∷ (q ∷ [])) env outs e (cost (each_takes t 5) 1) ≡ Some 13
 
+-- The law of the costs of small runs
 abbrev pub SmallRunsCost : Type 0
 SmallRunsCost = (t : Tree) (p q : Planned) (e : Progress) (s : ProcessState) (env : Env) (outs : Values) → SmallCosts t p q e s env outs
 

@@ -36,8 +36,11 @@ fn value_of_all(alloc: Global, bytes: &[u8]) -> Result<Value, ValueError>
 
 /// So many bytes from a place on, and the place behind them.
 pub fn bytes_at(n: usize, bytes: &[u8], at: usize) -> Result<(&[u8], usize), ValueError>
+    // The place lies within the bytes.
     requires { at ≤ length bytes.now }
+    // What reading gives, or want of memory.
     ensures answer { Gives (λ x. (x.0.now, x.1)) result (bytes_from n bytes.now at) }
+    // The place behind lies within the bytes.
     ensures within { IfOk result (λ x. x.1 ≤ length bytes.now) }
 {
     if bytes.len() - at < n {
@@ -48,8 +51,11 @@ pub fn bytes_at(n: usize, bytes: &[u8], at: usize) -> Result<(&[u8], usize), Val
 
 /// The number of four bytes at a place, the highest byte first, and the place behind it.
 pub fn u32_at(bytes: &[u8], at: usize) -> Result<(u32, usize), ValueError>
+    // The place lies within the bytes.
     requires { at ≤ length bytes.now }
+    // What reading gives, or want of memory.
     ensures answer { Answers result (u32_from bytes.now at) }
+    // The place behind is four further, within the bytes.
     ensures within { IfOk result (λ x. (x.1 ≡ at + 4) × (x.1 ≤ length bytes.now)) }
 {
     let (digits, next) = bytes_at(4, bytes, at)?;
@@ -61,8 +67,11 @@ pub fn u32_at(bytes: &[u8], at: usize) -> Result<(u32, usize), ValueError>
 
 /// The signed number of eight bytes at a place, and the place behind it.
 pub fn i64_at(bytes: &[u8], at: usize) -> Result<(i64, usize), ValueError>
+    // The place lies within the bytes.
     requires { at ≤ length bytes.now }
+    // What reading gives, or want of memory.
     ensures answer { Answers result (i64_from bytes.now at) }
+    // The place behind lies within the bytes.
     ensures within { IfOk result (λ x. x.1 ≤ length bytes.now) }
 {
     let (d, next) = bytes_at(8, bytes, at)?;
@@ -112,8 +121,11 @@ fn content_at(alloc: Global, bytes: &[u8], at: usize) -> Result<(Bytes, usize), 
 
 /// The text behind its length at a place, and the place behind it.
 pub fn text_at(alloc: Global, bytes: &[u8], at: usize) -> Result<(Text, usize), ValueError>
+    // The place lies within the bytes.
     requires { at ≤ length bytes.now }
+    // What reading gives, or want of memory.
     ensures answer { Answers result (text_from bytes.now at) }
+    // The place behind lies within the bytes.
     ensures within { IfOk result (λ x. x.1 ≤ length bytes.now) }
 {
     let (content, next) = content_at(alloc, bytes, at)?;
@@ -151,8 +163,11 @@ pub fn value_at(
     at: usize,
     levels: u32,
 ) -> Result<(Value, usize), ValueError>
+    // The place lies within the bytes.
     requires { at ≤ length bytes.now }
+    // What reading gives, or want of memory.
     ensures answer { Answers result (value_from levels bytes.now at) }
+    // The place behind lies within the bytes.
     ensures within { IfOk result (λ x. x.1 ≤ length bytes.now) }
 {
     if at == bytes.len() {
@@ -262,9 +277,13 @@ pub fn name_at<T>(
     bytes: &[u8],
     at: usize,
 ) -> Result<(Text, usize), ValueError>
+    // The place lies within the bytes.
     requires { at ≤ length bytes.now }
+    // What reading gives, or want of memory.
     ensures answer { Answers result (name_from front.now bytes.now at) }
+    // The place behind lies within the bytes.
     ensures within { IfOk result (λ x. x.1 ≤ length bytes.now) }
+    // The name comes after those in front.
     ensures last { IfOk result (λ x. goes_last x.0 front.now ≡ true) }
 {
     let (name, next) = text_at(alloc, bytes, at)?;

@@ -27,6 +27,7 @@ HasNoSync (Write at bytes ∷ cs) = HasNoSync cs
 HasNoSync (Cut len ∷ cs) = HasNoSync cs
 HasNoSync (Sync ∷ cs) = ⊥
 
+-- whether a call is a sync
 abbrev pub is_sync : Call → Bool
 is_sync (Write at bytes) = false
 is_sync (Cut len) = false

@@ -33,6 +33,7 @@ changed v bytes pending = record {
   pending = pending;
 }
 
+-- what a call makes of a volume
 abbrev pub after_call : Call → Volume → Volume
 after_call (Write at bytes) v = changed v (overwritten at bytes v.seen) (record { at = at; count = length bytes; end = length v.seen } ∷ v.pending)
 after_call (Cut len) v = changed v (take len v.seen) v.pending
@@ -53,6 +54,7 @@ after_calls (c ∷ cs) v = after_calls cs (after_call c v)
 abbrev pub Spares : ℕ → Pending → Type 0
 Spares p w = ((p < w.at) ⊎ (w.at + w.count ≤ p)) × (p < w.end)
 
+-- no pending write touches a place
 abbrev pub AllSpare : ℕ → List Pending → Type 0
 AllSpare p [] = Unit {0}
 AllSpare p (w ∷ ws) = Spares p w × AllSpare p ws

@@ -31,7 +31,9 @@ pub struct FileDisk<R: Drop> {
 impl<R: Files<File = File> + Drop> FileDisk<R> {
     /// The file at this path. No call of the system is made yet.
     pub fn new(rt: R, path: Text) -> FileDisk<R>
+        // It doesn't tell its contents.
         ensures untold { ⟦<FileDisk<R> as Disk>⟧.tells result ≡ false }
+        // No call has failed.
         ensures faults { result.faults ≡ 0 }
     {
         FileDisk {

@@ -31,9 +31,13 @@ impl MemoryDisk {
 
     /// A disk that holds this image, all of it synced, and whose calls with the listed numbers fail.
     pub fn new(alloc: Global, image: Bytes, failing: Failing) -> MemoryDisk
+        // It begins with these bytes.
         ensures begun { result.tape.begun ≡ image }
+        // No call was made.
         ensures calls { result.tape.calls ≡ [] }
+        // These calls will fail, and none was made yet.
         ensures schedule { result.schedule ≡ fresh failing }
+        // Memory never ran out in it.
         ensures starved { result.starved ≡ 0 }
     {
         MemoryDisk {
@@ -46,7 +50,9 @@ impl MemoryDisk {
 
     /// After so many further calls each call fails.
     pub fn fuse(&mut self, calls: u64)
+        // Behind so many calls each one fails.
         ensures schedule { self.new.schedule ≡ record self.old.schedule { fuse = Some calls } }
+        // Nothing else changes.
         ensures kept { self.new ≡ record self.old { schedule = self.new.schedule } }
     {
         self.schedule.set_fuse(calls);
@@ -54,10 +60,15 @@ impl MemoryDisk {
 
     /// A new disk that holds one image that a crash now may leave, all of it synced.
     pub fn crashed(&self, alloc: Global, pick: Pick) -> Result<MemoryDisk, AllocError>
+        // Its bytes are those that the pick names.
         ensures picked { IfOk result (λ disk. IsPicked pick self.now.tape.begun self.now.tape.calls disk.tape.begun) }
+        // Its bytes are an image that a crash may leave.
         ensures left { IfOk result (λ disk. IsImage (volume_of self.now.tape) disk.tape.begun) }
+        // No call was made of it.
         ensures calls { IfOk result (λ disk. disk.tape.calls ≡ []) }
+        // None of its calls will fail.
         ensures schedule { IfOk result (λ disk. disk.schedule ≡ fresh []) }
+        // Memory never ran out in it.
         ensures starved { IfOk result (λ disk. disk.starved ≡ 0) }
     {
         let image = self.tape.image(alloc, pick)?;
@@ -137,11 +148,17 @@ impl Disk for MemoryDisk {
         ensures time { Elapses (length self.old.tape.calls) (length self.new.tape.calls)
             (LeftSince self.old.tape.calls self.old.tape.begun) (LeftSince self.new.tape.calls self.new.tape.begun) (IsImage (volume_of self.new.tape)) }
         ensures cause { CountsFault result self.old.schedule.faults self.new.schedule.faults (IsTrue self.new.schedule.failed) }
+        // That the last call failed is known exactly where it did.
         ensures failed { self.new.schedule.failed ≡ is_err result }
+        // It fails exactly where it is listed or the fuse is blown.
         ensures fails { is_err result ≡ fails_next self.old.schedule }
+        // The count of calls for which no memory was left stays.
         ensures starved { self.new.starved ≡ self.old.starved }
+        // The call is counted.
         ensures schedule { Advances self.old.schedule self.new.schedule }
+        // The bytes that it began with stay.
         ensures begun { self.new.tape.begun ≡ self.old.tape.begun }
+        // It adds nothing to the list of calls.
         ensures calls { self.new.tape.calls ≡ self.old.tape.calls }
     {
         self.schedule.call()?;
@@ -156,11 +173,17 @@ impl Disk for MemoryDisk {
         ensures time { Elapses (length self.old.tape.calls) (length self.new.tape.calls)
             (LeftSince self.old.tape.calls self.old.tape.begun) (LeftSince self.new.tape.calls self.new.tape.begun) (IsImage (volume_of self.new.tape)) }
         ensures cause { CountsFault result self.old.schedule.faults self.new.schedule.faults (IsTrue self.new.schedule.failed) }
+        // That the last call failed is known exactly where it did.
         ensures failed { self.new.schedule.failed ≡ is_err result }
+        // It fails exactly where it is listed or the fuse is blown.
         ensures fails { is_err result ≡ fails_next self.old.schedule }
+        // The count of calls for which no memory was left stays.
         ensures starved { self.new.starved ≡ self.old.starved }
+        // The call is counted.
         ensures schedule { Advances self.old.schedule self.new.schedule }
+        // The bytes that it began with stay.
         ensures begun { self.new.tape.begun ≡ self.old.tape.begun }
+        // It adds nothing to the list of calls.
         ensures calls { self.new.tape.calls ≡ self.old.tape.calls }
     {
         self.schedule.call()?;
@@ -176,11 +199,17 @@ impl Disk for MemoryDisk {
         ensures time { Elapses (length self.old.tape.calls) (length self.new.tape.calls)
             (LeftSince self.old.tape.calls self.old.tape.begun) (LeftSince self.new.tape.calls self.new.tape.begun) (IsImage (volume_of self.new.tape)) }
         ensures cause { CountsFault result self.old.schedule.faults self.new.schedule.faults (IsTrue self.new.schedule.failed) }
+        // That the last call failed is known exactly where it did.
         ensures failed { self.new.schedule.failed ≡ is_err result }
+        // Where it is listed or the fuse is blown it fails; elsewhere it fails only where no memory was left, and that is counted.
         ensures fails { FailsAsListed self.old.schedule self.old.starved self.new.starved result }
+        // The call is counted.
         ensures schedule { Advances self.old.schedule self.new.schedule }
+        // The bytes that it began with stay.
         ensures begun { self.new.tape.begun ≡ self.old.tape.begun }
+        // Where it is Ok, it adds itself alone to the list of calls.
         ensures calls { OnOk result (self.new.tape.calls ≡ self.old.tape.calls ++ Write at bytes.now ∷ []) }
+        // Where it isn't Ok, the list of calls stays.
         ensures unchanged { OnErr result (self.new.tape.calls ≡ self.old.tape.calls) }
     {
         self.schedule.call()?;
@@ -195,11 +224,17 @@ impl Disk for MemoryDisk {
         ensures time { Elapses (length self.old.tape.calls) (length self.new.tape.calls)
             (LeftSince self.old.tape.calls self.old.tape.begun) (LeftSince self.new.tape.calls self.new.tape.begun) (IsImage (volume_of self.new.tape)) }
         ensures cause { CountsFault result self.old.schedule.faults self.new.schedule.faults (IsTrue self.new.schedule.failed) }
+        // That the last call failed is known exactly where it did.
         ensures failed { self.new.schedule.failed ≡ is_err result }
+        // Where it is listed or the fuse is blown it fails; elsewhere it fails only where no memory was left, and that is counted.
         ensures fails { FailsAsListed self.old.schedule self.old.starved self.new.starved result }
+        // The call is counted.
         ensures schedule { Advances self.old.schedule self.new.schedule }
+        // The bytes that it began with stay.
         ensures begun { self.new.tape.begun ≡ self.old.tape.begun }
+        // Where it is Ok, it adds itself alone to the list of calls.
         ensures calls { OnOk result (self.new.tape.calls ≡ self.old.tape.calls ++ Cut len ∷ []) }
+        // Where it isn't Ok, the list of calls stays.
         ensures unchanged { OnErr result (self.new.tape.calls ≡ self.old.tape.calls) }
     {
         self.schedule.call()?;
@@ -214,11 +249,17 @@ impl Disk for MemoryDisk {
         ensures time { Elapses (length self.old.tape.calls) (length self.new.tape.calls)
             (LeftSince self.old.tape.calls self.old.tape.begun) (LeftSince self.new.tape.calls self.new.tape.begun) (IsImage (volume_of self.new.tape)) }
         ensures cause { CountsFault result self.old.schedule.faults self.new.schedule.faults (IsTrue self.new.schedule.failed) }
+        // That the last call failed is known exactly where it did.
         ensures failed { self.new.schedule.failed ≡ is_err result }
+        // Where it is listed or the fuse is blown it fails; elsewhere it fails only where no memory was left, and that is counted.
         ensures fails { FailsAsListed self.old.schedule self.old.starved self.new.starved result }
+        // The call is counted.
         ensures schedule { Advances self.old.schedule self.new.schedule }
+        // The bytes that it began with stay.
         ensures begun { self.new.tape.begun ≡ self.old.tape.begun }
+        // Where it is Ok, it adds itself alone to the list of calls.
         ensures calls { OnOk result (self.new.tape.calls ≡ self.old.tape.calls ++ Sync ∷ []) }
+        // Where it isn't Ok, the list of calls stays.
         ensures unchanged { OnErr result (self.new.tape.calls ≡ self.old.tape.calls) }
     {
         self.schedule.call()?;

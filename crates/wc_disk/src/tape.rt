@@ -25,7 +25,9 @@ impl Tape {
 
     /// These bytes, all of them on the disk. It takes no memory.
     pub fn new(alloc: Global, begun: Bytes) -> Tape
+        // It begins with these bytes.
         ensures begun { result.begun ≡ begun }
+        // No call was made.
         ensures calls { result.calls ≡ [] }
     {
         Tape {
@@ -47,9 +49,13 @@ impl Tape {
 
     /// Writes over what is there, and past the end, or changes nothing.
     pub fn write(&mut self, alloc: Global, at: usize, bytes: &[u8]) -> Result<(), AllocError>
+        // The write begins within what a read gives, or just behind it.
         requires { at ≤ length (volume_of self.old).seen }
+        // The bytes that it began with stay.
         ensures begun { self.new.begun ≡ self.old.begun }
+        // Where it is Ok, it adds itself alone to the list of calls.
         ensures ok { OnOk result (self.new.calls ≡ self.old.calls ++ Call.Write at bytes.now ∷ []) }
+        // Where it isn't Ok, the list of calls stays.
         ensures err { OnErr result (self.new.calls ≡ self.old.calls) }
     {
         let mut copy: Bytes = List::new(alloc);
@@ -62,9 +68,13 @@ impl Tape {
 
     /// Cuts to a length, or changes nothing.
     pub fn cut(&mut self, alloc: Global, len: usize) -> Result<(), AllocError>
+        // The length is at most that of the bytes.
         requires { len ≤ length (volume_of self.old).seen }
+        // The bytes that it began with stay.
         ensures begun { self.new.begun ≡ self.old.begun }
+        // Where it is Ok, it adds itself alone to the list of calls.
         ensures ok { OnOk result (self.new.calls ≡ self.old.calls ++ Call.Cut len ∷ []) }
+        // Where it isn't Ok, the list of calls stays.
         ensures err { OnErr result (self.new.calls ≡ self.old.calls) }
     {
         make_room(alloc, &self.begun, &mut self.current, 0)?;
@@ -75,7 +85,9 @@ impl Tape {
 
     /// One image that a crash may leave.
     pub fn image(&self, alloc: Global, pick: Pick) -> Result<Bytes, AllocError>
+        // Its bytes are those that the pick names.
         ensures picked { IfOk result (λ image. IsPicked pick self.now.begun self.now.calls image) }
+        // Its bytes are an image that a crash may leave.
         ensures left { IfOk result (λ image. IsImage (volume_of self.now) image) }
     {
         let bytes = picked(
@@ -92,8 +104,11 @@ impl Tape {
 
     /// Brings all to the disk, or changes nothing.
     pub fn sync(&mut self) -> Result<(), AllocError>
+        // The bytes that it began with stay.
         ensures begun { self.new.begun ≡ self.old.begun }
+        // Where it is Ok, it adds itself alone to the list of calls.
         ensures ok { OnOk result (self.new.calls ≡ self.old.calls ++ Call.Sync ∷ []) }
+        // Where it isn't Ok, the list of calls stays.
         ensures err { OnErr result (self.new.calls ≡ self.old.calls) }
     {
         self.calls.push(Call::Sync)?;

@@ -10,6 +10,7 @@ draw at seed = drawn (after_draws at seed) / 65536
 abbrev pub first_number : (chain seed : ℕ) → ℕ
 first_number chain seed = draw (2 * chain) seed % 100
 
+-- the second number of a chain: a draw from the seed, modulo 100
 abbrev pub second_number : (chain seed : ℕ) → ℕ
 second_number chain seed = draw (2 * chain + 1) seed % 100
 

@@ -29,12 +29,15 @@ use Rattle.wc_syntax.specs.declared.outline.Stmt.TheVariants as stmt
 
 -- ---- syntax without offsets
 
+-- a name without a place
 abbrev pub word : List ℕ → Name
 word text = record { text = text; at = 0 }
 
+-- a text in quotes without a place
 abbrev pub quote : List ℕ → Quoted
 quote text = record { text = text; at = 0 }
 
+-- an expression without a place
 abbrev pub expr : Form → Expr
 expr f = roll-Expr (record { at = 0; form = f })
 
@@ -46,9 +49,11 @@ port name = record { at = 0; name = word name; optional = false; kind = kind.Int
 abbrev pub headed : List ℕ → (inputs outputs : List Port) → Head
 headed name inputs outputs = record { at = 0; name = word name; inputs = inputs; outputs = outputs; codes = [] }
 
+-- a bare name as an expression
 abbrev pub bare : List ℕ → Expr
 bare name = expr (form.Bare (word name))
 
+-- an input as an expression
 abbrev pub input : List ℕ → Expr
 input name = expr (form.Input 0 (word name))
 
@@ -56,6 +61,7 @@ input name = expr (form.Input 0 (word name))
 abbrev pub output_of : (key label : List ℕ) → Expr
 output_of key label = expr (form.Child 0 (word key) None (asked.Outputs (word label)))
 
+-- an argument of a call
 abbrev pub given : List ℕ → Expr → CallArg
 given name value = record { port = word name; value = value }
 
@@ -63,6 +69,7 @@ given name value = record { port = word name; value = value }
 abbrev pub call_to : (callee : List ℕ) → List CallArg → (key : List ℕ) → Stmt
 call_to callee args key = stmt.Call (record { at = 0; callee = word callee; args = args; append = false; key = word key })
 
+-- a step without a place
 abbrev pub step : List ℕ → List Stmt → Step
 step name stmts = record { at = 0; name = word name; stmts = stmts }
 
@@ -129,6 +136,7 @@ pair = record {
   outline = roll-Block (record { instrs = instr.Step first ∷ (instr.Step second ∷ (instr.Step last ∷ [])) });
 }
 
+-- The library of generated chains: the chain `pair` squares two numbers by a job each and adds the squares by a function
 abbrev pub library : List Definition
 library = definition.Job square ∷ (definition.Function total ∷ (definition.Chain pair ∷ []))
 
@@ -163,6 +171,7 @@ text =
 
 -- ---- what is given to it
 
+-- the name of the definition of chains
 abbrev pub chain_name : List ℕ
 chain_name = codes "pair"
 

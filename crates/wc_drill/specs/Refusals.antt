@@ -32,6 +32,7 @@ abbrev pub IsOfInit : StoreError → Type 0
 IsOfInit (store_error.Full what count limit) = ⊥
 IsOfInit _ = Unit {0}
 
+-- the error of a drill whose `init` failed; that the empty store is too full can't come, and counts as want of memory
 abbrev pub of_init : StoreError → DrillError
 of_init store_error.DiskFault = DiskFault
 of_init (store_error.Damaged number at found) = Damaged number at found

@@ -12,6 +12,7 @@ square_request x = record { program = codes "square"; args = decimal x ∷ []; f
 abbrev pub square_result : ℕ → JobResult
 square_result x = record { code = pos 0; files = (codes "y", decimal (x * x) ++ 10 ∷ []) ∷ [] }
 
+-- the row of a table for the job of a number: its request, and the square as its result
 abbrev pub square_row : ℕ → Request × JobResult
 square_row x = (square_request x, square_result x)
 

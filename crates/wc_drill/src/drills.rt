@@ -111,20 +111,33 @@ pub fn drill<D: Disk>(
     seed: u32,
     count: u32,
 ) -> Result<u32, DrillError>
+    // The chains are at most 10,000.
     requires few { count ≤ 10000 }
+    // The answer is how many batches the world has to which the drill has come, which the disks hold then.
     ensures done { IfOk result (λ batches. (w : AWorld) × HasDrilled seed count w × (batches ≡ w.batches)
         × ((journal : AJournal) × IsFilled D.Disk one.old two.old one.new two.new w journal)) }
+    // A store is made only where the disks held nothing.
     ensures nothing { IsBegun result → IsTrue (D.tells one.old) → IsTrue (D.tells two.old) → IsHeld (D.seen one.old) (D.seen two.old) nothing }
+    // That a store is there is told only where the disks hold a world, and damage only where they hold that damage. `Full` only where they hold a world on
+    // the way to the end, and the submission of its next chain, or, once all are submitted and while fewer turns and rests were taken than there are, the
+    // turn of a ready process, is refused so, by the journal that keeps it: of nodes, else of batches, else of bytes. No other answer is there: the
+    // seventeen turns of each chain are enough, so its run ends every process, or breaks off.
     ensures refused { IfErr result (RefusesDrill D.Disk seed count one.old two.old one.new two.new) }
+    // Where a store was made and no disk failed, nothing is pending on either disk.
     ensures durable { IsBegun result → IsTrue (D.tells one.old) → IsTrue (D.tells two.old) → AreDurable D.Disk one.new two.new }
     // A drill that wasn't begun wrote nothing; and where memory ran out, nothing was written, or what was committed stays.
     ensures unbegun { IsTrue (D.tells one.old) → IsTrue (D.tells two.old) → RefusedLeaves D.Disk result one.old two.old one.new two.new }
+    // Disk two reads as before.
     ensures seen_two { IsTrue (D.tells one.old) → IsTrue (D.tells two.old) → D.seen two.new ≡ D.seen two.old }
     // Disk two is not written, and each image of disk one is one that a crash at entry might have left, or holds what the drill makes, by its journal.
     ensures beside { IsTrue (D.tells one.old) → IsTrue (D.tells two.old)
         → LeavesOnly D.Disk one.old one.new (DrilledBeside D.Disk seed count one.old two.old two.new) }
+    // Each image of disk two, at any moment, is one that a crash at entry might have left.
     ensures any_moment_two { IsTrue (D.tells one.old) → IsTrue (D.tells two.old) → LeavesOnly D.Disk two.old two.new (D.may_leave two.old) }
+    // Whether a disk tells its bytes stays.
     ensures tells { (D.tells one.new ≡ D.tells one.old) × (D.tells two.new ≡ D.tells two.old) }
+    // `DiskFault` only where the count of faults of one disk rose by one, its last call failed and the count of the other stayed, and no other answer with a
+    // raised count.
     ensures cause { Counts result (D.faults one.old) (D.faults one.new) (D.faults two.old) (D.faults two.new) (D.failed one.new) (D.failed two.new) }
 {
     let chains = chain_library(alloc)?;

@@ -17,7 +17,9 @@ pub fn chain_name(alloc: Global) -> Result<Text, AllocError>
 /// The inputs of a chain with these two numbers.
 #[tactic(auto, using(crate::proofs::Given::shallow))]
 pub fn chain_inputs(alloc: Global, first: u32, second: u32) -> Result<Fields, AllocError>
+    // The inputs are those of the definition.
     ensures value { IfOk result (λ inputs. inputs ≡ chain_inputs first second) }
+    // Their values are at most 32 deep.
     ensures shallow { IfOk result (λ inputs. All (λ i. depth i.1 ≤ 32) inputs) }
 {
     let mut inputs = Fields::new(alloc);

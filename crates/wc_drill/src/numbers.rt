@@ -21,6 +21,7 @@ pub fn next_numbers(draws: &mut Generator) -> (u32, u32)
 
 /// The squares of the numbers of so many chains, added up.
 pub fn sum_of_squares(seed: u32, count: u32) -> u64
+    // The chains are at most 10,000.
     requires few { count ≤ 10000 }
     ensures { result ≡ sum_of_squares count seed }
 {

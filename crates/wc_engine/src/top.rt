@@ -182,9 +182,13 @@ pub fn serve<R: Shelf, W: Sink, D: Disk, T: Transport, P: Pacer>(
         × (IsBeforeTurns r.status → (transport.new ≡ transport.old) × (pacer.new ≡ pacer.old)) }
     // No count rose but for these.
     ensures reads { (result ≡ Status.ReadFault → ⊥) → R.faults shelf.new ≡ R.faults shelf.old }
+    // The count of the sink rose only with WriteFault.
     ensures writes { (result ≡ Status.WriteFault → ⊥) → W.faults sink.new ≡ W.faults sink.old }
+    // The counts of the disks rose only with DiskFault.
     ensures disks { (result ≡ Status.DiskFault → ⊥) → (D.faults one.new ≡ D.faults one.old) × (D.faults two.new ≡ D.faults two.old) }
+    // What the shelf tells of its contents stays.
     ensures kept { R.contents shelf.new ≡ R.contents shelf.old }
+    // Whether a disk tells its bytes stays.
     ensures tells { (D.tells one.new ≡ D.tells one.old) × (D.tells two.new ≡ D.tells two.old) }
 {
     worlds_are_kept();

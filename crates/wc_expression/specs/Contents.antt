@@ -28,18 +28,22 @@ has_kind kind.Dict (Value-F.Dict ps) = true
 has_kind kind.Folder (Value-F.Folder fs) = true
 has_kind _ _ = false
 
+-- the truth value that a value is, or a wrong kind
 abbrev pub bool_of : Seen → Outcome Bool
 bool_of (Value-F.Bool b) = Gives b
 bool_of _ = Faults WrongKind
 
+-- the text that a value is, or a wrong kind
 abbrev pub text_of : Seen → Outcome (List ℕ)
 text_of (Value-F.Text t) = Gives t
 text_of _ = Faults WrongKind
 
+-- the two whole numbers that two values are, or a wrong kind
 abbrev pub ints_of : Seen → Seen → Outcome (ℤ × ℤ)
 ints_of (Value-F.Int a) (Value-F.Int b) = Gives (a, b)
 ints_of _ _ = Faults WrongKind
 
+-- the two truth values that two values are, or a wrong kind
 abbrev pub bools_of : Seen → Seen → Outcome (Bool × Bool)
 bools_of (Value-F.Bool a) (Value-F.Bool b) = Gives (a, b)
 bools_of _ _ = Faults WrongKind
@@ -49,6 +53,7 @@ abbrev pub item_at : {A : Type 0} → List A → ℤ → Outcome A
 item_at xs (pos n) = found MissingKey (slice_get xs n)
 item_at xs (negsuc n) = Faults MissingKey
 
+-- the item of a list at an index; a wrong kind where the index is no whole number
 abbrev pub item : {A : Type 0} → List A → Seen → Outcome A
 item xs (Value-F.Int n) = item_at xs n
 item xs _ = Faults WrongKind
@@ -76,6 +81,7 @@ size (Value-F.Dict ps) = Gives (pos (length ps))
 size (Value-F.Folder fs) = Gives (pos (length fs))
 size _ = Faults WrongKind
 
+-- the text that a value is, without blanks at its ends
 abbrev pub trimmed_text : Seen → Outcome (List ℕ)
 trimmed_text v = mapped trimmed (text_of v)
 
@@ -93,6 +99,7 @@ has_name (Value-F.Dict ps) (Value-F.Text name) = Gives (is_some (lookup name ps)
 has_name (Value-F.Folder fs) (Value-F.Text name) = Gives (is_some (lookup name fs))
 has_name _ _ = Faults WrongKind
 
+-- bytes as a text, where they are UTF-8
 abbrev pub as_text : List ℕ → Outcome (List ℕ)
 as_text bytes = if is_utf8 bytes then Gives bytes else Faults BadText
 
@@ -100,6 +107,7 @@ as_text bytes = if is_utf8 bytes then Gives bytes else Faults BadText
 abbrev pub content_of : List (List ℕ × List ℕ) → List ℕ → Outcome (List ℕ)
 content_of files name = found MissingKey (lookup name files) >>= as_text
 
+-- what `file` gives: the bytes of a folder's file with a name; of other kinds a wrong kind
 abbrev pub content : Seen → Seen → Outcome (List ℕ)
 content (Value-F.Folder fs) (Value-F.Text name) = content_of fs name
 content _ _ = Faults WrongKind
@@ -109,6 +117,7 @@ abbrev pub line : Seen → Seen → Outcome (List ℕ)
 line (Value-F.Text t) i = item (pieces t) i
 line _ _ = Faults WrongKind
 
+-- what `contains` gives: whether a text stands in another; of other kinds a wrong kind
 abbrev pub contains : Seen → Seen → Outcome Bool
 contains (Value-F.Text t) (Value-F.Text part) = Gives (stands_in part t)
 contains _ _ = Faults WrongKind

@@ -20,6 +20,7 @@ use Rattle.wc_expression.specs.Outcomes.{◌>>=◌, mapped, found}
 abbrev pub input : List ℕ → Env → Outcome Value
 input name env = mapped (λ i. i.value) (found MissingKey (lookup name env.inputs))
 
+-- whether there is an input at a port
 abbrev pub is_given : List ℕ → Env → Bool
 is_given name env = is_some (lookup name env.inputs)
 
@@ -27,14 +28,17 @@ is_given name env = is_some (lookup name env.inputs)
 abbrev pub held : List ℕ → Env → Outcome Item
 held key env = found MissingKey (lookup key env.ctx)
 
+-- the value that a key holds, where it holds no process
 abbrev pub plain_of : Item → Outcome Value
 plain_of (Plain v) = Gives v
 plain_of _ = Faults WrongKind
 
+-- the child that a key holds, where it holds one alone
 abbrev pub child_of : Item → Outcome Child
 child_of (One c) = Gives c
 child_of _ = Faults WrongKind
 
+-- the children that a key holds, where it holds a list of them
 abbrev pub children_of : Item → Outcome (List Child)
 children_of (Many cs) = Gives cs
 children_of _ = Faults WrongKind
@@ -43,9 +47,11 @@ children_of _ = Faults WrongKind
 abbrev pub plain : List ℕ → Env → Outcome Value
 plain key env = held key env >>= plain_of
 
+-- the child that a key holds, where it holds one alone
 abbrev pub child : List ℕ → Env → Outcome Child
 child key env = held key env >>= child_of
 
+-- the children that a key holds, where it holds a list of them
 abbrev pub children : List ℕ → Env → Outcome (List Child)
 children key env = held key env >>= children_of
 
@@ -56,6 +62,7 @@ count_of (Some (One c)) = Gives (pos 1)
 count_of (Some (Many cs)) = Gives (pos (length cs))
 count_of (Some (Plain v)) = Faults WrongKind
 
+-- what `count` gives: how many children a key holds
 abbrev pub count : List ℕ → Env → Outcome ℤ
 count key env = count_of (lookup key env.ctx)
 

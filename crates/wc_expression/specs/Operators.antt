@@ -47,6 +47,7 @@ order (Value-F.Int a) (Value-F.Int b) = Gives (int_cmp a b)
 order (Value-F.Text a) (Value-F.Text b) = Gives (slice_cmp nat_cmp a b)
 order _ _ = Faults WrongKind
 
+-- whether the order of two values is as asked
 abbrev pub compared : (Ordering → Bool) → Seen → Seen → Outcome Value
 compared holds v w = mapped (λ o. value.Bool (holds o)) (order v w)
 
@@ -54,6 +55,7 @@ compared holds v w = mapped (λ o. value.Bool (holds o)) (order v w)
 abbrev pub equality : Value → Value → Outcome Bool
 equality a b = if has_kind (kind_of a) (out-Value b) then Gives (equal a b) else Faults WrongKind
 
+-- The value of an operator with two operands, at their values
 abbrev pub operated : BinaryOp → Value → Value → Outcome Value
 operated binary.Or a b = decided (λ x y. x || y) (out-Value a) (out-Value b)
 operated binary.And a b = decided (λ x y. x && y) (out-Value a) (out-Value b)
@@ -75,17 +77,20 @@ settles binary.And (Value-F.Bool b) = not b
 settles binary.Or (Value-F.Bool b) = b
 settles _ _ = false
 
+-- the value of an operator with one operand, at its value: `-` of a whole number, `not` of a truth value
 abbrev pub prefixed : UnaryOp → Seen → Outcome Value
 prefixed unary.Negate (Value-F.Int n) = mapped value.Int (opposite n)
 prefixed unary.Not (Value-F.Bool b) = Gives (value.Bool (not b))
 prefixed _ _ = Faults WrongKind
 
+-- the value of a word with one operand, at its value: `text`, `int`, `trim`, `len`
 abbrev pub of_one : OneOf → Seen → Outcome Value
 of_one one.Text v = mapped value.Text (printed v)
 of_one one.Int v = mapped value.Int (whole v)
 of_one one.Trim v = mapped value.Text (trimmed_text v)
 of_one one.Len v = mapped value.Int (size v)
 
+-- the value of a word with two operands, at their values: `get`, `has`, `file`, `line`, `contains`, `min`, `max`
 abbrev pub of_two : TwoOf → Seen → Seen → Outcome Value
 of_two two.Get v w = got v w
 of_two two.Has v w = mapped value.Bool (has_name v w)

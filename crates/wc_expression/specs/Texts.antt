@@ -21,6 +21,7 @@ abbrev pub without_end : List ℕ → List ℕ
 without_end [] = []
 without_end (b ∷ bs) = ending b (without_end bs)
 
+-- A text without the white space at its ends
 abbrev pub trimmed : List ℕ → List ℕ
 trimmed text = without_end (without_start text)
 

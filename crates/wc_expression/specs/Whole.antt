@@ -17,15 +17,19 @@ is_i64 (negsuc n) = nat_lt n (2 ^ 63)
 abbrev pub within : ℤ → Outcome ℤ
 within z = if is_i64 z then Gives z else Faults Overflow
 
+-- the sum of two whole numbers, or `overflow` beyond 64 bits
 abbrev pub sum : ℤ → ℤ → Outcome ℤ
 sum a b = within (a +ℤ b)
 
+-- the difference of two whole numbers, or `overflow` beyond 64 bits
 abbrev pub difference : ℤ → ℤ → Outcome ℤ
 difference a b = within (a -ℤ b)
 
+-- the product of two whole numbers, or `overflow` beyond 64 bits
 abbrev pub product : ℤ → ℤ → Outcome ℤ
 product a b = within (a *ℤ b)
 
+-- a whole number with the other sign, or `overflow` beyond 64 bits
 abbrev pub opposite : ℤ → Outcome ℤ
 opposite a = within (neg_ℤ a)
 

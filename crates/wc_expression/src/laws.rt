@@ -22,9 +22,13 @@ ghost use Rattle.wc_expression.specs.Val.{val};
 /// A quotient and what it leaves make the dividend again. What is left is nearer to 0 than the divisor, and is 0 or has
 /// the sign of the dividend.
 pub fn one_division()
+    // Quotient and remainder make the dividend again.
     ensures whole { (a b q r : ℤ) → quotient a b ≡ Gives q → remainder a b ≡ Gives r → a ≡ (b *ℤ q) +ℤ r }
+    // The remainder is nearer to 0 than the divisor.
     ensures below { (a b r : ℤ) → remainder a b ≡ Gives r → unsigned_abs r < unsigned_abs b }
+    // Of a dividend that isn't below 0 it isn't either.
     ensures above { (a b r : ℤ) → remainder a b ≡ Gives r → pos 0 ≤ℤ a → pos 0 ≤ℤ r }
+    // Of a dividend that isn't above 0 it isn't either.
     ensures under { (a b r : ℤ) → remainder a b ≡ Gives r → a ≤ℤ pos 0 → r ≤ℤ pos 0 }
 {}
 
@@ -35,7 +39,9 @@ pub fn one_numeral()
 
 /// The pieces of a text, joined by line feeds, are the text, and none of them holds a line feed.
 pub fn one_cut()
+    // The lines of a text, joined, are the text.
     ensures joined { (text : List ℕ) → join_with_byte 10 (pieces text) ≡ text }
+    // No line has a line feed.
     ensures apart { (text : List ℕ) → All (λ piece. All (λ b. b ≢ 10) piece) (pieces text) }
 {}
 
@@ -68,6 +74,8 @@ pub fn no_offsets()
 
 /// The value of every expression has at most 4,194,304 canonical bytes and 32 levels.
 pub fn within_limits()
+    // A value that an expression has is at most 4 MiB long.
     ensures bytes { (e : Expr) (env : Env) (v : Value) → val e env ≡ Gives v → length (spelling v) ≤ 4194304 }
+    // It is at most 32 deep.
     ensures levels { (e : Expr) (env : Env) (v : Value) → val e env ≡ Gives v → depth v ≤ 32 }
 {}

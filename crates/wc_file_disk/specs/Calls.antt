@@ -39,6 +39,7 @@ kind_of kind place bytes =
     else if kind == 12 then failed_to_cut place
     else synced
 
+-- the call of the system that an event keeps
 abbrev pub call_of : Event → FileCall
 call_of (numbers, name, bytes) = kind_of (slice_index numbers 0) (slice_index numbers 1) bytes
 
@@ -56,11 +57,13 @@ is_open (opened ∷ earlier) = true
 is_open (created ∷ earlier) = true
 is_open (_ ∷ earlier) = false
 
+-- the last call got a descriptor apart from the standard streams
 abbrev pub is_apart : List FileCall → Bool
 is_apart [] = false
 is_apart (apart ∷ earlier) = true
 is_apart (_ ∷ earlier) = false
 
+-- the last call brought the file's name to the disk
 abbrev pub is_named : List FileCall → Bool
 is_named [] = false
 is_named (named ∷ earlier) = true

@@ -105,8 +105,11 @@ impl<R: Files<File = File> + Drop> Disk for FileDisk<R> {
     }
 
     fn read(&mut self, at: u64, into: &mut [u8]) -> Result<(), Failed>
+        // The bytes are those of what the file held before, in each history that agrees with all answers.
         ensures told { OnOk result (Between (calls self.old) (calls self.new) (λ before after. into.new ≡ take (length into.old) (drop at before))) }
+        // What the file held stays, in each such history.
         ensures kept { Keeps (calls self.old) (calls self.new) }
+        // The path stays.
         ensures path { path_of self.new ≡ path_of self.old }
         ensures cause { CountsFault result self.old.faults self.new.faults (IsTrue self.new.failed) }
     {
@@ -114,7 +117,9 @@ impl<R: Files<File = File> + Drop> Disk for FileDisk<R> {
     }
 
     fn write_at(&mut self, at: u64, bytes: &[u8]) -> Result<(), Failed>
+        // The file holds what it held, with these bytes written over it, in each history that agrees with all answers.
         ensures told { OnOk result (Between (calls self.old) (calls self.new) (λ before after. after ≡ overwritten at bytes.now before)) }
+        // The path stays.
         ensures path { path_of self.new ≡ path_of self.old }
         ensures cause { CountsFault result self.old.faults self.new.faults (IsTrue self.new.failed) }
     {
@@ -126,7 +131,9 @@ impl<R: Files<File = File> + Drop> Disk for FileDisk<R> {
     }
 
     fn cut(&mut self, len: u64) -> Result<(), Failed>
+        // The file holds what it held, cut to this length, in each history that agrees with all answers.
         ensures told { OnOk result (Between (calls self.old) (calls self.new) (λ before after. after ≡ take len before)) }
+        // The path stays.
         ensures path { path_of self.new ≡ path_of self.old }
         ensures cause { CountsFault result self.old.faults self.new.faults (IsTrue self.new.failed) }
     {

@@ -173,6 +173,7 @@ fn write_all<R: Files<File = File> + Drop>(
 impl<R: Files<File = File> + Drop> HeldFile<R> {
     /// A file that no call was made of.
     pub fn new(file: SystemFile<R>) -> HeldFile<R>
+        // No call of the file was made.
         requires { calls_of file.log.events ≡ [] }
         ensures { result.file ≡ file }
     {
@@ -212,10 +213,15 @@ impl<R: Files<File = File> + Drop> HeldFile<R> {
 
     /// The number of bytes.
     pub fn len(&mut self) -> io::Result<u64>
+        // The path stays.
         ensures path { self.new.file.path ≡ self.old.file.path }
+        // The length is that of what the file held before, in each history that agrees with all answers.
         ensures len { IfOk result (λ n. Between (calls_of self.old.file.log.events) (calls_of self.new.file.log.events) (λ before after. n ≡ length before)) }
+        // A file that isn't there has the length 0.
         ensures missing { IfOk result (λ n. self.new.is_held ≡ false → n ≡ 0) }
+        // The length of a locked file is known from then on.
         ensures known { IfOk result (λ n. self.new.is_held ≡ true → self.new.known ≡ n) }
+        // What the file held stays, in each history that agrees with all answers.
         ensures kept { Keeps (calls_of self.old.file.log.events) (calls_of self.new.file.log.events) }
     {
         if !self.open_once()? {
@@ -229,8 +235,11 @@ impl<R: Files<File = File> + Drop> HeldFile<R> {
 
     /// Fills `into` with the bytes from this offset on.
     pub fn read(&mut self, at: u64, into: &mut [u8]) -> io::Result<()>
+        // The path stays.
         ensures path { self.new.file.path ≡ self.old.file.path }
+        // The bytes are those of what the file held before, in each history that agrees with all answers.
         ensures bytes { OnOk result (Between (calls_of self.old.file.log.events) (calls_of self.new.file.log.events) (λ before after. into.new ≡ take (length into.old) (drop at before))) }
+        // What the file held stays, in each history that agrees with all answers.
         ensures kept { Keeps (calls_of self.old.file.log.events) (calls_of self.new.file.log.events) }
     {
         if self.open_once()? {
@@ -279,7 +288,9 @@ impl<R: Files<File = File> + Drop> HeldFile<R> {
 
     /// Writes over what is there, and past the end, where the file reaches so far.
     pub fn write_at(&mut self, at: u64, bytes: &[u8]) -> io::Result<()>
+        // The path stays.
         ensures path { self.new.file.path ≡ self.old.file.path }
+        // The file holds what it held, with these bytes written over it, in each such history.
         ensures written { OnOk result (Between (calls_of self.old.file.log.events) (calls_of self.new.file.log.events) (λ before after. after ≡ overwritten at bytes.now before)) }
     {
         self.open_for(at)?;
@@ -291,7 +302,9 @@ impl<R: Files<File = File> + Drop> HeldFile<R> {
 
     /// Cuts the file to a length that it has.
     pub fn cut(&mut self, len: u64) -> io::Result<()>
+        // The path stays.
         ensures path { self.new.file.path ≡ self.old.file.path }
+        // The file holds what it held, cut to this length, in each such history.
         ensures shorter { OnOk result (Between (calls_of self.old.file.log.events) (calls_of self.new.file.log.events) (λ before after. after ≡ take len before)) }
     {
         let there = self.len()?;
@@ -307,8 +320,11 @@ impl<R: Files<File = File> + Drop> HeldFile<R> {
 
     /// Brings the bytes to the disk.
     pub fn sync(&mut self) -> io::Result<()>
+        // The path stays.
         ensures path { self.new.file.path ≡ self.old.file.path }
+        // The last call brought all to the disk, or found no file.
         ensures flushed { OnOk result (is_flushed (calls_of self.new.file.log.events) ≡ true) }
+        // What the file held stays, in each history that agrees with all answers.
         ensures kept { Keeps (calls_of self.old.file.log.events) (calls_of self.new.file.log.events) }
     {
         if !self.open_once()? {

@@ -134,7 +134,9 @@ fn unless_interrupted<T: Drop>(outcome: io::Result<T>) -> io::Result<Option<T>>
 impl<R: Files<File = File> + Drop> SystemFile<R> {
     /// The file at this path. No call of the system is made yet.
     pub fn new(rt: R, path: Text) -> SystemFile<R>
+        // It is the file at this path.
         ensures path { result.path ≡ path }
+        // No call was made.
         ensures uncalled { calls_of result.log.events ≡ [] }
     {
         SystemFile {
@@ -148,9 +150,13 @@ impl<R: Files<File = File> + Drop> SystemFile<R> {
 
     /// Opens the file, and answers whether it is there.
     pub fn open(&mut self) -> io::Result<bool>
+        // The file isn't open and locked.
         requires shut { is_held (calls_of self.old.log.events) ≡ false }
+        // The path stays.
         ensures path { self.new.path ≡ self.old.path }
+        // The call and its answer are noted, and no other.
         ensures noted { IfOk result (λ there. calls_of self.new.log.events ≡ (if there then opened else missing) ∷ calls_of self.old.log.events) }
+        // Where the system refused, nothing is noted.
         ensures refused { OnErr result (calls_of self.new.log.events ≡ calls_of self.old.log.events) }
     {
         match open_any(&self.rt, self.path.as_str()) {
@@ -169,10 +175,15 @@ impl<R: Files<File = File> + Drop> SystemFile<R> {
 
     /// Asks whether a file that was missing still is.
     pub fn is_missing(&mut self) -> io::Result<bool>
+        // The file isn't open and locked.
         requires shut { is_held (calls_of self.old.log.events) ≡ false }
+        // The path stays.
         ensures path { self.new.path ≡ self.old.path }
+        // That the file is missing is noted.
         ensures missing { IfOk result (λ gone. IsTrue gone → calls_of self.new.log.events ≡ missing ∷ calls_of self.old.log.events) }
+        // Where it is there, nothing is noted.
         ensures there { IfOk result (λ gone. gone ≡ false → calls_of self.new.log.events ≡ calls_of self.old.log.events) }
+        // Where the system refused, nothing is noted.
         ensures refused { OnErr result (calls_of self.new.log.events ≡ calls_of self.old.log.events) }
     {
         if fs::exists(&self.rt, self.path.as_str())? {
@@ -184,9 +195,13 @@ impl<R: Files<File = File> + Drop> SystemFile<R> {
 
     /// Makes the file with its folder, and opens it.
     pub fn create(&mut self) -> io::Result<()>
+        // The file isn't open and locked.
         requires shut { is_held (calls_of self.old.log.events) ≡ false }
+        // The path stays.
         ensures path { self.new.path ≡ self.old.path }
+        // The call and its answer are noted, and no other.
         ensures noted { OnOk result (calls_of self.new.log.events ≡ created ∷ calls_of self.old.log.events) }
+        // Where the system refused, nothing is noted.
         ensures refused { OnErr result (calls_of self.new.log.events ≡ calls_of self.old.log.events) }
     {
         self.file = Some(create_any(&self.rt, self.path.as_str())?);
@@ -197,9 +212,13 @@ impl<R: Files<File = File> + Drop> SystemFile<R> {
     /// Gives the file a descriptor that is none of the standard streams': where one of those is closed, the system gives its
     /// number to the next file that is opened, and what is printed would be written there.
     pub fn set_apart(&mut self) -> io::Result<()>
+        // The file is open.
         requires open { is_open (calls_of self.old.log.events) ≡ true }
+        // The path stays.
         ensures path { self.new.path ≡ self.old.path }
+        // The call and its answer are noted, and no other.
         ensures noted { OnOk result (calls_of self.new.log.events ≡ apart ∷ calls_of self.old.log.events) }
+        // Where the system refused, nothing is noted.
         ensures refused { OnErr result (calls_of self.new.log.events ≡ calls_of self.old.log.events) }
     {
         self.file = Some(opened_file(&self.file)?.try_clone()?);
@@ -209,9 +228,13 @@ impl<R: Files<File = File> + Drop> SystemFile<R> {
 
     /// Brings the file's name to the disk, and that of its folder.
     pub fn sync_name(&mut self) -> io::Result<()>
+        // Its descriptor is apart from the standard streams.
         requires apart { is_apart (calls_of self.old.log.events) ≡ true }
+        // The path stays.
         ensures path { self.new.path ≡ self.old.path }
+        // The call and its answer are noted, and no other.
         ensures noted { OnOk result (calls_of self.new.log.events ≡ named ∷ calls_of self.old.log.events) }
+        // Where the system refused, nothing is noted.
         ensures refused { OnErr result (calls_of self.new.log.events ≡ calls_of self.old.log.events) }
     {
         sync_name_of(&self.rt, self.path.as_str())?;
@@ -221,9 +244,13 @@ impl<R: Files<File = File> + Drop> SystemFile<R> {
 
     /// Locks the file, without waiting for a lock that another program holds.
     pub fn lock(&mut self) -> io::Result<()>
+        // Its name is on the disk.
         requires named { is_named (calls_of self.old.log.events) ≡ true }
+        // The path stays.
         ensures path { self.new.path ≡ self.old.path }
+        // The call and its answer are noted, and no other.
         ensures noted { OnOk result (calls_of self.new.log.events ≡ locked ∷ calls_of self.old.log.events) }
+        // Where the system refused, nothing is noted.
         ensures refused { OnErr result (calls_of self.new.log.events ≡ calls_of self.old.log.events) }
     {
         opened_file(&self.file)?.try_lock()?;
@@ -233,7 +260,9 @@ impl<R: Files<File = File> + Drop> SystemFile<R> {
 
     /// Closes the file, and gives its lock back.
     pub fn close(&mut self)
+        // The path stays.
         ensures path { self.new.path ≡ self.old.path }
+        // The call and its answer are noted, and no other.
         ensures noted { calls_of self.new.log.events ≡ closed ∷ calls_of self.old.log.events }
     {
         self.file = None;
@@ -242,9 +271,13 @@ impl<R: Files<File = File> + Drop> SystemFile<R> {
 
     /// The number of bytes.
     pub fn len(&mut self) -> io::Result<u64>
+        // The file is open and locked.
         requires held { is_held (calls_of self.old.log.events) ≡ true }
+        // The path stays.
         ensures path { self.new.path ≡ self.old.path }
+        // The call and its answer are noted, and no other.
         ensures noted { IfOk result (λ n. calls_of self.new.log.events ≡ measured n ∷ calls_of self.old.log.events) }
+        // Where the system refused, nothing is noted.
         ensures refused { OnErr result (calls_of self.new.log.events ≡ calls_of self.old.log.events) }
     {
         let len = opened_file(&self.file)?.metadata()?.len();
@@ -254,12 +287,19 @@ impl<R: Files<File = File> + Drop> SystemFile<R> {
 
     /// Reads some bytes from an offset on, and answers how many, or none where a signal came first.
     pub fn read_some(&mut self, at: u64, into: &mut [u8]) -> io::Result<Option<usize>>
+        // The file is open and locked.
         requires held { is_held (calls_of self.old.log.events) ≡ true }
+        // The path stays.
         ensures path { self.new.path ≡ self.old.path }
+        // What is read into keeps its length.
         ensures length { length into.new ≡ length into.old }
+        // No more bytes than were asked for.
         ensures within { IfOk result (λ count. IfSome count (λ n. n ≤ length into.new)) }
+        // The call and its answer are noted, and no other.
         ensures noted { IfOk result (λ count. IfSome count (λ n. calls_of self.new.log.events ≡ read_piece at (take n into.new) ∷ calls_of self.old.log.events)) }
+        // A call that a signal cut short is not noted.
         ensures interrupted { IfOk result (λ count. IsTrue (is_none count) → calls_of self.new.log.events ≡ calls_of self.old.log.events) }
+        // Where the system refused, nothing is noted.
         ensures refused { OnErr result (calls_of self.new.log.events ≡ calls_of self.old.log.events) }
     {
         let answer = unless_interrupted(opened_file(&self.file)?.read_at(into, at))?;
@@ -271,11 +311,17 @@ impl<R: Files<File = File> + Drop> SystemFile<R> {
 
     /// Writes some of the bytes at an offset, and answers how many, or none where a signal came first.
     pub fn write_some(&mut self, at: u64, bytes: &[u8]) -> io::Result<Option<usize>>
+        // The file is open and locked.
         requires held { is_held (calls_of self.old.log.events) ≡ true }
+        // The path stays.
         ensures path { self.new.path ≡ self.old.path }
+        // No more bytes than were asked for.
         ensures within { IfOk result (λ count. IfSome count (λ n. n ≤ length bytes.now)) }
+        // The call and its answer are noted, and no other.
         ensures noted { IfOk result (λ count. IfSome count (λ n. calls_of self.new.log.events ≡ wrote at (take n bytes.now) ∷ calls_of self.old.log.events)) }
+        // A call that a signal cut short is not noted.
         ensures interrupted { IfOk result (λ count. IsTrue (is_none count) → calls_of self.new.log.events ≡ calls_of self.old.log.events) }
+        // A failed call is noted as one, since part of it may have been done.
         ensures failed { OnErr result (calls_of self.new.log.events ≡ failed_to_write at bytes.now ∷ calls_of self.old.log.events) }
     {
         let written = match &self.file {
@@ -292,11 +338,17 @@ impl<R: Files<File = File> + Drop> SystemFile<R> {
 
     /// Cuts the file to a length.
     pub fn set_len(&mut self, len: u64) -> io::Result<()>
+        // The file is open and locked.
         requires held { is_held (calls_of self.old.log.events) ≡ true }
+        // The path stays.
         ensures path { self.new.path ≡ self.old.path }
+        // The file stays open and locked.
         ensures stays { is_held (calls_of self.new.log.events) ≡ true }
+        // The length that the file is known to have at least is cut to this one.
         ensures floor { floor (calls_of self.new.log.events) ≡ min (floor (calls_of self.old.log.events)) len }
+        // The call and its answer are noted, and no other.
         ensures noted { OnOk result (calls_of self.new.log.events ≡ cut len ∷ calls_of self.old.log.events) }
+        // A failed call is noted as one, since part of it may have been done.
         ensures failed { OnErr result (calls_of self.new.log.events ≡ failed_to_cut len ∷ calls_of self.old.log.events) }
     {
         let outcome = match &self.file {
@@ -312,9 +364,13 @@ impl<R: Files<File = File> + Drop> SystemFile<R> {
 
     /// Brings the bytes to the disk. Behind the first time the system's copies of them are dropped.
     pub fn sync(&mut self) -> io::Result<()>
+        // The file is open and locked.
         requires held { is_held (calls_of self.old.log.events) ≡ true }
+        // The path stays.
         ensures path { self.new.path ≡ self.old.path }
+        // The call and its answer are noted, and no other.
         ensures noted { OnOk result (calls_of self.new.log.events ≡ synced ∷ calls_of self.old.log.events) }
+        // Where the system refused, nothing is noted.
         ensures refused { OnErr result (calls_of self.new.log.events ≡ calls_of self.old.log.events) }
     {
         let file = opened_file(&self.file)?;

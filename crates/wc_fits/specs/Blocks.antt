@@ -7,19 +7,23 @@ use Rattle.wc_syntax.specs.declared.outline.Instr.TheOpen.{Instr-F}
 use Rattle.wc_syntax.specs.declared.definition.Definition.{Definition}
 use Rattle.wc_syntax.specs.declared.definition.Definition.TheVariants as definition
 
+-- the lengths of the blocks of an `else`, where there is one
 abbrev pub other_lengths : Option (List ℕ) → List ℕ
 other_lengths None = []
 other_lengths (Some b) = b
 
+-- the lengths of the blocks in an instruction
 abbrev pub instr_lengths : Instr-F (List ℕ) (List ℕ) (List ℕ) → List ℕ
 instr_lengths (Instr-F.Step s) = []
 instr_lengths (Instr-F.If at arms other) = flat_map (λ a. a) arms ++ other_lengths other
 instr_lengths (Instr-F.While at e b) = b
 instr_lengths (Instr-F.Return at n) = []
 
+-- the lengths of the blocks in an arm
 abbrev pub arm_lengths : Arm-F (List ℕ) (List ℕ) (List ℕ) → List ℕ
 arm_lengths a = a.block
 
+-- the length of a block, and those of the blocks in it
 abbrev pub level_lengths : Block-F (List ℕ) (List ℕ) (List ℕ) → List ℕ
 level_lengths b = length b.instrs ∷ flat_map (λ i. i) b.instrs
 

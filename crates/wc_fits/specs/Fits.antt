@@ -33,6 +33,7 @@ abbrev pub comes_after : Option (List ℕ) → List ℕ → Bool
 comes_after None name = true
 comes_after (Some last) name = before last name
 
+-- whether names ascend behind the last one
 abbrev pub ascend_after : Option (List ℕ) → List (List ℕ) → Bool
 ascend_after last [] = true
 ascend_after last (n ∷ ns) = comes_after last n && ascend_after (Some n) ns
@@ -43,6 +44,7 @@ names_ascend = ascend_after None
 
 -- ---- new processes
 
+-- whether a definition is there, of the kind of a process
 abbrev pub is_of_kind : ProcessKind → Option Definition → Bool
 is_of_kind k None = false
 is_of_kind k (Some d) = same_kind (kind_of_definition d) k
@@ -53,10 +55,12 @@ new_fits libraries n = nat_le 1 n.depth && (nat_le n.depth 16 && is_of_kind n.ki
 
 -- ---- call links
 
+-- whether a process is one deeper than its caller and has the label of the call
 abbrev pub is_called_by : List ℕ → ProcessRecord → Option ProcessRecord → Bool
 is_called_by label caller None = false
 is_called_by label caller (Some r) = (r.depth == suc caller.depth) && bytes_eq r.label label
 
+-- whether a call of this label may lead from one process to the other
 abbrev pub is_call_between : List ℕ → Option ProcessRecord → Option ProcessRecord → Bool
 is_call_between label None target = false
 is_call_between label (Some caller) target = is_called_by label caller target
@@ -74,6 +78,7 @@ on_place test (Some x) = test x
 
 -- ---- records
 
+-- whether a list is empty
 abbrev pub is_nil : {T : Type 0} → List T → Bool
 is_nil [] = true
 is_nil (x ∷ xs) = false
@@ -89,10 +94,12 @@ waits kind.Chain (part.Chain c) = not (is_nil c.awaiting)
 waits kind.Job (part.Job j) = true
 waits _ _ = false
 
+-- whether a part is that of a process that wasn't begun
 abbrev pub is_fresh : Part → Bool
 is_fresh part.Fresh = true
 is_fresh _ = false
 
+-- whether a part is that of a process that has ended
 abbrev pub is_over : Part → Bool
 is_over part.Over = true
 is_over _ = false
@@ -113,6 +120,7 @@ fails_fit _ paused = true
 
 -- ---- checkpoints
 
+-- whether a frame's next instruction is within its block, or at its end
 abbrev pub is_within : ℕ → Option ℕ → Bool
 is_within next None = false
 is_within next (Some length) = nat_le next length
@@ -121,10 +129,12 @@ is_within next (Some length) = nat_le next length
 abbrev pub frame_fits : List ℕ → Frame → Bool
 frame_fits lengths f = is_within f.next (slice_get lengths f.block)
 
+-- the lengths of a definition's blocks
 abbrev pub outline_lengths : Option Definition → List ℕ
 outline_lengths None = []
 outline_lengths (Some d) = lengths_of d
 
+-- whether there is a process with this number
 abbrev pub is_process : List ProcessRecord → ℕ → Bool
 is_process records pid = is_some (find_record pid records)
 
@@ -134,6 +144,7 @@ held_fits records (held.Plain v) = nat_le (depth v) 32
 held_fits records (held.One pid) = is_process records pid
 held_fits records (held.Many pids) = list_all (is_process records) pids
 
+-- whether a node is there and is data
 abbrev pub is_data_node : Option NodeKind → Bool
 is_data_node None = false
 is_data_node (Some (node.Data v)) = true
@@ -150,6 +161,7 @@ checkpoint_fits w r c =
     && (list_all (λ e. held_fits w.records e.1) c.ctx
     && list_all (λ o. is_data_node (node_of w.nodes o.1)) c.outputs)))
 
+-- whether a part fits its process: a checkpoint its outline, its calls and its nodes
 abbrev pub standing_fits : World → ProcessRecord → Part → Bool
 standing_fits w r part.Fresh = true
 standing_fits w r (part.Chain c) = checkpoint_fits w r c
@@ -164,10 +176,12 @@ set_fits w s r =
 
 -- ---- after the last change
 
+-- how many calls lead from a process
 abbrev pub calls_from : ℕ → List Link → ℕ
 calls_from pid [] = 0
 calls_from pid (l ∷ ls) = if is_call_from pid l then suc (calls_from pid ls) else calls_from pid ls
 
+-- whether a process has an output
 abbrev pub has_output : ℕ → List Link → Bool
 has_output pid [] = false
 has_output pid (l ∷ ls) = is_output_of pid l || has_output pid ls

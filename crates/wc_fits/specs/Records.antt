@@ -17,11 +17,13 @@ pub use Rattle.wc_records.specs.Records.{find_record, at_process, has_ended}
 
 -- ---- processes
 
+-- the node of a kind of process
 abbrev pub process_node : ProcessKind → NodeKind
 process_node kind.Function = node.Calculation
 process_node kind.Job = node.Calculation
 process_node kind.Chain = node.Workflow
 
+-- whether a kind is that of a calculation
 abbrev pub is_calculation : ProcessKind → Bool
 is_calculation kind.Function = true
 is_calculation kind.Job = true
@@ -61,12 +63,15 @@ takes_input link.Return = false
 takes_input link.CallCalc = false
 takes_input link.CallWork = false
 
+-- a link is a call from this process
 abbrev pub is_call_from : ℕ → Link → Bool
 is_call_from pid l = calls l.link && (l.source == pid)
 
+-- a link gives an output of this process
 abbrev pub is_output_of : ℕ → Link → Bool
 is_output_of pid l = gives_output l.link && (l.source == pid)
 
+-- a link is an input of this process
 abbrev pub is_input_of : ℕ → Link → Bool
 is_input_of pid l = takes_input l.link && (l.target == pid)
 
@@ -76,11 +81,13 @@ has_called links caller pid = list_any (λ l. is_call_from caller l && (l.target
 
 -- ---- definitions
 
+-- the kind of process that a definition makes
 abbrev pub kind_of_definition : Definition → ProcessKind
 kind_of_definition (definition.Function f) = kind.Function
 kind_of_definition (definition.Job j) = kind.Job
 kind_of_definition (definition.Chain c) = kind.Chain
 
+-- whether two kinds are the same
 abbrev pub same_kind : ProcessKind → ProcessKind → Bool
 same_kind kind.Function kind.Function = true
 same_kind kind.Function kind.Job = false

@@ -10,6 +10,8 @@ use Rattle.wc_state.specs.declared.record.ProcessRecord.{ProcessRecord}
 abbrev pub Known : Type 0
 Known = List Definition × List (List ℕ)
 
+-- What a store holds, as lists alone: nodes (numbered from 1), links, a record for each process, libraries (numbered from 1) with the names that have
+-- caching on, and the number of batches
 pub record World : Type 0 where
   -- numbered from 1
   pub nodes : List NodeKind
@@ -20,6 +22,7 @@ pub record World : Type 0 where
   pub libraries : List Known
   pub batches : ℕ
 
+-- the world that has nothing, and no batch
 abbrev pub empty : World
 empty = record { nodes = []; links = []; records = []; libraries = []; batches = 0 }
 

@@ -22,65 +22,84 @@ use Rattle.wc_grammar.specs.Kinds.{W_TRUE, W_FALSE, W_INPUTS, W_CTX, W_OUTPUTS, 
 use Rattle.wc_grammar.specs.Rules.{Tok, Rule, Done, Never, One, Seq, Either, As, Sign, Between, Pick, Chain}
 
 -- ---- tokens
+-- the name that a token is, with its place
 abbrev pub name_in : Token → ℕ → Option Name
 name_in (token.Name text) at = Some (record { text = text; at = at })
 name_in _ at = None
 
+-- the same of a token with its place
 abbrev pub named : Tok → Option Name
 named t = name_in t.0 t.1
 
+-- the number that a token is, with its place
 abbrev pub number_in : Token → ℕ → Option Number
 number_in (token.Number value) at = Some (record { value = value; at = at })
 number_in _ at = None
 
+-- the same of a token with its place
 abbrev pub numbered : Tok → Option Number
 numbered t = number_in t.0 t.1
 
+-- the text in quotes that a token is, with its place
 abbrev pub quoted_in : Token → ℕ → Option Quoted
 quoted_in (token.Quoted text) at = Some (record { text = text; at = at })
 quoted_in _ at = None
 
+-- the same of a token with its place
 abbrev pub quoted : Tok → Option Quoted
 quoted t = quoted_in t.0 t.1
 
+-- the rule of a name: one such token
 abbrev pub NAME : Rule Name
 NAME = One named
 
+-- the rule of a number: one such token
 abbrev pub NUMBER : Rule Number
 NUMBER = One numbered
 
+-- the rule of a text in quotes: one such token
 abbrev pub TEXT : Rule Quoted
 TEXT = One quoted
 
 -- ---- words that stand for values
+-- the words for truth values
 abbrev pub truths : List (ℕ × Bool)
 truths = (W_TRUE, true) ∷ (W_FALSE, false) ∷ []
 
+-- the words of one operand
 abbrev pub ones : List (ℕ × OneOf)
 ones = (W_TEXT, oneof.Text) ∷ (W_INT, oneof.Int) ∷ (W_TRIM, oneof.Trim) ∷ (W_LEN, oneof.Len) ∷ []
 
+-- the words of two operands
 abbrev pub twos : List (ℕ × TwoOf)
 twos = (W_GET, twoof.Get) ∷ (W_HAS, twoof.Has) ∷ (W_FILE, twoof.File) ∷ (W_LINE, twoof.Line) ∷ (W_CONTAINS, twoof.Contains) ∷ (W_MIN, twoof.Min) ∷ (W_MAX, twoof.Max) ∷ []
 
+-- the operators of one operand
 abbrev pub unaries : List (ℕ × UnaryOp)
 unaries = (S_MINUS, unary.Negate) ∷ (W_NOT, unary.Not) ∷ []
 
+-- the operator `or`
 abbrev pub ors : List (ℕ × BinaryOp)
 ors = (W_OR, op.Or) ∷ []
 
+-- the operator `and`
 abbrev pub ands : List (ℕ × BinaryOp)
 ands = (W_AND, op.And) ∷ []
 
+-- the operators that compare
 abbrev pub compares : List (ℕ × BinaryOp)
 compares = (S_EQUAL, op.Equal) ∷ (S_DIFFERS, op.Differs) ∷ (S_LESS, op.Less) ∷ (S_AT_MOST, op.AtMost) ∷ (S_GREATER, op.Greater) ∷ (S_AT_LEAST, op.AtLeast) ∷ []
 
+-- the operators `+` and `-`
 abbrev pub sums : List (ℕ × BinaryOp)
 sums = (S_PLUS, op.Add) ∷ (S_MINUS, op.Subtract) ∷ []
 
+-- the operators `*`, `/` and `%`
 abbrev pub products : List (ℕ × BinaryOp)
 products = (S_STAR, op.Multiply) ∷ (S_SLASH, op.Divide) ∷ (S_PERCENT, op.Remainder) ∷ []
 
 -- ---- expressions
+-- an expression at a place, of a form
 abbrev pub expr : ℕ → Form → Expr
 expr at f = roll-Expr (record { at = at; form = f })
 

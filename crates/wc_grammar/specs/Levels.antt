@@ -8,6 +8,7 @@ use Rattle.wc_grammar.specs.Rules.{Reader, chain_at}
 use Rattle.wc_grammar.specs.Grammar.{ors, ands, compares, sums, products, binary}
 use Rattle.wc_grammar.specs.Reading.{unaries_at, products_at, sums_at, compares_at, ands_at}
 
+-- the operators of a level
 abbrev pub operators : Level → List (ℕ × BinaryOp)
 operators level.Products = products
 operators level.Sums = sums

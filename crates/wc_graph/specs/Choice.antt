@@ -4,6 +4,7 @@ use Rattle.wc_graph.specs.declared.link.LinkType.{LinkType}
 use Rattle.wc_graph.specs.declared.link.LinkType.TheVariants.{InputCalc, InputWork, Create, Return, CallCalc, CallWork}
 use Rattle.wc_graph.specs.declared.choice.Choice.{Choice}
 
+-- whether a type of link is among those chosen
 abbrev pub chosen : Choice → LinkType → Bool
 chosen c InputCalc = c.input_calc
 chosen c InputWork = c.input_work

@@ -7,6 +7,7 @@ use Rattle.wc_graph.specs.Near.{Near}
 abbrev pub node_at : List Found → ℕ → ℕ
 node_at trail place = (slice_index_or trail place (record { node = 0; by = 0 })).node
 
+-- the place from which a node at a place of the trail was found
 abbrev pub by_at : List Found → ℕ → ℕ
 by_at trail place = (slice_index_or trail place (record { node = 0; by = 0 })).by
 

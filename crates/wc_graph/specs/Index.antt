@@ -7,6 +7,7 @@ use Rattle.wc_graph.specs.declared.index.Index.{Index}
 abbrev pub source_of : Link → ℕ
 source_of l = l.source
 
+-- the node to which a link leads
 abbrev pub target_of : Link → ℕ
 target_of l = l.target
 

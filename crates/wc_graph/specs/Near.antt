@@ -6,10 +6,12 @@ use Rattle.wc_graph.specs.declared.near.Way.{Way}
 use Rattle.wc_graph.specs.declared.near.Way.TheVariants.{Forward, Backward}
 use Rattle.wc_graph.specs.Choice.{chosen}
 
+-- the node from which a link is followed, forward or backward
 abbrev pub tail : Way → Link → ℕ
 tail Forward l = l.source
 tail Backward l = l.target
 
+-- the node to which a link is followed, forward or backward
 abbrev pub head : Way → Link → ℕ
 head Forward l = l.target
 head Backward l = l.source
@@ -18,6 +20,7 @@ head Backward l = l.source
 abbrev pub near_of : Choice → Way → List Link → ℕ → List ℕ
 near_of choice way links node = map (head way) (filter (λ l. chosen choice l.link && (tail way l == node)) links)
 
+-- no link has an end above a number
 abbrev pub EndsAreWithin : ℕ → List Link → Type 0
 EndsAreWithin greatest links = All (λ l. (l.source ≤ greatest) × (l.target ≤ greatest)) links
 

@@ -7,15 +7,19 @@ use Rattle.wc_graph.specs.declared.error.GraphError.TheVariants.{NoNode, WrongEn
 use Rattle.wc_graph.specs.Rules.{node_of, HasRightEnds, TakesTriple, TakesLabel, SharesCreated, SharesCalled}
 
 -- ---- the link would break a rule beside a link of the list
+-- a link would have the type, both ends and the label of one in the list, where its type allows that once
 abbrev pub TripleIsTaken : List Link → Link → Type 0
 TripleIsTaken links b = Any (λ a. TakesTriple b.link a b) links
 
+-- a link would have the label of one of its type in the list at the same end, where labels of the type are unique there
 abbrev pub LabelIsTaken : List Link → Link → Type 0
 LabelIsTaken links b = Any (λ a. TakesLabel b.link a b) links
 
+-- the data that a link would create has a creator
 abbrev pub DataIsCreated : List Link → Link → Type 0
 DataIsCreated links b = Any (λ a. SharesCreated a b) links
 
+-- the process that a link would call has a caller
 abbrev pub ProcessIsCalled : List Link → Link → Type 0
 ProcessIsCalled links b = Any (λ a. SharesCalled a b) links
 

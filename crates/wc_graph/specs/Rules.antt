@@ -22,16 +22,19 @@ abbrev pub node_of : List NodeKind → ℕ → Option NodeKind
 node_of nodes zero = None
 node_of nodes (suc place) = slice_get nodes place
 
+-- the node is data
 abbrev pub IsData : NodeKind → Type 0
 IsData (Data value) = Unit {0}
 IsData Calculation = ⊥
 IsData Workflow = ⊥
 
+-- the node is a calculation
 abbrev pub IsCalculation : NodeKind → Type 0
 IsCalculation (Data value) = ⊥
 IsCalculation Calculation = Unit {0}
 IsCalculation Workflow = ⊥
 
+-- the node is a workflow
 abbrev pub IsWorkflow : NodeKind → Type 0
 IsWorkflow (Data value) = ⊥
 IsWorkflow Calculation = ⊥
@@ -59,15 +62,19 @@ Enters CallWork = IsWorkflow
 abbrev pub HasRightEnds : List NodeKind → Link → Type 0
 HasRightEnds nodes l = IsSomeAnd (node_of nodes l.source) (Leaves l.link) × IsSomeAnd (node_of nodes l.target) (Enters l.link)
 
+-- two links have the same type, ends and label
 abbrev pub SharesTriple : Link → Link → Type 0
 SharesTriple a b = (a.link ≡ b.link) × (a.source ≡ b.source) × (a.target ≡ b.target) × (a.label ≡ b.label)
 
+-- two links of one type have the same source and label
 abbrev pub SharesLabelAtSource : Link → Link → Type 0
 SharesLabelAtSource a b = (a.link ≡ b.link) × (a.source ≡ b.source) × (a.label ≡ b.label)
 
+-- two links of one type have the same target and label
 abbrev pub SharesLabelAtTarget : Link → Link → Type 0
 SharesLabelAtTarget a b = (a.link ≡ b.link) × (a.target ≡ b.target) × (a.label ≡ b.label)
 
+-- a type of link is that of a call
 abbrev pub IsCall : LinkType → Type 0
 IsCall InputCalc = ⊥
 IsCall InputWork = ⊥

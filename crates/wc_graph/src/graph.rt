@@ -66,7 +66,9 @@ impl Graph {
     /// A graph with no nodes, which takes no memory.
     #[tactic(auto, using(crate::proofs::Labelling::none_busy))]
     pub fn new(alloc: Global) -> Graph
+        // It has no nodes.
         ensures nodes { result.nodes ≡ [] }
+        // It has no links.
         ensures links { result.links ≡ [] }
     {
         Graph {
@@ -82,7 +84,9 @@ impl Graph {
     /// An equal graph with memory of its own, where no node is busy yet.
     #[tactic(auto, using(crate::proofs::Labelling::none_busy))]
     pub fn copy(&self, alloc: Global) -> Result<Graph, AllocError>
+        // The copy has the same nodes.
         ensures nodes { IfOk result (λ copy. copy.nodes ≡ self.now.nodes) }
+        // The copy has the same links.
         ensures links { IfOk result (λ copy. copy.links ≡ self.now.links) }
     {
         let nodes = copy_nodes(alloc, &self.nodes)?;
@@ -101,7 +105,9 @@ impl Graph {
 
     /// The nodes.
     pub fn nodes(&self) -> &Nodes
+        // The nodes, with the room for further ones.
         ensures value { result.now ≡ (self.now.nodes, self.now.node_room) }
+        // They are at most 8,000,000.
         ensures bound { length self.now.nodes ≤ MOST_NODES }
     {
         &self.nodes
@@ -109,7 +115,9 @@ impl Graph {
 
     /// The links.
     pub fn links(&self) -> &Links
+        // The links, with the room for further ones.
         ensures value { result.now ≡ (self.now.links, self.now.link_room) }
+        // The links are link-correct.
         ensures correct { IsLinkCorrect self.now.nodes self.now.links }
     {
         &self.links
@@ -117,9 +125,13 @@ impl Graph {
 
     /// Makes room for so many further nodes and links.
     pub fn reserve(&mut self, nodes: u32, links: u32) -> Result<(), AllocError>
+        // The nodes stay.
         ensures nodes { self.new.nodes ≡ self.old.nodes }
+        // The links stay.
         ensures links { self.new.links ≡ self.old.links }
+        // Where it is Ok, there is room for so many further nodes and links.
         ensures room { OnOk result ((nodes ≤ self.new.node_room) × (links ≤ self.new.link_room)) }
+        // No room gets less.
         ensures kept { (self.old.node_room ≤ self.new.node_room) × (self.old.link_room ≤ self.new.link_room) }
     {
         // The indices come first: where a node or a link has room, they have some for it too.
@@ -141,7 +153,9 @@ impl Graph {
 
     /// Where a walk down the links that leave a node goes on below a place, both counted from 1: between them is none.
     pub fn before_from(&self, node: u32, at: usize) -> usize
+        // The place is counted from 1.
         requires some { 0 < at }
+        // There is a link at the place.
         requires within { at ≤ length self.now.links }
         ensures { Skips source_of self.now.links node (at - 1) result }
     {
@@ -167,7 +181,9 @@ impl Graph {
 
     /// Where a walk down the links that enter a node goes on below a place, both counted from 1: between them is none.
     pub fn before_into(&self, node: u32, at: usize) -> usize
+        // The place is counted from 1.
         requires some { 0 < at }
+        // There is a link at the place.
         requires within { at ≤ length self.now.links }
         ensures { Skips target_of self.now.links node (at - 1) result }
     {

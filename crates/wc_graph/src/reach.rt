@@ -52,8 +52,11 @@ fn reached(
 
 /// The nodes from which a walk of one or more links of these types leads to the node, ascending.
 pub fn ancestors(alloc: Global, graph: &Graph, from: u32, types: &LinkSet) -> Result<Ids, WalkError>
+    // Exactly the nodes from which such links lead to this one.
     ensures ok { IfOk result (AreExactly (λ node. Reaches (Leads types.now graph.now.links) node from)) }
+    // NoNode exactly where there is no such node.
     ensures no_node { IsErrOf result (WalkError.NoNode from) ↔ (IsNode graph.now.nodes from → ⊥) }
+    // Any other error is want of memory.
     ensures others { IfErr result (λ e. (e ≡ WalkError.NoNode from) ⊎ (e ≡ WalkError.OutOfMemory)) }
 {
     reached(alloc, graph, from, types, Way::Backward)

@@ -123,8 +123,11 @@ fn place(alloc: Global, graph: &Graph, forward: &[Ids]) -> Result<Option<Ids>, A
 ///
 /// Where there is none, the nodes of a closed walk, which begins with the least node on any.
 pub fn order(alloc: Global, graph: &Graph) -> Result<Ids, WalkError>
+    // All nodes, each behind those from which data provenance leads to it, and each the lowest that may come next.
     ensures ok { IfOk result (IsOrder graph.now.nodes graph.now.links) }
+    // Where it is Ok, data provenance has no cycle.
     ensures acyclic { OnOk result (IsAcyclic graph.now.links) }
+    // An error is a closed walk that begins with the least node on any, or want of memory.
     ensures err { IfErr result (IsCause graph.now.links) }
 {
     let forward = near::table_of(alloc, graph, Choice::data(), Way::Forward)?;

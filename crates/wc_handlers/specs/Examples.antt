@@ -7,6 +7,7 @@ use Rattle.wc_handlers.specs.declared.spec.Spec.{Spec}
 abbrev pub safe_file : List ℕ
 safe_file = codes "name = \"safe\"\nof = \"double\"\n[[handler]]\nstatuses = [310]\npriority = 10\ncall = \"less\"\n"
 
+-- a spec with a handler
 abbrev pub safe : Spec
 safe = record {
   name = codes "safe";
@@ -19,6 +20,7 @@ safe = record {
 abbrev pub bare_file : List ℕ
 bare_file = codes "of = \"double\"\nmax = 1\nname = \"safe\"\n"
 
+-- a spec without one
 abbrev pub bare : Spec
 bare = record { name = codes "safe"; job = codes "double"; most = 1; handlers = [] }
 

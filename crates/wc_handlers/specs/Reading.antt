@@ -14,14 +14,17 @@ use Rattle.wc_handlers.specs.Specs.{spec_of}
 abbrev pub document_of : List ℕ → Option Members
 document_of bytes = if is_utf8 bytes then parse_document bytes else None
 
+-- a refusal as an error
 abbrev pub told : Refusal → RestartError
 told (kind.UnknownKey, key) = error.UnknownKey key
 told (kind.BadValue, key) = error.BadValue key
 
+-- the spec of a document, or the error
 abbrev pub unless_refused : Members → Option Refusal → Result Spec RestartError
 unless_refused ms None = Ok (spec_of ms)
 unless_refused ms (Some r) = Err (told r)
 
+-- the spec of a document, or that it is no TOML
 abbrev pub spec_in_document : Option Members → Result Spec RestartError
 spec_in_document None = Err error.NotToml
 spec_in_document (Some ms) = unless_refused ms (least (refusals ms))

@@ -18,10 +18,12 @@ Refusal = Kind × List ℕ
 
 -- ---- all refusals
 
+-- the refusals of a key: that it is unknown, or that its value is bad
 abbrev pub value_refusals : Place → List ℕ → Option Holds → Data → List Refusal
 value_refusals p key None d = (UnknownKey, path p key) ∷ []
 value_refusals p key (Some h) d = if is_held h d then [] else (BadValue, path p key) ∷ []
 
+-- the refusals of the keys of a table
 abbrev pub member_refusals : Place → Members → List Refusal
 member_refusals p no_members = []
 member_refusals p (member key d ms) = value_refusals p key (holds_of p key) d ++ member_refusals p ms
@@ -40,18 +42,22 @@ one_of _ _ = (BadValue, path place.Handler (codes "abort")) ∷ []
 abbrev pub remedy_refusals : Members → List Refusal
 remedy_refusals ms = one_of (is_some (get_member (codes "call") ms)) (is_some (get_member (codes "abort") ms))
 
+-- all refusals of one handler
 abbrev pub handler_refusals : Members → List Refusal
 handler_refusals ms =
     member_refusals place.Handler ms ++ (missing place.Handler (codes "statuses") ms ++ (missing place.Handler (codes "priority") ms ++ remedy_refusals ms))
 
+-- the refusals of a handler, if its table is there
 abbrev pub table_refusals : Option Members → List Refusal
 table_refusals None = []
 table_refusals (Some ms) = handler_refusals ms
 
+-- the refusals of handlers
 abbrev pub item_refusals : Items → List Refusal
 item_refusals no_items = []
 item_refusals (item d ds) = table_refusals (as_table d) ++ item_refusals ds
 
+-- the refusals of handlers, if there are any
 abbrev pub list_refusals : Option Items → List Refusal
 list_refusals None = []
 list_refusals (Some ds) = item_refusals ds
@@ -60,6 +66,8 @@ list_refusals (Some ds) = item_refusals ds
 abbrev pub handlers_in : Members → Option Items
 handlers_in ms = option_and_then as_array (get_member (codes "handler") ms)
 
+-- All refusals of a table, each a kind and the path of a key: keys that there aren't, values that a key can't have, keys that have to be there (`name`,
+-- `of`; of a handler `statuses`, `priority` and exactly one of `call` and `abort`)
 abbrev pub refusals : Members → List Refusal
 refusals ms =
     member_refusals place.Top ms ++ (missing place.Top (codes "name") ms ++ (missing place.Top (codes "of") ms ++ list_refusals (handlers_in ms)))
@@ -76,9 +84,11 @@ abbrev pub lesser : Option Refusal → Refusal → Option Refusal
 lesser None r = Some r
 lesser (Some a) r = match_ordering (slice_cmp nat_cmp r.1 a.1) (Some r) (Some (of_two a r)) (Some a)
 
+-- the least refusal, of one and those behind it
 abbrev pub least_after : Option Refusal → List Refusal → Option Refusal
 least_after best [] = best
 least_after best (r ∷ rs) = least_after (lesser best r) rs
 
+-- The refusal with the least path in byte order
 abbrev pub least : List Refusal → Option Refusal
 least rs = least_after None rs

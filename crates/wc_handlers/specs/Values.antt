@@ -13,9 +13,11 @@ within least most None = None
 within least most (Some (pos n)) = if nat_le least n && nat_le n most then Some n else None
 within least most (Some (negsuc n)) = None
 
+-- a status, unless it is 401 or 402, which are the chain's own
 abbrev pub unless_own : ℕ → Option ℕ
 unless_own n = if n == 401 || n == 402 then None else Some n
 
+-- a status that isn't the chain's own, if there is one
 abbrev pub then_other : Option ℕ → Option ℕ
 then_other None = None
 then_other (Some n) = unless_own n
@@ -26,6 +28,7 @@ abort_of z = then_other (within 100 9999 z)
 
 -- ---- lists
 
+-- how many items there are
 abbrev pub count : Items → ℕ
 count no_items = 0
 count (item d ds) = suc (count ds)
@@ -34,9 +37,11 @@ count (item d ds) = suc (count ds)
 abbrev pub are_few : ℕ → Items → Bool
 are_few least ds = nat_le least (count ds) && nat_le (count ds) 16
 
+-- whether an item is a status
 abbrev pub is_status : Data → Bool
 is_status d = is_some (within 1 9999 (as_integer d))
 
+-- whether all items are statuses
 abbrev pub all_statuses : Items → Bool
 all_statuses no_items = true
 all_statuses (item d ds) = is_status d && all_statuses ds
@@ -46,6 +51,7 @@ abbrev pub are_statuses : Option Items → Bool
 are_statuses None = false
 are_statuses (Some ds) = are_few 1 ds && all_statuses ds
 
+-- whether all items are tables
 abbrev pub all_tables : Items → Bool
 all_tables no_items = true
 all_tables (item d ds) = is_some (as_table d) && all_tables ds
@@ -57,10 +63,12 @@ are_handlers (Some ds) = are_few 0 ds && all_tables ds
 
 -- ---- values
 
+-- whether a text is there and is a name
 abbrev pub is_name_text : Option (List ℕ) → Bool
 is_name_text None = false
 is_name_text (Some text) = is_name text
 
+-- whether an item is a name
 abbrev pub is_name_in : Data → Bool
 is_name_in d = is_name_text (as_str d)
 

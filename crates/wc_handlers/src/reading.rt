@@ -161,8 +161,11 @@ fn told(refused: Refused) -> RestartError
 
 /// What a spec file says, or why it is refused: it is no TOML, or the refusal of the least key path in byte order.
 pub fn read_spec(alloc: Global, bytes: &[u8]) -> Result<Spec, RestartError>
+    // The spec is the one that the bytes say.
     ensures ok { IfOk result (λ s. spec_in bytes.now ≡ Ok s) }
+    // A refusal is the one that the definition gives, or want of memory.
     ensures refused { IfErr result (λ e. (e ≡ OutOfMemory) ⊎ (spec_in bytes.now ≡ Err e)) }
+    // The spec keeps its ranges.
     ensures within { IfOk result IsSpec }
 {
     let table = match toml::table_from_slice(alloc, bytes) {

@@ -1,9 +1,11 @@
 -- What a record keeps of one call of the system: numbers, a name and bytes.
 use Rattle.std.specs.Prelude.{◌≡◌, ◌⊎◌, ℕ, Bool, IsTrue, false, List, [], ◌∷◌, ◌++◌, ◌==◌, ◌||◌, ◌&&◌, ◌+◌, ◌*◌, ◌/◌, ◌%◌, slice_index, Option, Some, None, if◌then◌else◌}
 
+-- A call of the system as a record keeps it: numbers, of which the first is its kind, a name and bytes
 abbrev pub Event : Type 0
 Event = List ℕ × List ℕ × List ℕ
 
+-- an event of these numbers, name and bytes
 abbrev pub event_of : (numbers name bytes : List ℕ) → Event
 event_of numbers name bytes = (numbers, name, bytes)
 
@@ -11,15 +13,19 @@ event_of numbers name bytes = (numbers, name, bytes)
 abbrev pub opening : (name : List ℕ) → Event
 opening name = event_of (0 ∷ []) name []
 
+-- a piece of a file with these bytes was read
 abbrev pub piece_of : (bytes : List ℕ) → Event
 piece_of bytes = event_of (1 ∷ []) [] bytes
 
+-- the end of a file was read
 abbrev pub ending : Event
 ending = event_of (2 ∷ []) [] []
 
+-- there was no file of this name
 abbrev pub missing : (name : List ℕ) → Event
 missing name = event_of (3 ∷ []) name []
 
+-- the file of this name couldn't be opened
 abbrev pub refusing : (name : List ℕ) → Event
 refusing name = event_of (4 ∷ []) name []
 
@@ -27,6 +33,7 @@ refusing name = event_of (4 ∷ []) name []
 abbrev pub telling : (moment : ℕ) → Event
 telling moment = event_of (0 ∷ moment ∷ []) [] []
 
+-- a clock rested so many nanoseconds, kept as seconds and what is left
 abbrev pub resting : (time : ℕ) → Event
 resting time = event_of (1 ∷ time / 1000000000 ∷ time % 1000000000 ∷ []) [] []
 

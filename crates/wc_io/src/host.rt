@@ -50,8 +50,11 @@ pub struct FileShelf<R: Drop> {
 impl<R: Files + Drop> FileShelf<R> {
     /// The files that this runtime reaches.
     pub fn new(rt: R) -> FileShelf<R>
+        // It is of this runtime, counts no fault, and its last call has not failed.
         ensures fresh { (result.rt ≡ rt) × (result.faults ≡ 0) × (result.failed ≡ false) }
+        // It was asked for nothing.
         ensures unasked { result.log.events ≡ [] }
+        // It doesn't tell its contents.
         ensures untold { ⟦<FileShelf<R> as Shelf>⟧.contents result ≡ None }
     {
         FileShelf {
@@ -194,7 +197,9 @@ impl<R: Print + Drop> StdoutSink<R> {
 
     /// The standard output of this runtime.
     pub fn new(rt: R) -> StdoutSink<R>
+        // It is of this runtime, counts no fault, and its last call has not failed.
         ensures fresh { (result.rt ≡ rt) × (result.faults ≡ 0) × (result.failed ≡ false) }
+        // It has taken nothing.
         ensures untaken { ⟦<StdoutSink<R> as Sink>⟧.taken result ≡ Some [] }
     {
         StdoutSink {
@@ -276,7 +281,9 @@ pub struct ClockPacer<R: Drop> {
 impl<R: Clock + Drop> ClockPacer<R> {
     /// The clock of this runtime.
     pub fn new(rt: R) -> ClockPacer<R>
+        // It is of this runtime, and counts no moment that was told and no rest.
         ensures fresh { (result.rt ≡ rt) × (result.last ≡ 0) × (result.told ≡ 0) × (result.rests ≡ 0) }
+        // The clock wasn't read.
         ensures unsaid { result.log.events ≡ [] }
     {
         ClockPacer {

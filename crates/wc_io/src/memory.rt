@@ -28,8 +28,11 @@ impl MemoryShelf {
 
     /// A shelf of these files, whose reads with the listed numbers fail.
     pub fn new(files: Files, failing: Failing) -> MemoryShelf
+        // It has these files.
         ensures files { files_of result ≡ files }
+        // These calls will fail, and none was made yet.
         ensures schedule { shelf_schedule result ≡ fresh failing }
+        // It was asked for nothing.
         ensures unasked { ⟦<MemoryShelf as Shelf>⟧.asked result ≡ [] }
     {
         MemoryShelf {
@@ -61,7 +64,9 @@ impl Shelf for MemoryShelf {
         ensures kept { self.new.files ≡ self.old.files }
         ensures asked { asked_names self.new.log.events ≡ asked_names self.old.log.events ++ (name.now ∷ []) }
         ensures cause { CountsReadFault result self.old.schedule.faults self.new.schedule.faults (IsTrue self.new.schedule.failed) }
+        // It fails exactly where it is listed or the fuse is blown.
         ensures fails { IsErrOf result ShelfError.Failed ↔ IsTrue (fails_next self.old.schedule) }
+        // The call is counted, and whether it failed is kept.
         ensures schedule { self.new.schedule ≡ after_call self.old.schedule }
     {
         self.log.note(&[ASKED], name.bytes(), &[]);
@@ -88,8 +93,11 @@ impl MemorySink {
 
     /// An empty place, whose writes with the listed numbers fail.
     pub fn new(alloc: Global, failing: Failing) -> MemorySink
+        // It has taken nothing.
         ensures bytes { bytes_of result ≡ [] }
+        // These calls will fail, and none was made yet.
         ensures schedule { sink_schedule result ≡ fresh failing }
+        // Memory never ran out in it.
         ensures starved { starved_of result ≡ 0 }
     {
         MemorySink {
@@ -125,13 +133,18 @@ impl Sink for MemorySink {
 
     /// Takes all bytes. Fails where the schedule says so, and where no memory is left for them.
     fn write(&mut self, bytes: &[u8]) -> Result<usize, Failed>
+        // Where it is Ok, all bytes were taken.
         ensures all { IfOk result (λ n. n ≡ length bytes.now) }
         ensures taken { OnOk result (self.new.bytes ≡ self.old.bytes ++ bytes.now) }
         ensures kept { OnErr result (self.new.bytes ≡ self.old.bytes) }
         ensures cause { CountsFault result self.old.schedule.faults self.new.schedule.faults (IsTrue self.new.schedule.failed) }
+        // That the last call failed is known exactly where it did.
         ensures failed { self.new.schedule.failed ≡ is_err result }
+        // The call is counted.
         ensures schedule { Advances self.old.schedule self.new.schedule }
+        // It fails where it is listed.
         ensures listed { IsTrue (fails_next self.old.schedule) → IsErr result × (self.new.starved ≡ self.old.starved) }
+        // Elsewhere it fails where no memory was left, and that is counted.
         ensures unlisted { fails_next self.old.schedule ≡ false → self.new.starved ≡ (if is_err result then counted self.old.starved else self.old.starved) }
     {
         self.schedule.call()?;
@@ -183,7 +196,9 @@ impl Pacer for MemoryPacer {
     ghost least = { λ pacer. Some pacer.moment };
 
     fn now(&mut self) -> u64
+        // It tells the moment at which it stands.
         ensures moment { result ≡ self.old.moment }
+        // It stands there still.
         ensures kept { self.new.moment ≡ self.old.moment }
         ensures last { self.new.last ≡ result }
         ensures told { RisesByOne self.old.told self.new.told }

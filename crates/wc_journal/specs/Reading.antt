@@ -8,6 +8,7 @@ use Rattle.wc_journal.specs.declared.error.Found.TheVariants.{Byte, End}
 abbrev pub Placed : Type 0
 Placed = List (ℕ × List ℕ)
 
+-- what an image holds: no journal, a journal with its batches, or damage at a place
 pub data Held : Type 0 where
   no_journal : Held
   holds : (version generation : ℕ) → Placed → Held
@@ -33,12 +34,15 @@ misfit_from zero place bytes = None
 misfit_from (suc left) place [] = Some (place, End)
 misfit_from (suc left) place (b ∷ bs) = if fits_header place b then misfit_from left (place + 1) bs else Some (place, Byte b)
 
+-- The first of the 16 places of a header at which an image has a byte that no header has there, or ends
 unfoldable pub header_misfit : List ℕ → Option (ℕ × Found)
 header_misfit image = misfit_from 16 0 image
 
+-- the version that a header says: its byte 7
 abbrev pub version_in : List ℕ → ℕ
 version_in image = slice_index image 7
 
+-- the generation that a header says: its last eight bytes, the highest first
 unfoldable pub generation_in : List ℕ → ℕ
 generation_in image = from_be_bytes w64 (take 8 (drop 8 image))
 
@@ -46,6 +50,7 @@ generation_in image = from_be_bytes w64 (take 8 (drop 8 image))
 abbrev pub is_snapshot_place : ℕ → ℕ → Bool
 is_snapshot_place generation place = place == 0 && nat_le 2 generation
 
+-- the kind byte of a batch: 2 of a snapshot, 1 of any other
 abbrev pub kind_of : Bool → ℕ
 kind_of snapshot = if snapshot then 2 else 1
 
@@ -63,10 +68,12 @@ wrong_kind version generation place [] = None
 wrong_kind version generation place (b ∷ bs) =
     if version == 1 || b == kind_of (is_snapshot_place generation place) then None else Some b
 
+-- one more batch in front of those that follow
 abbrev pub and_then_batch : ℕ × List ℕ → Outcome → Outcome
 and_then_batch b (Ok bs) = Ok (b ∷ bs)
 and_then_batch b (Err e) = Err e
 
+-- the outcome, unless the kind of a batch is wrong
 abbrev pub unless_wrong : Option ℕ → ℕ → Outcome → Outcome
 unless_wrong None at outcome = outcome
 unless_wrong (Some kind) at outcome = Err (at, Byte kind)
@@ -87,10 +94,12 @@ batches_from version generation place at zero (gate ∷ bs) =
 abbrev pub stands_for_none : List ℕ → Bool
 stands_for_none image = nat_le (length image) 1 || (nat_le (length image) 17 && not (slice_index image 0 == 0x57))
 
+-- what an image with a right header holds: its batches, or the damage among them
 abbrev pub held_by : ℕ → ℕ → Outcome → Held
 held_by version generation (Ok bs) = holds version generation bs
 held_by version generation (Err e) = damaged e.0 e.1
 
+-- what an image holds, by what was found of its header
 abbrev pub after_header : Option (ℕ × Found) → List ℕ → Held
 after_header (Some e) image = damaged e.0 e.1
 after_header None image =
@@ -98,9 +107,12 @@ after_header None image =
     then damaged 15 (Byte 0)
     else held_by (version_in image) (generation_in image) (batches_from (version_in image) (generation_in image) 0 16 0 (drop 16 image))
 
+-- What a whole image holds: no journal; the version, the generation and the payloads, each with the offset of its first byte; or damage, at the first
+-- byte that no journal has there, or at the end of an image that a journal goes past
 unfoldable pub journal_of : List ℕ → Held
 journal_of image = if stands_for_none image then no_journal else after_header (header_misfit image) image
 
+-- The batches that an image holds: none where it has no journal or is damaged
 abbrev pub batches_of : Held → Placed
 batches_of no_journal = []
 batches_of (holds version generation bs) = bs

@@ -18,6 +18,7 @@ abbrev pub placed_from : (version at : ℕ) → List (List ℕ) → Placed
 placed_from version at [] = []
 placed_from version at (p ∷ ps) = (at + 1 + size_of version, p) ∷ placed_from version (at + 1 + (size_of version + length p)) ps
 
+-- the payloads of batches, without their offsets
 abbrev pub payloads_of : Placed → List (List ℕ)
 payloads_of bs = map (λ b. b.1) bs
 
@@ -30,6 +31,7 @@ abbrev pub AllStated : ℕ → List (List ℕ) → Type 0
 AllStated version [] = Unit {0}
 AllStated version (p ∷ ps) = (length p < length_bound version) × AllStated version ps
 
+-- each number is that of a byte
 abbrev pub IsBytes : List ℕ → Type 0
 IsBytes bytes = (i : ℕ) → slice_index bytes i < 256
 

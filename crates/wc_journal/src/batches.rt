@@ -30,8 +30,11 @@ impl Model for Batches {
 impl Batches {
     /// The payloads that an image has there. The image is kept, and not copied.
     pub fn of(image: Vec<u8>, frames: Frames) -> Batches
+        // The frames lie within the image.
         requires { AreWithin image.items frames }
+        // The image is kept.
         ensures image { result.image ≡ image.items }
+        // The batches are those of the frames.
         ensures placed { result.placed ≡ placed_in image.items frames }
     {
         Batches { image, frames }

@@ -167,9 +167,13 @@ pub fn batches(
     version: u8,
     generation: u64,
 ) -> Result<(Batches, usize), JournalError>
+    // The image has at least the 16 bytes of a header.
     requires { 16 ≤ length image.items }
+    // Where it is Ok, these are the image's batches, and where they end.
     ensures ok { IfOk result (λ found. HasBatches version generation image.items (found.0.placed, found.1)) }
+    // The image is kept.
     ensures image { IfOk result (λ found. found.0.image ≡ image.items) }
+    // A refusal is the damage that reading finds first, or want of memory.
     ensures refused { IfErr result (RefusesBatches (batches_from version generation 0 16 0 (drop 16 image.items))) }
 {
     match frames(alloc, &image, version, generation) {

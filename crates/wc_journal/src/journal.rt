@@ -30,7 +30,9 @@ pub struct Loaded {
 impl Journal {
     /// The generation, at least 1.
     pub fn generation(&self) -> u64
+        // The journal's generation.
         ensures value { result ≡ self.now.generation }
+        // It is at least 1.
         ensures some { 1 ≤ result }
     {
         self.generation
@@ -38,7 +40,9 @@ impl Journal {
 
     /// The version, 1 or 2.
     pub fn version(&self) -> u8
+        // The journal's version.
         ensures value { result ≡ self.now.version }
+        // It is 1 or 2.
         ensures known { (result ≡ 1) ⊎ (result ≡ 2) }
     {
         self.version

@@ -6,9 +6,11 @@ use Rattle.serde_json.specs.Data.{Data}
 use Rattle.wc_value.specs.declared.value.Kind.{Kind}
 use Rattle.wc_json.specs.Reading.{Refusal, under, shape, read_as, read_inputs, ◌>>=◌}
 
+-- whether a value is within 4 MiB and 32 levels
 abbrev pub fits : Value → Bool
 fits v = nat_le (length (spelling v)) 4194304 && nat_le (depth v) 32
 
+-- a value, where it is within 4 MiB and 32 levels, else another shape
 abbrev pub within : Value → Result Value Refusal
 within v = if fits v then Ok v else shape
 

@@ -23,10 +23,12 @@ abbrev pub Refusal : Type 0
 Refusal = Fault × List ℕ
 
 infixl 10 ◌>>=◌
+-- one reading after another, where the first gave something
 abbrev pub ◌>>=◌ : {A B : Type 0} → Result A Refusal → (A → Result B Refusal) → Result B Refusal
 (Ok x) >>= f = f x
 (Err r) >>= f = Err r
 
+-- the refusal that something has another shape
 abbrev pub shape : {A : Type 0} → Result A Refusal
 shape = Err (other_shape, [])
 
@@ -47,6 +49,7 @@ read_number (unsigned n) = if nat_lt n (2 ^ 63) then Ok (pos n) else Err (too_gr
 read_number (negative z) = Ok z
 read_number (float x) = Err (not_whole, [])
 
+-- a whole number as a value
 abbrev pub read_int : Num → Result Value Refusal
 read_int n = read_number n >>= (λ z. Ok (value.Int z))
 
@@ -78,9 +81,11 @@ abbrev pub or_other_shape : Result ℤ Refusal → Refusal
 or_other_shape (Ok z) = (other_shape, [])
 or_other_shape (Err r) = r
 
+-- the refusal of a number where another kind is wanted: what is wrong with the number itself comes first
 abbrev pub not_a_number : {A : Type 0} → Num → Result A Refusal
 not_a_number n = Err (or_other_shape (read_number n))
 
+-- bytes whose lower hexadecimal digits these are, or another shape
 abbrev pub or_shape : Result (List ℕ) FromHexError → List ℕ → Result (List ℕ) Refusal
 or_shape (Err e) digits = shape
 or_shape (Ok bytes) digits = if bytes_eq (encode_lower bytes) digits then Ok bytes else shape
@@ -98,6 +103,7 @@ read_digits (object ms) = shape
 abbrev pub digits_in : Members → Option Data
 digits_in ms = if nat_eq (members_len ms) 1 then get_member (codes "hex") ms else None
 
+-- bytes of hexadecimal digits under the key `hex`
 abbrev pub read_hex : Option Data → Result (List ℕ) Refusal
 read_hex None = shape
 read_hex (Some d) = under (codes "hex") (read_digits d) >>= Ok
@@ -111,12 +117,14 @@ read_content null = shape
 read_content (boolean b) = shape
 read_content (array ds) = shape
 
+-- files by name, of the members of an object
 abbrev pub read_files : List (List ℕ × List ℕ) → Members → Result (List (List ℕ × List ℕ)) Refusal
 read_files front no_members = Ok front
 read_files front (member k d ms) = under k (read_content d) >>= (λ c. read_files (put k c front) ms)
 
 -- ---- values of a kind
 
+-- a number, where one is wanted
 abbrev pub if_int : Kind → ℤ → Result Value Refusal
 if_int kind.Int z = Ok (value.Int z)
 if_int kind.Bool z = shape
@@ -125,6 +133,7 @@ if_int kind.List z = shape
 if_int kind.Dict z = shape
 if_int kind.Folder z = shape
 
+-- a number as a value of a kind
 abbrev pub read_number_as : Kind → Num → Result Value Refusal
 read_number_as k n = read_number n >>= if_int k
 
@@ -137,6 +146,7 @@ read_object kind.Bool ms = shape
 read_object kind.Text ms = shape
 read_object kind.List ms = shape
 
+-- a truth value, where one is wanted
 abbrev pub if_bool : Kind → Bool → Result Value Refusal
 if_bool kind.Bool b = Ok (value.Bool b)
 if_bool kind.Int b = shape
@@ -145,6 +155,7 @@ if_bool kind.List b = shape
 if_bool kind.Dict b = shape
 if_bool kind.Folder b = shape
 
+-- a text, where one is wanted
 abbrev pub if_text : Kind → List ℕ → Result Value Refusal
 if_text kind.Text s = Ok (value.Text s)
 if_text kind.Int s = shape
@@ -153,6 +164,7 @@ if_text kind.List s = shape
 if_text kind.Dict s = shape
 if_text kind.Folder s = shape
 
+-- a list, where one is wanted
 abbrev pub if_list : Kind → Items → Result Value Refusal
 if_list kind.List ds = read_any (array ds)
 if_list kind.Int ds = shape
@@ -177,6 +189,7 @@ abbrev pub read_port : Option Kind → Data → Result Value Refusal
 read_port None d = shape
 read_port (Some k) d = read_as k d
 
+-- values by port, of the members of an object, each of its port's kind
 abbrev pub read_ports : List (List ℕ × Kind) → List (List ℕ × Value) → Members → Result (List (List ℕ × Value)) Refusal
 read_ports ports front no_members = Ok front
 read_ports ports front (member k d ms) = under k (read_port (lookup k ports) d) >>= (λ v. read_ports ports (put k v front) ms)

@@ -20,6 +20,7 @@ Row = Request × JobResult
 
 -- ---- the parts of a row
 
+-- a text, or why it is none
 abbrev pub read_word : Data → Result (List ℕ) Refusal
 read_word (string s) = Ok s
 read_word (number n) = not_a_number n
@@ -67,9 +68,11 @@ abbrev pub read_at : {A : Type 0} → List ℕ → (Data → Result A Refusal) �
 read_at key reads None = shape
 read_at key reads (Some d) = under key (reads d) >>= Ok
 
+-- what stands under a key, read so
 abbrev pub at_key : {A : Type 0} → List ℕ → (Data → Result A Refusal) → Members → Result A Refusal
 at_key key reads ms = read_at key reads (get_member key ms)
 
+-- whether an object has a key
 abbrev pub has_key : List ℕ → Members → Bool
 has_key key ms = is_some (get_member key ms)
 
@@ -127,6 +130,7 @@ read_array (object ms) = shape
 
 -- ---- the limits, which are tried last
 
+-- a part of a row, where it is within the limits
 abbrev pub part_within : List ℕ → Value → Result Value Refusal
 part_within key v = under key (within v) >>= Ok
 

@@ -14,12 +14,15 @@ abbrev pub members_in : List (List ℕ × Data) → Members
 members_in [] = no_members
 members_in (m ∷ ms) = member m.0 m.1 (members_in ms)
 
+-- the elements of an array, each written so
 abbrev pub elements_by : {A : Type 0} → (A → Data) → List A → Items
 elements_by f items = items_of (map f items)
 
+-- the members of an object, each value written so
 abbrev pub members_by : {A : Type 0} → (A → Data) → List (List ℕ × A) → Members
 members_by f entries = members_in (map (λ e. (e.0, f e.1)) entries)
 
+-- bytes as an object with their hexadecimal digits
 abbrev pub hex_data : List ℕ → Data
 hex_data bytes = object (member (codes "hex") (string (encode_lower bytes)) no_members)
 
@@ -36,6 +39,7 @@ level (Value-F.List items) = array (items_of items)
 level (Value-F.Dict pairs) = object (members_in pairs)
 level (Value-F.Folder files) = object (members_by content_data files)
 
+-- a value as JSON
 abbrev pub data_of : Value → Data
 data_of = fold-Value Data level
 

@@ -12,7 +12,9 @@ use wc_value::{Bytes, Fields, Files, Text, Value, Values};
 
 /// The compact JSON text of a value.
 pub fn to_json(alloc: Global, value: &Value) -> Result<Text, AllocError>
+    // The text is the value's JSON.
     ensures text { IfOk result (λ text. text ≡ json_text value.now) }
+    // It reads back as the same data, where that is at most 127 deep.
     ensures reads_back { IfOk result (λ text. depth (data_of value.now) ≤ 127 → read text ≡ Some (data_of value.now)) }
 {
     let json = value_data(alloc, value)?;

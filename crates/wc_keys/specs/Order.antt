@@ -34,6 +34,7 @@ abbrev pub NumbersAbove : ℕ → List Sealed → Type 0
 NumbersAbove low [] = Unit {0}
 NumbersAbove low (s ∷ seals) = (low < s.pid) × NumbersAbove s.pid seals
 
+-- each number is below those behind it
 abbrev pub NumbersAscend : List Sealed → Type 0
 NumbersAscend [] = Unit {0}
 NumbersAscend (s ∷ seals) = NumbersAbove s.pid seals

@@ -42,6 +42,7 @@ pub(crate) fn put_byte(hasher: &mut Sha256, byte: u8)
 
 /// Adds a count or length of four bytes.
 pub fn put_count(hasher: &mut Sha256, count: usize)
+    // The count is below 2^32.
     requires { count < 2 ^ 32 }
     ensures { Adds hasher.old (to_be_bytes w32 count) hasher.new }
 {

@@ -100,7 +100,9 @@ impl Seals {
 
     /// The entries with a digest, in order of their numbers. It takes no memory.
     pub fn part(&self, digest: &[u8]) -> &[Sealed]
+        // The entries with the digest, and no others.
         ensures part { result.now ≡ with_digest digest.now self.now.0 }
+        // All entries stand in order.
         ensures order { IsSorted earlier self.now.0 }
     {
         let short = part_of(self.short.as_slice(), digest);

@@ -30,12 +30,14 @@ is_called (token.Name text) = true
 is_called (token.Word w) = is_call_word w
 is_called _ = false
 
+-- what a word adds to a statement's weight
 abbrev pub word_weight : Word → ℕ
 word_weight word.And = 1
 word_weight word.Or = 1
 word_weight word.Not = 1
 word_weight _ = 0
 
+-- what a sign adds to a statement's weight
 abbrev pub symbol_weight : Bool → Symbol → ℕ
 symbol_weight called symbol.Plus = 1
 symbol_weight called symbol.Minus = 1
@@ -58,6 +60,7 @@ weight_of called (token.Word w) = word_weight w
 weight_of called (token.Symbol s) = symbol_weight called s
 weight_of called _ = 0
 
+-- whether a sign ends a statement
 abbrev pub symbol_ends : Symbol → Bool
 symbol_ends symbol.Semi = true
 symbol_ends symbol.OpenBrace = true
@@ -69,18 +72,22 @@ abbrev pub ends_statement : Token → Bool
 ends_statement (token.Symbol s) = symbol_ends s
 ends_statement _ = false
 
+-- whether a sign opens a brace
 abbrev pub is_open_brace : Symbol → Bool
 is_open_brace symbol.OpenBrace = true
 is_open_brace _ = false
 
+-- whether a sign closes a brace
 abbrev pub is_close_brace : Symbol → Bool
 is_close_brace symbol.CloseBrace = true
 is_close_brace _ = false
 
+-- whether a token opens a brace
 abbrev pub opens_brace : Token → Bool
 opens_brace (token.Symbol s) = is_open_brace s
 opens_brace _ = false
 
+-- whether a token closes a brace
 abbrev pub closes_brace : Token → Bool
 closes_brace (token.Symbol s) = is_close_brace s
 closes_brace _ = false
@@ -91,15 +98,18 @@ is_open_bracket symbol.Open = true
 is_open_bracket symbol.OpenSquare = true
 is_open_bracket _ = false
 
+-- whether a sign closes a bracket, round or square
 abbrev pub is_close_bracket : Symbol → Bool
 is_close_bracket symbol.Close = true
 is_close_bracket symbol.CloseSquare = true
 is_close_bracket _ = false
 
+-- whether a token opens a bracket
 abbrev pub opens_bracket : Token → Bool
 opens_bracket (token.Symbol s) = is_open_bracket s
 opens_bracket _ = false
 
+-- whether a token closes a bracket
 abbrev pub closes_bracket : Token → Bool
 closes_bracket (token.Symbol s) = is_close_bracket s
 closes_bracket _ = false

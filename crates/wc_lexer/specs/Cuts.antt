@@ -37,6 +37,7 @@ IsPiece p =
     ((p.0 ≡ p.1 ∷ []) × ((p.1 == 34) ≡ false) × ((p.1 == 92) ≡ false) × ((p.1 == 10) ≡ false))
     ⊎ ((c : ℕ) × ((p.0 ≡ 92 ∷ c ∷ []) × (escaped c ≡ Some p.1)))
 
+-- the bytes of pieces one after another
 abbrev pub written : List (List ℕ × ℕ) → List ℕ
 written pieces = flat_map (λ p. p.0) pieces
 

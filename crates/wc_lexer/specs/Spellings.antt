@@ -7,6 +7,7 @@ use Rattle.wc_lexer.specs.declared.token.Word.TheVariants as word
 use Rattle.wc_lexer.specs.declared.token.Symbol.{Symbol}
 use Rattle.wc_lexer.specs.declared.token.Symbol.TheVariants as symbol
 
+-- how each reserved word is spelled
 abbrev pub word_text : Word → List ℕ
 word_text word.Calcfunction = codes "calcfunction"
 word_text word.Calcjob = codes "calcjob"
@@ -57,6 +58,7 @@ word_text word.Outputs = codes "outputs"
 word_text word.Status = codes "status"
 word_text word.Ok = codes "ok"
 
+-- how each sign is spelled
 abbrev pub symbol_text : Symbol → List ℕ
 symbol_text symbol.OpenBrace = codes "{"
 symbol_text symbol.CloseBrace = codes "}"
@@ -83,6 +85,7 @@ symbol_text symbol.Slash = codes "/"
 symbol_text symbol.Percent = codes "%"
 symbol_text symbol.Arrow = codes "->"
 
+-- all words of the language
 abbrev pub words : List Word
 words =
     word.Calcfunction ∷ word.Calcjob ∷ word.Workchain ∷ word.Program ∷ word.Arg ∷ word.File ∷ word.Fetch ∷ word.Parse ∷ word.Int ∷ word.Bool ∷ word.Text ∷ word.List ∷ word.Dict ∷ word.Folder ∷ word.ExitCode ∷ word.Invalidates ∷ word.Let ∷ word.Out ∷ word.Exit ∷ word.If ∷ word.Step ∷ word.Elif ∷ word.Else ∷ word.While ∷ word.Return ∷ word.Ctx ∷ word.Call ∷ word.To ∷ word.Append ∷ word.Or ∷ word.And ∷ word.Not ∷ word.True ∷ word.False ∷ word.Inputs ∷ word.Trim ∷ word.Len ∷ word.Get ∷ word.Has ∷ word.Line ∷ word.Contains ∷ word.Min ∷ word.Max ∷ word.Given ∷ word.Count ∷ word.Outputs ∷ word.Status ∷ word.Ok ∷ []

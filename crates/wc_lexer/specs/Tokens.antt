@@ -12,15 +12,18 @@ use Rattle.wc_lexer.specs.declared.error.LexError.TheVariants.{OutOfMemory, BadC
 use Rattle.wc_lexer.specs.Spellings.{word_of, symbol_of, symbol_text}
 
 -- ---- what was returned is what the definition gives, unless memory ran out
+-- a call failed as the reading does, or memory ran out
 abbrev pub Fails : {X : Type 0} → LexError → Result X LexError → Type 0
 Fails OutOfMemory read = Unit {0}
 Fails e read = read ≡ Err e
 
+-- a call gave what the reading gives, or failed as it does
 abbrev pub Gives : {X : Type 0} → Result X LexError → Result X LexError → Type 0
 Gives (Ok x) read = read ≡ Ok x
 Gives (Err e) read = Fails e read
 
 infixl 10 ◌>>=◌
+-- one reading after another, where the first gave something
 abbrev pub ◌>>=◌ : {X Y : Type 0} → Result X LexError → (X → Result Y LexError) → Result Y LexError
 (Ok x) >>= f = f x
 (Err e) >>= f = Err e
@@ -35,12 +38,15 @@ joined front (Err e) = Err e
 abbrev pub is_separator : ℕ → Bool
 is_separator b = b == 32 || b == 9 || b == 13 || b == 10
 
+-- whether a name may begin with this byte
 abbrev pub begins_name : ℕ → Bool
 begins_name b = is_ascii_alphabetic b || b == 95
 
+-- whether a name may have this byte behind its first one
 abbrev pub is_in_name : ℕ → Bool
 is_in_name b = begins_name b || is_ascii_digit b
 
+-- whether a byte isn't the end of a line
 abbrev pub is_in_line : ℕ → Bool
 is_in_line b = not (b == 10)
 
@@ -81,6 +87,7 @@ unescaped at false (b ∷ bs) =
 abbrev pub Read : Type 0
 Read = Result (Token × ℕ) LexError
 
+-- letters as the word that they are, else as a name
 abbrev pub named_as : List ℕ → Option AWord → Token
 named_as letters None = Name letters
 named_as letters (Some w) = Word w
@@ -93,14 +100,17 @@ named letters = named_as letters (word_of letters)
 abbrev pub number_of : List ℕ → Option ℕ
 number_of digits = if nat_lt (digits_value 10 digits) (2 ^ 63) then Some (digits_value 10 digits) else None
 
+-- digits as a number, or that it is too wide
 abbrev pub numbered : ℕ → ℕ → Option ℕ → Read
 numbered at end None = Err (WideNumber at)
 numbered at end (Some n) = Ok (Number (pos n), end)
 
+-- a text up to its closing quote, or that there is none
 abbrev pub quoted_to : ℕ → List ℕ → Option ℕ → Read
 quoted_to at behind None = Err (OpenText at)
 quoted_to at behind (Some end) = unescaped (at + 1) false (take (end - (at + 1)) behind) >>= (λ text. Ok (Quoted text, end + 1))
 
+-- a sign, or that a byte begins none
 abbrev pub signed : ℕ → Option ASymbol → Read
 signed at None = Err (BadChar at)
 signed at (Some s) = Ok (Symbol s, at + length (symbol_text s))
@@ -135,9 +145,11 @@ token_at at [] = Err (BadChar at)
 token_at at (b ∷ bs) = begun_at at b (b ∷ bs)
 
 -- ---- all of a text
+-- a token that is kept
 abbrev pub as_some : Token × ℕ → Result (Option Token × ℕ) LexError
 as_some t = Ok (Some t.0, t.1)
 
+-- what is passed at a place: a blank, a comment, or a token
 abbrev pub passed_at : ℕ → ℕ → List ℕ → Result (Option Token × ℕ) LexError
 passed_at at first bs =
     if is_separator first then Ok (None, at + 1)
@@ -149,6 +161,7 @@ unfoldable pub piece_at : ℕ → List ℕ → Result (Option Token × ℕ) LexE
 piece_at at [] = Err (BadChar at)
 piece_at at (b ∷ bs) = passed_at at b (b ∷ bs)
 
+-- the token with its place, where there is one
 abbrev pub kept_at : ℕ → Option Token → List (Token × ℕ)
 kept_at at None = []
 kept_at at (Some t) = (t, at) ∷ []

@@ -143,7 +143,9 @@ pub fn word_text(word: Word) -> &'static [u8]
 
 /// The characters of a sign.
 pub fn symbol_text(symbol: Symbol) -> &'static [u8]
+    // The sign's text.
     ensures value { result.now ≡ symbol_text symbol }
+    // It isn't empty.
     ensures some { 0 < length result.now }
 {
     match symbol {
@@ -210,7 +212,9 @@ pub fn word_of(letters: &[u8]) -> Option<Word>
 /// The longest sign that the bytes begin with, if there is one.
 #[tactic(auto, unfolding(crate::specs::Spellings::symbol_of))]
 pub fn symbol_of(bytes: &[u8]) -> Option<Symbol>
+    // The longest sign with which the bytes begin, if there is one.
     ensures value { result ≡ symbol_of bytes.now }
+    // Its text isn't empty and no longer than the bytes.
     ensures within { IfSome result (λ s. (0 < length (symbol_text s)) × (length (symbol_text s) ≤ length bytes.now)) }
 {
     symbol_among(&SYMBOLS, bytes)

@@ -76,12 +76,19 @@ impl<R: Files<File = File> + Processes + Env + Drop> LocalTransport<R> {
 
     /// The programs of this machine, below a folder. No call of the system is made yet.
     pub fn new(rt: R, alloc: Global, folder: Text) -> LocalTransport<R>
+        // The jobs have their folders in this one.
         ensures folder { jobs_folder result ≡ folder }
+        // It doesn't tell a table.
         ensures untold { ⟦<LocalTransport<R> as Transport>⟧.table result ≡ None }
+        // It doesn't tell which requests are placed.
         ensures unplaced { ⟦<LocalTransport<R> as Transport>⟧.placed result ≡ None }
+        // It doesn't tell what has ended.
         ensures unfinished { ⟦<LocalTransport<R> as Transport>⟧.tells_finished result ≡ false }
+        // It was asked for nothing.
         ensures asked { result.asked ≡ 0 }
+        // No call has failed.
         ensures faults { result.faults ≡ 0 }
+        // No task has failed.
         ensures failure { result.failure ≡ None }
     {
         LocalTransport {

@@ -30,6 +30,7 @@ pub data Advanced : Type 0 where
 
 -- ---- frames, the innermost first
 
+-- whether a frame stands at the end of its block
 abbrev pub is_done : Blocks → Frame → Bool
 is_done bs f = nat_le (length (block_of (slice_get bs f.block))) f.next
 
@@ -39,9 +40,11 @@ popped bs [] = []
 popped bs (f ∷ []) = f ∷ []
 popped bs (f ∷ (g ∷ fs)) = if is_done bs f then popped bs (g ∷ fs) else f ∷ (g ∷ fs)
 
+-- a frame at the next instruction of its block
 abbrev pub past : Frame → Frame
 past f = record { block = f.block; next = suc f.next }
 
+-- a frame at the first instruction of a block
 abbrev pub at_head : ℕ → Frame
 at_head block = record { block = block; next = 0 }
 
@@ -64,10 +67,12 @@ abbrev pub after_arms : ℕ → List Arm → ℕ
 after_arms n [] = n
 after_arms n (a ∷ rest) = after_arms (n + length (blocks (out-Arm a).block)) rest
 
+-- the number of an `else` block, where there is one
 abbrev pub other_number : ℕ → Option Block → Option ℕ
 other_number n None = None
 other_number n (Some b) = Some n
 
+-- the frames once a block is entered, or as they were
 abbrev pub entered : Option ℕ → List Frame → List Frame
 entered None fs = fs
 entered (Some block) fs = at_head block ∷ fs
@@ -79,10 +84,12 @@ module _ (library : List Definition) (k : Chain) (depth : ℕ) (env : Env) (c : 
   abbrev pub at_frames : List Frame → Checkpoint
   at_frames fs = record { frames = reverse fs; ctx = c.ctx; awaiting = c.awaiting; calls = c.calls; outputs = c.outputs }
 
+  -- where an `if` leads: into the block that was picked, past it, or to an exception
   abbrev pub chosen : Outcome (Option ℕ) → List Frame → Advanced
   chosen (Faults r) fs = ends (Excepted r) c.outputs
   chosen (Gives block) fs = goes (at_frames (entered block fs))
 
+  -- where a `while` leads: into its block as a turn of the loop, past it, or to an exception
   abbrev pub turned : Outcome Bool → (inside outside : List Frame) → Advanced
   turned (Faults r) inside outside = ends (Excepted r) c.outputs
   turned (Gives true) inside outside = loops (at_frames inside)
@@ -95,6 +102,7 @@ module _ (library : List Definition) (k : Chain) (depth : ℕ) (env : Env) (c : 
   after_step (makes ctx outputs (x ∷ xs)) fs =
       submits (record { frames = reverse fs; ctx = ctx; awaiting = c.awaiting; calls = c.calls; outputs = outputs }) (x ∷ xs)
 
+  -- what one instruction does in an advance, at its frame and those around it
   abbrev pub done : Blocks → Instr-F Instr Arm Block → Frame → List Frame → Advanced
   done bs (Instr-F.Step s) f fs =
       after_step (statements c.calls (nat_le 16 depth) (takes_of library) (kinds_of k.head.outputs) s.stmts
@@ -109,6 +117,7 @@ module _ (library : List Definition) (k : Chain) (depth : ℕ) (env : Env) (c : 
   does bs None f fs = ends (Finished 0) c.outputs
   does bs (Some i) f fs = done bs (out-Instr i) f fs
 
+  -- one advance at the innermost frame that isn't at its end; without one the chain has finished
   abbrev pub at_innermost : Blocks → List Frame → Advanced
   at_innermost bs [] = ends (Finished 0) c.outputs
   at_innermost bs (f ∷ fs) = does bs (slice_get (block_of (slice_get bs f.block)) f.next) f fs

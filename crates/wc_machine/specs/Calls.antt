@@ -35,11 +35,13 @@ abbrev pub kind_named : Option Definition → ProcessKind
 kind_named None = kind.Function
 kind_named (Some d) = kind_of_definition d
 
+-- the type of the link of a call, by what is called
 abbrev pub call_link : ProcessKind → LinkType
 call_link kind.Function = link.CallCalc
 call_link kind.Job = link.CallCalc
 call_link kind.Chain = link.CallWork
 
+-- the names with caching on of a library with which a process was submitted
 abbrev pub caching_of : Option Known → List (List ℕ)
 caching_of None = []
 caching_of (Some k) = k.1
@@ -49,6 +51,7 @@ abbrev pub caching_in : List Known → ℕ → List (List ℕ)
 caching_in libraries zero = []
 caching_in libraries (suc place) = caching_of (slice_get libraries place)
 
+-- the arguments of a call by port
 abbrev pub Arguments : Type 0
 Arguments = List (List ℕ × Argument)
 
@@ -67,6 +70,7 @@ argument_links type next pid ((port, plain v) ∷ rest) =
     change.Link (record { source = next; target = pid; link = type; label = port }) ∷ argument_links type (suc next) pid rest
 
 module _ (w : World) (r : ProcessRecord) where
+  -- the kind of process that a call makes
   abbrev pub kind_of_callee : Call → ProcessKind
   kind_of_callee c = kind_named (definition_in w.libraries r.library c.definition)
 
@@ -89,19 +93,23 @@ module _ (w : World) (r : ProcessRecord) where
       ∷ (argument_links (input_link (kind_of_callee c)) next (called_number next c) c.args
       ++ change.Link (record { source = r.node; target = called_number next c; link = call_link (kind_of_callee c); label = c.label }) ∷ []))
 
+  -- the changes of calls one after another, which make nodes from this number on
   abbrev pub calls_changes : ℕ → List Call → List Change
   calls_changes next [] = []
   calls_changes next (c ∷ cs) = call_changes next c ++ calls_changes (suc (called_number next c)) cs
 
+  -- what is awaited of calls one after another, each under its key
   abbrev pub awaits : ℕ → List Call → List Await
   awaits next [] = []
   awaits next (c ∷ cs) = record { key = c.key; append = c.append; pid = called_number next c } ∷ awaits (suc (called_number next c)) cs
 
   -- ---- what the chain is from now on
 
+  -- the change that sets a chain's state, fuel and part
   abbrev pub chain_set : ProcessState → ℕ → Part → Change
   chain_set s fuel p = change.Set (record { pid = r.node; state = s; paused = false; cached_from = 0; fuel = fuel; code = None; part = p })
 
+  -- whether a required port has no output
   abbrev pub lacks : List Port → List (Label × ℕ) → Bool
   lacks [] outputs = false
   lacks (p ∷ ps) outputs = (not p.optional && is_none (lookup p.name.text outputs)) || lacks ps outputs
@@ -111,6 +119,7 @@ module _ (w : World) (r : ProcessRecord) where
   judged ports (state.Finished n) outputs = state.Finished (if (n == 0) && lacks ports outputs then 11 else n)
   judged ports s outputs = s
 
+  -- the links that return a chain's outputs
   abbrev pub returns : List (Label × ℕ) → List Change
   returns [] = []
   returns (o ∷ os) = change.Link (record { source = r.node; target = o.1; link = link.Return; label = o.0 }) ∷ returns os
@@ -120,9 +129,11 @@ module _ (w : World) (r : ProcessRecord) where
   kept_outputs (state.Finished n) outputs = returns outputs
   kept_outputs s outputs = []
 
+  -- a checkpoint that awaits these and has made so many calls
   abbrev pub with_awaits : Checkpoint → List Await → ℕ → Checkpoint
   with_awaits c waited calls = record { frames = c.frames; ctx = c.ctx; awaiting = waited; calls = calls; outputs = c.outputs }
 
+  -- the changes of what an advance of a work chain comes to: it goes on, turns a loop, submits calls or ends
   abbrev pub advanced : List Port → Advanced → List Change
   advanced ports (goes c) = chain_set state.Running r.fuel (part.Chain c) ∷ []
   advanced ports (loops c) = chain_set state.Running (saturated (r.fuel + 1)) (part.Chain c) ∷ []
@@ -133,6 +144,7 @@ module _ (w : World) (r : ProcessRecord) where
 
 -- ---- binding
 
+-- the processes that a key's list holds
 abbrev pub children_at : Option CtxRef → List ℕ
 children_at (Some (held.Many pids)) = pids
 children_at _ = []
@@ -141,13 +153,16 @@ children_at _ = []
 abbrev pub joined : Bool → Option CtxRef → ℕ → CtxRef
 joined append before pid = if append then held.Many (children_at before ++ pid ∷ []) else held.One pid
 
+-- a context once the awaited processes are bound, in their order
 abbrev pub bound_in : Pairs → List Await → Pairs
 bound_in ctx [] = ctx
 bound_in ctx (a ∷ rest) = bound_in (with_set ctx a.key (joined a.append (found_at ctx a.key) a.pid)) rest
 
+-- a checkpoint once all that it awaits is bound to its keys
 abbrev pub bound : Checkpoint → Checkpoint
 bound c = record { frames = c.frames; ctx = bound_in c.ctx c.awaiting; awaiting = []; calls = c.calls; outputs = c.outputs }
 
+-- the fuel that a record keeps, 0 where there is none
 abbrev pub fuel_at : Option ProcessRecord → ℕ
 fuel_at None = 0
 fuel_at (Some r) = r.fuel

@@ -19,6 +19,7 @@ use Rattle.wc_world.specs.Records.{find_record, has_ended, is_calculation}
 use Rattle.wc_world.specs.Fits.{has_output}
 use Rattle.wc_machine.specs.Recorded.{Contents, its_definition, recorded_inputs, recorded_outputs, retrieved_folder, result_with}
 
+-- the outcome of a killed process: no output
 abbrev pub killed_outcome : Parsed
 killed_outcome = record { state = Killed; outputs = [] }
 

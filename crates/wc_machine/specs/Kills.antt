@@ -11,12 +11,14 @@ use Rattle.wc_world.specs.World.{World}
 use Rattle.wc_world.specs.Records.{find_record, has_ended, is_call_from}
 use Rattle.wc_machine.specs.Tasks.{saturated}
 
+-- what a part awaits; of a chain alone there is something
 abbrev pub awaits_of : Part → List Await
 awaits_of part.Fresh = []
 awaits_of (part.Chain c) = c.awaiting
 awaits_of (part.Job j) = []
 awaits_of part.Over = []
 
+-- the fuel of what is awaited, and one more for each
 abbrev pub awaited_fuel : (ℕ → ℕ) → List Await → ℕ
 awaited_fuel fuel [] = 0
 awaited_fuel fuel (a ∷ rest) = suc (fuel a.pid) + awaited_fuel fuel rest
@@ -30,6 +32,7 @@ fuel_after (suc levels) w (Some r) =
     if has_ended r.state then r.fuel
     else saturated (r.fuel + awaited_fuel (λ pid. fuel_after levels w (find_record pid w.records)) (awaits_of r.part))
 
+-- the change that sets a process to Killed, with its fuel
 abbrev pub killed : ProcessRecord → ℕ → Change
 killed r fuel = change.Set (record { pid = r.node; state = state.Killed; paused = false; cached_from = 0; fuel = fuel; code = None; part = part.Over })
 

@@ -35,11 +35,13 @@ pub record HasPlaces (w : World) (last : ℕ) : Type 0 where
 
 -- ---- submissions
 
+-- The law: a world that accepted changes made accepts the changes of a submission, where there is room for them
 abbrev pub SubmissionsAreAccepted : Type 0
 SubmissionsAreAccepted = (w : World) (library : List Definition) (caching : List (List ℕ)) (name : List ℕ) (inputs : Values) (cs : List Change)
     → IsReached w → Submits w library caching name inputs cs → HasPlaces w (submitted_number w inputs)
     → IsAccepted w cs
 
+-- The law: the world after a submission continues the one before
 abbrev pub SubmissionsContinue : Type 0
 SubmissionsContinue = (w : World) (library : List Definition) (caching : List (List ℕ)) (name : List ℕ) (inputs : Values) (cs : List Change)
     → IsReached w → Submits w library caching name inputs cs → Continues w (applied w cs)
@@ -57,6 +59,7 @@ pub record IsCreatedCalculation (w : World) (r : ProcessRecord) : Type 0 where
 abbrev pub calculated_for : World → ProcessRecord → Function → Parsed
 calculated_for w r f = calculated f (recorded_inputs w r.node)
 
+-- The law: a world accepts the changes by which a created function ends, where there is room for them
 abbrev pub FunctionsAreAccepted : Type 0
 FunctionsAreAccepted = (w : World) (r : ProcessRecord) (f : Function) → IsCreatedCalculation w r → its_definition w r ≡ Some (definition.Function f)
     → HasPlaces w (length w.nodes + length (calculated_for w r f).outputs) → IsAccepted w (ends w r (calculated_for w r f) None None)
@@ -68,6 +71,7 @@ FunctionsContinue = (w : World) (r : ProcessRecord) (f : Function) → IsCreated
 
 -- ---- the beginning
 
+-- The law: the empty world is sound
 abbrev pub EmptyIsSound : Type 0
 EmptyIsSound = IsSound empty
 

@@ -16,6 +16,7 @@ use Rattle.wc_machine.specs.Readiness.{is_ready}
 use Rattle.wc_machine.specs.Submissions.{Submits}
 use Rattle.wc_machine.specs.Turns.{TurnGives}
 
+-- What may happen to a world: a submission, a turn of a process at a moment with what the transport answered, a pause, a play, a kill
 pub data Event : Type 0 where
   -- a definition of a library is submitted with inputs; the names with caching on ascend
   submit : (library : List Definition) (caching : List (List ℕ)) (name : List ℕ) (inputs : Values) → Event
@@ -27,6 +28,7 @@ pub data Event : Type 0 where
 
 -- ---- the pause mark
 
+-- the change that sets a process's pause mark and its part, and leaves its state and its fuel
 abbrev pub marked : ProcessRecord → Bool → Part → Change
 marked r paused p = change.Set (record { pid = r.node; state = r.state; paused = paused; cached_from = 0; fuel = r.fuel; code = None; part = p })
 
@@ -37,9 +39,11 @@ renewed (part.Chain c) = part.Chain c
 renewed (part.Job j) = part.Job (record { task = j.task; fails = 0; due = 0 })
 renewed part.Over = part.Over
 
+-- the changes of a pause: the mark, or none where it is there
 abbrev pub pause_changes : ProcessRecord → List Change
 pause_changes r = if r.paused then [] else marked r true r.part ∷ []
 
+-- the changes of a play: the mark is taken away and a job's failures are forgotten, or none where it isn't paused
 abbrev pub play_changes : ProcessRecord → List Change
 play_changes r = if r.paused then marked r false (renewed r.part) ∷ [] else []
 

@@ -20,11 +20,13 @@ pub data Need : Type 0 where
   nothing : Need
   performs : Task → Request → Need
 
+-- what a task asks: the request, or nothing where there is none
 abbrev pub with_request : Task → Option (Outcome Request) → Need
 with_request t None = nothing
 with_request t (Some (Gives q)) = performs t q
 with_request t (Some (Faults reason)) = nothing
 
+-- what a process asks of the transport: a waiting job its task's question, any other nothing
 abbrev pub need_at : ProcessState → Part → Option (Outcome Request) → Need
 need_at state.Waiting (part.Job j) asked = with_request j.task asked
 need_at _ _ asked = nothing
@@ -51,6 +53,7 @@ fits_task task.Submit (answer.Result r) = false
 fits_task task.Update (answer.Result r) = false
 fits_task task.Retrieve (answer.Result r) = true
 
+-- whether an answer is that nothing was asked
 abbrev pub is_nothing : TaskAnswer → Bool
 is_nothing answer.Nothing = true
 is_nothing answer.Failed = false

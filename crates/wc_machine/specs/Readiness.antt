@@ -11,6 +11,7 @@ use Rattle.wc_world.specs.World.{World}
 abbrev pub is_through : World → ℕ → Part → Bool
 is_through w now p = records.is_through w.records now p
 
+-- whether a process in this state, with this part, may take a turn at a moment
 abbrev pub may_go : World → ℕ → ProcessState → Part → Bool
 may_go w now s p = records.may_go w.records now s p
 

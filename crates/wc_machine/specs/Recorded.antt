@@ -22,9 +22,11 @@ pub use Rattle.wc_world.specs.Keys.{its_definition, recorded_inputs}
 abbrev pub recorded_outputs : World → ℕ → Values
 recorded_outputs w pid = values_alone (outputs_of w pid)
 
+-- files by name
 abbrev pub Contents : Type 0
 Contents = List (List ℕ × List ℕ)
 
+-- the files of a value that is a folder, seen one level deep
 abbrev pub folder_seen : Value-F Value → Option Contents
 folder_seen (Value-F.Int n) = None
 folder_seen (Value-F.Bool b) = None
@@ -33,6 +35,7 @@ folder_seen (Value-F.List vs) = None
 folder_seen (Value-F.Dict ps) = None
 folder_seen (Value-F.Folder fs) = Some fs
 
+-- the files of a value that is a folder
 abbrev pub folder_of : Value → Option Contents
 folder_of v = folder_seen (out-Value v)
 
@@ -40,6 +43,7 @@ folder_of v = folder_seen (out-Value v)
 abbrev pub retrieved_folder : World → ℕ → Option Contents
 retrieved_folder w pid = option_and_then folder_of (lookup (codes "retrieved") (recorded_outputs w pid))
 
+-- the result of a job with this exit code and these files
 abbrev pub result_with : ℤ → Contents → JobResult
 result_with code files = record { code = code; files = files }
 
@@ -50,6 +54,7 @@ request_by (Some (definition.Function f)) inputs = None
 request_by (Some (definition.Job j)) inputs = Some (request j inputs)
 request_by (Some (definition.Chain c)) inputs = None
 
+-- the request that a job's definition makes of its recorded inputs
 abbrev pub recorded_request : World → ProcessRecord → Option (Outcome Request)
 recorded_request w r = request_by (its_definition w r) (recorded_inputs w r.node)
 

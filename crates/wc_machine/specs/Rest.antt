@@ -56,9 +56,11 @@ meant w r table kills n =
 abbrev pub bound_calls : Checkpoint → ℕ
 bound_calls c = c.calls - length c.awaiting
 
+-- a called process's tree as a call that asked for nothing
 abbrev pub as_call : Label × Tree → Label × Replayed
 as_call b = (b.0, record { tree = b.1; asked = [] })
 
+-- one more value in front of values, where all are there
 abbrev pub and_value : Label → Option Value → Option Values → Option Values
 and_value label None rest = None
 and_value label (Some v) None = None
@@ -73,17 +75,21 @@ set_values w (o ∷ os) = and_value o.0 (value_of w.nodes o.1) (set_values w os)
 abbrev pub without_number : Label × NodeValue → Label × NodeValue
 without_number e = (e.0, record { node = 0; value = e.1.value })
 
+-- a child without the numbers of its nodes
 abbrev pub child_alone : Child → Child
 child_alone c = record { node = 0; state = c.state; outputs = map without_number c.outputs }
 
+-- what a key holds, without the numbers of nodes
 abbrev pub item_alone : Item → Item
 item_alone (item.Plain v) = item.Plain v
 item_alone (item.One c) = item.One (child_alone c)
 item_alone (item.Many cs) = item.Many (map child_alone cs)
 
+-- an environment without the numbers of nodes
 abbrev pub env_alone : Env → Env
 env_alone env = record { inputs = map without_number env.inputs; ctx = map (λ e. (e.0, item_alone e.1)) env.ctx }
 
+-- how far a run has come, from its environment, outputs and calls, where all three are there
 abbrev pub progress_with : Option Env → Option Values → Option (List (Label × Tree)) → Option Progress
 progress_with None outputs calls = None
 progress_with (Some env) None calls = None
@@ -98,10 +104,12 @@ bound_trees w r c = branches (recorded_tree w) r.node (take (bound_calls c) (cal
 abbrev pub progress_of : World → ProcessRecord → Checkpoint → Option Progress
 progress_of w r c = progress_with (option_map env_alone (environment_at w r.node)) (set_values w c.outputs) (bound_trees w r c)
 
+-- the call of an awaited process, by its record
 abbrev pub planned_of : World → Await → Option ProcessRecord → Option Planned
 planned_of w a None = None
 planned_of w a (Some r) = Some (record { callee = r.definition; key = a.key; append = a.append; inputs = recorded_inputs w r.node })
 
+-- one more call in front of calls, where all are there
 abbrev pub and_planned : Option Planned → Option (List Planned) → Option (List Planned)
 and_planned None rest = None
 and_planned (Some p) None = None
@@ -117,12 +125,15 @@ abbrev pub gone_on : Option ℕ → ProcessRecord → Chain → Checkpoint → A
 gone_on stop r k c a n planned e = ended stop r.definition k.head.outputs (make_calls planned a n e >-> (λ m f. run (left (blocks k.outline) c.frames) a m f))
 
 module _ (w : World) (table : Table) (cuts : Kills) (stop : Option ℕ) (n : ℕ) (r : ProcessRecord) where
+  -- what remains of a chain's run: what it awaits, and then the outline from its checkpoint on
   abbrev pub chain_rest : Checkpoint → Option Definition → Option (List Planned) → Option Progress → Option Answer
   chain_rest c (Some (definition.Chain k)) (Some planned) (Some e) =
       option_map (λ library. gone_on stop r k c (within k.head.outputs stop (around (levels_of r) library table cuts)) n planned e)
       (library_at w.libraries r.library)
   chain_rest c _ _ _ = None
 
+  -- what remains of a live process, by its part: of a chain that has begun the rest of its run, of one that hasn't begun and of a job the whole meaning,
+  -- of one that is over nothing
   abbrev pub part_rest : Part → Option Answer
   part_rest (part.Chain c) = chain_rest c (its_definition w r) (awaited w c.awaiting) (progress_of w r c)
   part_rest part.Fresh = meant w r table (with_stop cuts stop) n
@@ -135,6 +146,7 @@ module _ (w : World) (table : Table) (cuts : Kills) (stop : Option ℕ) (n : ℕ
 
 -- ---- on track
 
+-- whether a part awaits the process with a number
 abbrev pub is_awaited : Part → ℕ → Bool
 is_awaited (part.Chain c) pid = list_any (λ a. a.pid == pid) c.awaiting
 is_awaited part.Fresh pid = false

@@ -20,30 +20,37 @@ pub data Origin : Type 0 where
   own : JobResult → Origin
   source : ℕ → Origin
 
+-- a result of its own, where the folder that was brought back is there
 abbrev pub with_folder : ℤ → Option Contents → Origin
 with_folder code None = nowhere
 with_folder code (Some files) = own (result_with code files)
 
+-- a result that comes from a source, where there is one
 abbrev pub from_source : Option ℕ → Origin
 from_source None = nowhere
 from_source (Some pid) = source pid
 
+-- where a job's result comes from: its own where it has an exit code, else its source's
 abbrev pub by_code : World → ProcessRecord → Option ℤ → Origin
 by_code w r None = if is_killed r.state then nowhere else from_source r.cached_from
 by_code w r (Some code) = with_folder code (retrieved_folder w r.node)
 
+-- where a result comes from, by the kind of process: only jobs have one
 abbrev pub by_kind : World → ProcessRecord → ProcessKind → Origin
 by_kind w r kind.Function = nowhere
 by_kind w r kind.Job = by_code w r r.code
 by_kind w r kind.Chain = nowhere
 
+-- where a result comes from, by the record, if there is one
 abbrev pub by_record : World → Option ProcessRecord → Origin
 by_record w None = nowhere
 by_record w (Some r) = by_kind w r r.kind
 
+-- where the recorded result of a process comes from: itself, the process whose outcome it took, or nowhere
 abbrev pub origin : World → ℕ → Origin
 origin w pid = by_record w (find_record pid w.records)
 
+-- the result itself, by where it comes from
 abbrev pub by_origin : (ℕ → Option JobResult) → Origin → Option JobResult
 by_origin f nowhere = None
 by_origin f (own result) = Some result
@@ -68,6 +75,7 @@ table_of w pid path q = option_and_then (result_of w) (follow w.links pid path)
 abbrev pub request_at : World → ℕ → Option (Outcome Request)
 request_at w pid = option_and_then (recorded_request w) (find_record pid w.records)
 
+-- whether a job makes this request
 abbrev pub asks : Request → Option (Outcome Request) → Bool
 asks q None = false
 asks q (Some (Gives r)) = request_eq r q
@@ -78,6 +86,7 @@ abbrev pub rows_among : (ℕ → Option (Outcome Request)) → (ℕ → Option J
 rows_among asked given [] q = None
 rows_among asked given (a ∷ rest) q = if asks q (asked a) then or_else (given a) (rows_among asked given rest q) else rows_among asked given rest q
 
+-- the results that a world records, by request
 abbrev pub rows_of : World → List ℕ → Request → Option JobResult
 rows_of w = rows_among (request_at w) (result_of w)
 

@@ -36,6 +36,7 @@ use Rattle.wc_machine.specs.Rest.{GivesTree, meant, is_awaited, bound_calls, IsO
 
 -- ---- links
 
+-- whether a link is one of data provenance: an input of a calculation, or what it created
 abbrev pub is_provenance : LinkType → Bool
 is_provenance link.InputCalc = true
 is_provenance link.InputWork = false
@@ -50,10 +51,12 @@ GoesUp l = is_provenance l.link ≡ true → l.source < l.target
 
 -- ---- records
 
+-- the definition is there and none of the recorded inputs is bad for it
 abbrev pub TakesItsInputs : World → ProcessRecord → Option Definition → Type 0
 TakesItsInputs w r None = ⊥
 TakesItsInputs w r (Some d) = bad_input (head_of d).inputs (recorded_inputs w r.node) ≡ None
 
+-- whether a part is a job's
 abbrev pub is_job_part : Part → Bool
 is_job_part part.Fresh = false
 is_job_part (part.Chain c) = false
@@ -65,12 +68,14 @@ abbrev pub AllDiffer : List ℕ → Type 0
 AllDiffer [] = Unit {0}
 AllDiffer (n ∷ ns) = (list_any (λ m. m == n) ns ≡ false) × AllDiffer ns
 
+-- the numbers of the processes that a part awaits
 abbrev pub awaited_numbers : Part → List ℕ
 awaited_numbers part.Fresh = []
 awaited_numbers (part.Chain c) = map (λ a. a.pid) c.awaiting
 awaited_numbers (part.Job j) = []
 awaited_numbers part.Over = []
 
+-- the outputs in a checkpoint ascend by label
 abbrev pub OutputsAscend : Part → Type 0
 OutputsAscend part.Fresh = Unit {0}
 OutputsAscend (part.Chain c) = Ascends c.outputs
@@ -134,6 +139,7 @@ AwaitsLastCalls w r part.Over = Unit {0}
 abbrev pub IsEndedCall : World → ProcessRecord → ℕ → Type 0
 IsEndedCall w r pid = (has_called w.links r.node pid ≡ true) × ((q : ProcessRecord) × (find_record pid w.records ≡ Some q) × (has_ended q.state ≡ true))
 
+-- the processes that a key holds are calls of the chain that have ended
 abbrev pub HoldsEnded : World → ProcessRecord → CtxRef → Type 0
 HoldsEnded w r (held.Plain v) = Unit {0}
 HoldsEnded w r (held.One pid) = IsEndedCall w r pid
@@ -145,6 +151,7 @@ IsKnownNode w r id =
     (list_any (λ l. is_input_of r.node l && (l.source == id)) w.links ≡ true)
     ⊎ ((pid : ℕ) × IsEndedCall w r pid × (list_any (λ l. is_output_of pid l && (l.target == id)) w.links ≡ true))
 
+-- what a checkpoint's context and outputs name is known: calls that have ended, and nodes
 abbrev pub NamesKnown : World → ProcessRecord → Part → Type 0
 NamesKnown w r part.Fresh = Unit {0}
 NamesKnown w r (part.Chain c) = All (λ e. HoldsEnded w r e.1) c.ctx × All (λ o. IsKnownNode w r o.1) c.outputs

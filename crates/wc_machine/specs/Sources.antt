@@ -53,5 +53,6 @@ KeepsRule w r =
     (is_calculation r.kind ≡ true → r.caching ≡ true → r.started ≢ 0 → IsLowestSource w r.started r r.cached_from)
     × (r.caching ≡ false → r.cached_from ≡ None) × (r.started ≡ 0 → r.cached_from ≡ None) × (is_calculation r.kind ≡ false → r.cached_from ≡ None)
 
+-- A calculation with caching on takes the lowest valid source for the batch in which it starts that has an equal key, and none where there is none
 abbrev pub KeepsCacheRule : World → Type 0
 KeepsCacheRule w = All (KeepsRule w) w.records

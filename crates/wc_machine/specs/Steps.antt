@@ -37,6 +37,7 @@ pub data Argument : Type 0 where
   node : NodeValue → Argument
   plain : Value → Argument
 
+-- the value of an argument, be it a node or plain
 abbrev pub value_of : Argument → Value
 value_of (node n) = n.value
 value_of (plain v) = v
@@ -57,11 +58,13 @@ values_in (a ∷ rest) = (a.0, value_of a.1) ∷ values_in rest
 
 -- ---- nodes that are named
 
+-- the output of a child that is asked for, with its node; status and `ok` are no nodes
 abbrev pub output_node : ChildPart → Child → Outcome NodeValue
 output_node (asked.Outputs name) c = found NoOutput (lookup name.text c.outputs)
 output_node asked.Status c = Faults WrongKind
 output_node asked.Ok c = Faults WrongKind
 
+-- the node that an expression stands for where it is an input or an output of a child alone
 abbrev pub node_in : Form-F Form Expr → Env → Option (Outcome NodeValue)
 node_in (Form-F.Input at name) env = Some (found MissingKey (lookup name.text env.inputs))
 node_in (Form-F.Child at name None (asked.Outputs l)) env = Some (child name.text env >>= output_node (asked.Outputs l))
@@ -76,10 +79,12 @@ node_in _ env = None
 abbrev pub named_node : Expr → Env → Option (Outcome NodeValue)
 named_node x env = node_in (out-Form x.form) env
 
+-- the node, or a wrong kind where there is none
 abbrev pub or_wrong : Option (Outcome NodeValue) → Outcome NodeValue
 or_wrong None = Faults WrongKind
 or_wrong (Some n) = n
 
+-- a node whose value is of a port's kind, else a wrong kind
 abbrev pub fitting_node : Option Kind → NodeValue → Outcome NodeValue
 fitting_node port n = if fits_port port n.value then Gives n else Faults WrongKind
 
@@ -87,6 +92,7 @@ fitting_node port n = if fits_port port n.value then Gives n else Faults WrongKi
 abbrev pub output : Option Kind → Expr → Env → Outcome NodeValue
 output port x env = or_wrong (named_node x env) >>= fitting_node port
 
+-- an argument: the node where the expression is one, else its value
 abbrev pub or_plain : Option (Outcome NodeValue) → Outcome Value → Outcome Argument
 or_plain None v = v >>= (λ x. Gives (plain x))
 or_plain (Some n) v = n >>= (λ x. Gives (node x))
@@ -112,20 +118,25 @@ pub data Stepped : Type 0 where
   stops : ProcessState → List (Label × ℕ) → Stepped
   makes : Pairs → List (Label × ℕ) → List Call → Stepped
 
+-- what goes on with a value, or a step that stops with an exception
 abbrev pub or_stops : {A : Type 0} → Outcome A → Noted → (A → Stepped) → Stepped
 or_stops (Gives v) s f = f v
 or_stops (Faults r) s f = stops (Excepted r) s.outputs
 
+-- an exit: with 0 the step goes on to its calls, with another status the chain ends
 abbrev pub exits : ℕ → Noted → Stepped
 exits zero s = makes s.ctx s.outputs s.calls
 exits (suc n) s = stops (Finished (suc n)) s.outputs
 
+-- what a step has noted, with a key set to a value
 abbrev pub with_plain : List ℕ → Value → Noted → Noted
 with_plain key v s = record { env = with_key key (Plain v) s.env; ctx = with_set s.ctx key (held.Plain v); outputs = s.outputs; calls = s.calls }
 
+-- what a step has noted, with an output set to a node
 abbrev pub with_output : Label → ℕ → Noted → Noted
 with_output name id s = record { env = s.env; ctx = s.ctx; outputs = put name id s.outputs; calls = s.calls }
 
+-- what a step has noted, with one more call
 abbrev pub with_call : Call → Noted → Noted
 with_call c s = record { env = s.env; ctx = s.ctx; outputs = s.outputs; calls = s.calls ++ c ∷ [] }
 
@@ -135,12 +146,15 @@ module _ (before : ℕ) (deep : Bool) (takes : List ℕ → Values → Bool) (ki
   abbrev pub planned : CallStmt → ℕ → List (List ℕ × Argument) → Call
   planned c number args = record { definition = c.callee.text; label = label c.key.text number; key = c.key.text; append = c.append; args = args }
 
+  -- a call of a step with its arguments, or why there is none: too deep, or a bad input
   abbrev pub collected : CallStmt → Noted → Outcome Call
   collected c s =
       if deep then Faults Depth
       else (arguments c.args s.env [] >>= (λ args.
       if takes c.callee.text (values_in args) then Gives (planned c (before + length s.calls + 1) args) else Faults BadInput))
 
+  -- what the statements of a step come to: keys and outputs that are set, and the calls that are collected, with the nodes that they name; or the state
+  -- with which the chain stops
   abbrev pub statements : List Stmt → Noted → Stepped
   statements [] s = makes s.ctx s.outputs s.calls
   statements (stmt.Ctx at key x ∷ ss) s = or_stops (val x s.env) s (λ v. statements ss (with_plain key.text v s))

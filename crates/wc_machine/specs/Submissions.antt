@@ -19,6 +19,7 @@ use Rattle.wc_world.specs.World.{World}
 use Rattle.wc_world.specs.Fits.{names_ascend}
 use Rattle.wc_world.specs.Records.{kind_of_definition}
 
+-- the change that adds the node of an input
 abbrev pub data_change : List ℕ × Value → Change
 data_change i = change.Data i.1
 

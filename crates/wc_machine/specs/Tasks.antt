@@ -15,6 +15,7 @@ pub record Moved : Type 0 where
 abbrev pub saturated : ℕ → ℕ
 saturated n = min n (2 ^ 64 - 1)
 
+-- a job goes to a task, with no failure and due at once
 abbrev pub goes_to : Task → Option Moved
 goes_to t = Some (record { part = record { task = t; fails = 0; due = 0 }; paused = false })
 

@@ -38,6 +38,7 @@ use Rattle.wc_machine.specs.Tasks.{Moved, after, saturated}
 abbrev pub job_set : ProcessRecord → JobPart → Bool → Change
 job_set r j paused = change.Set (record { pid = r.node; state = state.Waiting; paused = paused; cached_from = 0; fuel = r.fuel; code = None; part = part.Job j })
 
+-- how a job stands at first: it is to be uploaded
 abbrev pub first_task : JobPart
 first_task = record { task = task.Upload; fails = 0; due = 0 }
 

@@ -12,7 +12,9 @@ const MOST_BATCHES: u64 = 4_000_000_000;
 
 /// Whether there is room for one more batch.
 pub fn check_batch(world: &World) -> Result<(), TurnError>
+    // Where it is Ok, there is room for one more batch: at most 4,000,000,000 in all.
     ensures ok { OnOk result (world.now.world.batches + 1 ≤ 4000000000) }
+    // A refusal is that there would be too many batches.
     ensures refused { IfErr result (RefusesBatch world.now.world) }
 {
     let batches = world.batches() as u64 + 1;

@@ -13,6 +13,7 @@ abbrev pub Ascend : List (List ℕ) → Type 0
 Ascend [] = Unit {0}
 Ascend (r ∷ rs) = AllByRecursion (ComesBefore r) rs × Ascend rs
 
+-- a row is one of these
 abbrev pub IsAmong : List (List ℕ) → List ℕ → Type 0
 IsAmong [] row = ⊥
 IsAmong (r ∷ rs) row = (r ≡ row) ⊎ IsAmong rs row

@@ -35,6 +35,7 @@ abbrev pub start_of : Bool → Link → ℕ
 start_of true l = l.source
 start_of false l = l.target
 
+-- the end of a link to which a step leads: its target forward, its source backward
 abbrev pub end_of : Bool → Link → ℕ
 end_of true l = l.target
 end_of false l = l.source

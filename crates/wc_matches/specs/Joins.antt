@@ -10,6 +10,7 @@ abbrev pub Steps : Bool → List LinkType → List Link → ℕ → ℕ → Type
 Steps true types links from to = Leads types links from to
 Steps false types links from to = Leads types links to from
 
+-- Two nodes are joined by a link of one of these types in this direction, or by a walk along one or more of them
 abbrev pub IsJoinedBy : Bool → Bool → List LinkType → List Link → ℕ → ℕ → Type 0
 IsJoinedBy true forward types links from to = Reaches (Steps forward types links) from to
 IsJoinedBy false forward types links from to = Steps forward types links from to
@@ -18,6 +19,7 @@ IsJoinedBy false forward types links from to = Steps forward types links from to
 abbrev pub OpenSteps : Bool → List LinkType → List Bool → List Link → ℕ → ℕ → Type 0
 OpenSteps forward types barred links from to = Steps forward types links from to × (slice_index_or barred to false ≡ false)
 
+-- the same by steps that come to no barred node
 abbrev pub IsJoinedPast : Bool → Bool → List LinkType → List Bool → List Link → ℕ → ℕ → Type 0
 IsJoinedPast true forward types barred links from to = Reaches (OpenSteps forward types barred links) from to
 IsJoinedPast false forward types barred links from to = OpenSteps forward types barred links from to

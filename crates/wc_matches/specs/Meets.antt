@@ -54,6 +54,7 @@ int_seen (Value-F.List vs) = None
 int_seen (Value-F.Dict ps) = None
 int_seen (Value-F.Folder fs) = None
 
+-- the number of a data node that is a whole number; any other node has none
 abbrev pub int_of : NodeKind → Option ℤ
 int_of (node.Data v) = int_seen (out-Value v)
 int_of node.Calculation = None
@@ -69,6 +70,7 @@ has_field w n field.Value = option_map Number (option_and_then int_of (node_of w
 
 -- ---- comparisons
 
+-- whether two numbers compare so
 abbrev pub compares : Op → ℤ → ℤ → Bool
 compares op.Equal a b = int_eq a b
 compares op.Differs a b = not (int_eq a b)
@@ -99,6 +101,7 @@ passes w n f = option_map_or (λ has. holds f.op has f.operand) (has_field w n f
 abbrev pub is_process_kind : World → ℕ → List ℕ → Bool
 is_process_kind w n kind = option_map_or (λ r. bytes_eq kind (process_kind_text r.kind)) (find_record n w.records) false
 
+-- whether a node is of the kind that a word names: `data` or the kind of its value, `process` or the kind of the process
 abbrev pub is_node_kind : World → ℕ → List ℕ → NodeKind → Bool
 is_node_kind w n kind (node.Data v) = bytes_eq kind (codes "data") || bytes_eq kind (kind_text (kind_of v))
 is_node_kind w n kind node.Calculation = bytes_eq kind (codes "process") || is_process_kind w n kind

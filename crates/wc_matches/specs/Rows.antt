@@ -71,5 +71,6 @@ SumsAreFound = AreFirst (IsMatch store sums) 10000 ((1 ∷ 3 ∷ 4 ∷ []) ∷ (
 abbrev pub OriginsAreFound : Type 0
 OriginsAreFound = AreFirst (IsMatch store origins) 10000 ((4 ∷ 1 ∷ []) ∷ (4 ∷ 2 ∷ []) ∷ (4 ∷ 3 ∷ []) ∷ [])
 
+-- The law: of a small store, the first row of a query, and that there are more, found by hand
 abbrev pub OneOriginIsFound : Type 0
 OneOriginIsFound = AreFirst (IsMatch store origins) 1 ((4 ∷ 1 ∷ []) ∷ []) × HasMore (IsMatch store origins) ((4 ∷ 1 ∷ []) ∷ [])

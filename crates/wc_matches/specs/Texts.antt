@@ -11,6 +11,7 @@ abbrev pub row_line : List ℕ → List ℕ
 row_line [] = codes "\n"
 row_line (n ∷ ns) = decimal n ++ further_text ns ++ codes "\n"
 
+-- what is written where further rows match: ` more`, else nothing
 abbrev pub more_text : Bool → List ℕ
 more_text true = codes " more"
 more_text false = []

@@ -28,7 +28,10 @@ pub fn rows_are_found()
 
 /// What types of links, kinds and states are called in other texts is what a query reads.
 pub fn names_are_read()
+    // Names of types of links are read as these types.
     ensures types { TypesAreRead }
+    // Names of kinds as these kinds.
     ensures kinds { KindsAreRead }
+    // Names of states as these states.
     ensures states { StatesAreRead }
 {}

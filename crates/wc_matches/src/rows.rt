@@ -54,6 +54,7 @@ impl Rows {
     /// The row at a place, counted from 0.
     #[tactic(auto, using(crate::proofs::Placed::row_inside, crate::proofs::Placed::row_is, crate::proofs::Placed::rows_count))]
     pub fn row(&self, at: usize) -> &[u32]
+        // There is such a row.
         requires { at < length self.now }
         ensures { result.now ≡ slice_index_or self.now at [] }
     {

@@ -12,6 +12,7 @@ abbrev pub lesser : Option (List ℕ) → List ℕ → Option (List ℕ)
 lesser None name = Some name
 lesser (Some least) name = Some (if before name least then name else least)
 
+-- the least name, of one and those behind it
 abbrev pub least_after : Option (List ℕ) → List (List ℕ) → Option (List ℕ)
 least_after best [] = best
 least_after best (n ∷ ns) = least_after (lesser best n) ns
@@ -36,5 +37,6 @@ missing_inputs [] inputs = []
 missing_inputs (p ∷ ps) inputs =
     if not p.optional && is_none (lookup p.name.text inputs) then p.name.text ∷ missing_inputs ps inputs else missing_inputs ps inputs
 
+-- The least port, by the bytes of its name, that has an input that it doesn't take, or that is required and has none
 abbrev pub bad_input : List Port → List (List ℕ × Value) → Option (List ℕ)
 bad_input ports inputs = least (wrong_inputs ports inputs ++ missing_inputs ports inputs)

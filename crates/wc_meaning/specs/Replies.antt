@@ -36,6 +36,7 @@ reply_of library name inputs levels table kills fuel =
 
 -- ---- what a call returned, beside the reply: the same, unless memory ran out
 
+-- What a call returned is this reply, unless memory ran out
 abbrev pub Replies : Result (Option Replayed) DryError → Result (Option Replayed) DryError → Type 0
 Replies (Err OutOfMemory) r = Unit {0}
 Replies x r = x ≡ r

@@ -86,6 +86,8 @@ pub fn find_bad_input<'a>(ports: &'a [Port], inputs: &'a Fields) -> Option<&'a T
 
 /// The least of some names is one of them before which none of them stands, and there is one wherever there are names.
 pub fn least_name()
+    // The name that is given is the least.
     ensures least { (names : List (List ℕ)) → (name : List ℕ) → least names ≡ Some name → IsLeast names name }
+    // There is none only among no names.
     ensures none { (names : List (List ℕ)) → least names ≡ None → names ≡ [] }
 {}

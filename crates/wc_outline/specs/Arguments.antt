@@ -26,13 +26,16 @@ abbrev pub takes_at : Option Definition → List ℕ → Value → Bool
 takes_at None port v = false
 takes_at (Some d) port v = is_good (head_of d).inputs (port, v)
 
+-- what was gathered of arguments, with one more, and whether it fits
 abbrev pub added : List ℕ → Argument → Bool → Gathered → Gathered
 added port x fits g = record { args = put port x g.args; fit = put port fits g.fit }
 
+-- an outcome, unless there was a reason before
 abbrev pub unless : {A : Type 0} → Option Reason → Outcome A → Outcome A
 unless None o = o
 unless (Some r) o = Faults r
 
+-- what was gathered, with one more argument as it is shown
 abbrev pub with_argument : (List ℕ → Value → Bool) → List ℕ → machine.Argument → Gathered → Gathered
 with_argument takes port x g = added port (shown_argument x) (takes port (value_of x)) g
 
@@ -41,6 +44,7 @@ abbrev pub arguments_from : (List ℕ → Value → Bool) → List CallArg → E
 arguments_from takes [] env g = Gives g
 arguments_from takes (a ∷ rest) env g = or_plain (named_node a.value env) (val a.value env) >>= (λ x. arguments_from takes rest env (with_argument takes a.port.text x g))
 
+-- the arguments, where all are good, else a bad input
 abbrev pub judged : Bool → List (List ℕ × Argument) → Outcome (List (List ℕ × Argument))
 judged good args = if good then Gives args else Faults BadInput
 

@@ -25,6 +25,7 @@ mentions_key key (m ∷ ms) = is_key key m || mentions_key key ms
 abbrev pub mentions_of_form : Form → List Mention
 mentions_of_form = fold-Form (List Mention) (List Mention) form_mentions its_mentions
 
+-- what the condition of an arm mentions
 abbrev pub arm_mentions : Arm → List Mention
 arm_mentions a = mentions (out-Arm a).condition
 
@@ -35,5 +36,6 @@ level_mentions (Instr-F.If at arms other) = flat_map arm_mentions arms
 level_mentions (Instr-F.While at e b) = mentions e
 level_mentions (Instr-F.Return at n) = []
 
+-- what an instruction mentions, outside the blocks in it
 abbrev pub instr_mentions : Instr → List Mention
 instr_mentions i = level_mentions (out-Instr i)

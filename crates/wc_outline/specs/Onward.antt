@@ -24,9 +24,11 @@ abbrev pub with_value : View → Argument → stepping.Argument
 with_value v (argument.Node id) = stepping.node (record { node = id; value = v.value id })
 with_value v (argument.Plain x) = stepping.plain x
 
+-- a call with the values of the nodes that it passes
 abbrev pub with_values : View → Call → stepping.Call
 with_values v c = record { definition = c.definition; label = c.label; key = c.key; append = c.append; args = map (λ a. (a.0, with_value v a.1)) c.args }
 
+-- what an advance answered, with the values of the nodes that its calls pass
 abbrev pub seen_by : View → Advanced → machine.Advanced
 seen_by v (advanced.Goes c) = machine.goes c
 seen_by v (advanced.Loops c) = machine.loops c

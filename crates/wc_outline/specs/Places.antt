@@ -23,6 +23,7 @@ behind = map (λ r. r.now)
 abbrev pub arm_blocks : List Arm → Blocks
 arm_blocks = flat_map (λ a. blocks (out-Arm a).block)
 
+-- the blocks of an `else`, where there is one
 abbrev pub other_blocks : Option Block → Blocks
 other_blocks None = []
 other_blocks (Some b) = blocks b
@@ -42,9 +43,11 @@ pub record Standing : Type 0 where
   pub frame : Frame
   pub outer : List Frame
 
+-- where a chain stands, as contracts see it: its instruction, those in front of it, its frame and the frames around
 abbrev pub seen : Place → Standing
 seen p = record { instr = p.instr.now; front = p.front.now; frame = p.frame; outer = p.outer.now }
 
+-- the instructions in front of the one at which a frame stands
 abbrev pub front_of : Blocks → Frame → List Instr
 front_of bs f = take f.next (block_of (slice_get bs f.block))
 

@@ -28,6 +28,7 @@ abbrev pub mentioned_of : List Mention → Pairs → Pairs
 mentioned_of ms [] = []
 mentioned_of ms (e ∷ es) = if mentions_key e.0 ms then e ∷ mentioned_of ms es else mentioned_of ms es
 
+-- the keys of a context that the chain's next instruction mentions, with what they hold
 abbrev pub context_read : Chain → Checkpoint → Pairs
 context_read k c = mentioned_of (next_mentions k c) c.ctx
 

@@ -43,6 +43,7 @@ pub data Stepped : Type 0 where
   stops : ProcessState → List (Label × ℕ) → Stepped
   makes : Pairs → List (Label × ℕ) → List Call → Stepped
 
+-- what a step comes to: it stops in a state, or makes its calls
 abbrev pub stepped : Option ProcessState → Noted → Stepped
 stepped None s = makes s.ctx s.outputs s.calls
 stepped (Some state) s = stops state s.outputs
@@ -53,23 +54,29 @@ comes On s f = f s
 comes Makes s f = stepped None s
 comes (Stops state) s f = stepped (Some state) s
 
+-- what an exit comes to: with 0 the step goes on, else the chain ends with the status
 abbrev pub left_by : ℕ → Came
 left_by zero = Makes
 left_by (suc n) = Stops (Finished (suc n))
 
+-- what a step has noted, with a key set to a value
 abbrev pub with_plain : List ℕ → Value → Noted → Noted
 with_plain key v s = record { env = with_key key (item.Plain v) s.env; ctx = with_set s.ctx key (held.Plain v); outputs = s.outputs; calls = s.calls }
 
+-- what a step has noted, with an output set to a node
 abbrev pub with_output : List ℕ → ℕ → Noted → Noted
 with_output name id s = record { env = s.env; ctx = s.ctx; outputs = put name id s.outputs; calls = s.calls }
 
+-- what a step has noted, with one more call
 abbrev pub with_call : Call → Noted → Noted
 with_call c s = record { env = s.env; ctx = s.ctx; outputs = s.outputs; calls = s.calls ++ c ∷ [] }
 
+-- what goes on with a value, or a step that stops with an exception
 abbrev pub or_stops : {A : Type 0} → Outcome A → Noted → (A → Stepped) → Stepped
 or_stops (Gives v) s f = f v
 or_stops (Faults r) s f = stepped (Some (Excepted r)) s
 
+-- a call with its label and its arguments
 abbrev pub planned : CallStmt → ℕ → List (List ℕ × Argument) → Call
 planned c number args = record { definition = c.callee.text; label = label c.key.text number; key = c.key.text; append = c.append; args = args }
 
@@ -80,6 +87,7 @@ module _ (x : Scene) where
       if nat_le 16 x.depth then Faults Depth
       else mapped (planned c (x.calls + length s.calls + 1)) (taken_arguments (takes_of x.library.now) c s.env)
 
+  -- what the statements of a step come to, as the machine has it, with what is answered of calls
   abbrev pub statements_in : List Stmt → Noted → Stepped
   statements_in [] s = stepped None s
   statements_in (stmt.Ctx at key e ∷ ss) s = or_stops (val e s.env) s (λ v. statements_in ss (with_plain key.text v s))

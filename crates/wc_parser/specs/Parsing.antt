@@ -11,6 +11,7 @@ use Rattle.wc_reader.specs.Grammar.{Derives}
 use Rattle.wc_reader.specs.Answer.{Breaks, Cut}
 use Rattle.wc_reader.specs.Depth.{too_deep}
 
+-- what a text is read as: a library, or a refusal
 abbrev pub Parsed : Type 0
 Parsed = Result (List Definition) ParseError
 
@@ -35,6 +36,7 @@ IsTextOf bytes library = (ts : List Tok) × HasTokens bytes ts × Derives ts lib
 abbrev pub PrintsLong : List ℕ → Type 0
 PrintsLong bytes = (library : List Definition) × IsTextOf bytes library × (1048576 < length (printed library))
 
+-- What an answer says of a text: its library, whose printed text is short enough, or the first refusal of the order
 abbrev pub TextSays : List ℕ → Parsed → Type 0
 TextSays bytes (Ok library) = IsTextOf bytes library × (length (printed library) ≤ 1048576)
 TextSays bytes (Err TooLong) = (1048576 < length bytes) ⊎ PrintsLong bytes

@@ -15,6 +15,7 @@ abbrev pub read_found : List Definition → Option CheckError → Read
 read_found library None = read.Library (bare_library library)
 read_found library (Some e) = read.Refused (cause.Check e)
 
+-- what a library is read as: itself, or the first finding against it
 abbrev pub ReadsLibrary : List Definition → Read → Type 0
 ReadsLibrary library r = (found : Option CheckError) × IsFirstFinding library found × (r ≡ read_found library found)
 

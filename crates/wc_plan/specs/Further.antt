@@ -19,13 +19,16 @@ Has told file content = IfSome told (λ contents. content ≡ contents file)
 
 -- ---- the kinds of ports by name
 
+-- the kinds of ports by name, with that of one more port; the first of a name counts
 abbrev pub with_kind : List (List ℕ × Kind) → Port → List (List ℕ × Kind)
 with_kind front p = if is_none (lookup p.name.text front) then put p.name.text p.kind front else front
 
+-- the kinds of ports by name, behind those in front
 abbrev pub kinds_after : List (List ℕ × Kind) → List Port → List (List ℕ × Kind)
 kinds_after front [] = front
 kinds_after front (p ∷ ps) = kinds_after (with_kind front p) ps
 
+-- the kinds of ports by name
 abbrev pub kinds_of : List Port → List (List ℕ × Kind)
 kinds_of = kinds_after []
 

@@ -12,6 +12,7 @@ use Rattle.wc_expression.specs.Whole.{number_of}
 use Rattle.wc_semantics.specs.Rules.{kind_of_port}
 use Rattle.wc_meaning.specs.Inputs.{least}
 
+-- the truth value that a text writes: `true` or `false`, and else none
 abbrev pub bool_in_words : List ℕ → Option Bool
 bool_in_words text = if bytes_eq text (codes "true") then Some true else if bytes_eq text (codes "false") then Some false else None
 
@@ -29,6 +30,7 @@ abbrev pub allowed : Option Value → Option Value
 allowed None = None
 allowed (Some v) = if is_allowed v then Some v else None
 
+-- the value of a kind that a text writes, within the limits of expressions; where there is no port, none
 abbrev pub value_of_kind : Option Kind → List ℕ → Option Value
 value_of_kind None text = None
 value_of_kind (Some k) text = allowed (value_in_words k text)
@@ -42,6 +44,7 @@ abbrev pub unread : List Port → List (List ℕ × List ℕ) → List (List ℕ
 unread ports [] = []
 unread ports (g ∷ gs) = if is_none (given_value ports g) then g.0 ∷ unread ports gs else unread ports gs
 
+-- how often a name is given in words
 abbrev pub times_given : List ℕ → List (List ℕ × List ℕ) → ℕ
 times_given name [] = 0
 times_given name (g ∷ gs) = if bytes_eq g.0 name then suc (times_given name gs) else times_given name gs
@@ -54,6 +57,7 @@ is_in name file = not (is_none (lookup name file))
 abbrev pub is_ill : Port → ℕ → Bool → Bool
 is_ill p n filed = nat_lt 1 n || ((nat_lt 0 n && filed) || (n == 0 && (not filed && not p.optional)))
 
+-- the ports that are given more than once, or are required and not given
 abbrev pub ill_given : List Port → List (List ℕ × List ℕ) → List (List ℕ × Value) → List (List ℕ)
 ill_given [] given file = []
 ill_given (p ∷ ps) given file =
@@ -63,6 +67,7 @@ ill_given (p ∷ ps) given file =
 abbrev pub bad_given : List Port → List (List ℕ × List ℕ) → List (List ℕ × Value) → Option (List ℕ)
 bad_given ports given file = least (ill_given ports given file ++ unread ports given)
 
+-- inputs with one more, where it has a value
 abbrev pub with_field : List ℕ → Option Value → List (List ℕ × Value) → List (List ℕ × Value)
 with_field name None fields = fields
 with_field name (Some v) fields = put name v fields

@@ -97,6 +97,7 @@ abbrev pub IsReadyAsked : Asked → Type 0
 IsReadyAsked (asked.Submit s) = IsReady s
 IsReadyAsked _ = Unit {0}
 
+-- work is ready: what is to be submitted is (`IsReady`), and the limits of a run are within their ranges
 abbrev pub IsReadyWork : Work → Type 0
 IsReadyWork (work.View v) = Unit {0}
 IsReadyWork (work.Event a) = IsReadyAsked a
@@ -108,10 +109,12 @@ abbrev pub IsReadyBegin : Begin → Type 0
 IsReadyBegin begin.Init = Unit {0}
 IsReadyBegin (begin.Drill seed count) = count ≤ 10000
 
+-- a deed is ready: its work is, and a drill has at most 10,000 chains
 abbrev pub IsReadyDeed : Deed → Type 0
 IsReadyDeed (deed.Begin b) = IsReadyBegin b
 IsReadyDeed (deed.Work w) = IsReadyWork w
 
+-- a plan is ready: it is a reply, or its deed is ready
 abbrev pub IsReadyPlan : Plan → Type 0
 IsReadyPlan (plan.Reply r) = Unit {0}
 IsReadyPlan (plan.On d) = IsReadyDeed d

@@ -6,6 +6,7 @@ use Rattle.wc_plan.specs.declared.status.Status.{Status}
 use Rattle.wc_plan.specs.declared.status.Status.TheVariants as status
 use Rattle.wc_plan.specs.Texts.{refusal_text}
 
+-- The exit status of the program, 0 to 10
 abbrev pub code_of : Status → ℕ
 code_of status.Ok = 0
 code_of (status.Refused cause) = 1

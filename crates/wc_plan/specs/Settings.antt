@@ -59,6 +59,7 @@ SettingsReady (Err c) = Unit {0}
 abbrev pub with_name : Settings → List ℕ → List (List ℕ × Unit {0}) → List (List ℕ × Unit {0})
 with_name t name names = if caching_on t name then put name tt names else names
 
+-- names with those of the definitions of a library for which settings have caching on
 abbrev pub with_names : Settings → List Definition → List (List ℕ × Unit {0}) → List (List ℕ × Unit {0})
 with_names t [] names = names
 with_names t (d ∷ ds) names = with_names t ds (with_name t (head_of d).name.text names)

@@ -37,6 +37,7 @@ InputsFor told inputs None name given r = r ≡ Err (cause.Name name)
 InputsFor told inputs (Some d) name given r =
     (file : Result (List (List ℕ × Value)) Cause) × InputsFrom told inputs (head_of d).inputs file × (r ≡ inputs_beside file (head_of d).inputs given)
 
+-- what is prepared of a submission: the submission with these inputs, or their refusal
 abbrev pub prepared_with : List Definition → List ℕ → Result (List (List ℕ × Value)) Cause → Prepared
 prepared_with library name (Ok inputs) = prepared.Submits (record { library = library; name = name; inputs = inputs })
 prepared_with library name (Err c) = prepared.Refused c

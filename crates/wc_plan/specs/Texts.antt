@@ -29,12 +29,14 @@ at_place text at = text ++ codes " at " ++ decimal at
 abbrev pub at_name : List ℕ → List ℕ → ℕ → List ℕ
 at_name text name at = at_place (text ++ codes " " ++ name) at
 
+-- the text of a refusal of the lexer, byte for byte
 abbrev pub lex_text : LexError → List ℕ
 lex_text lex.OutOfMemory = codes "out of memory"
 lex_text (lex.BadChar at) = at_place (codes "bad character") at
 lex_text (lex.OpenText at) = at_place (codes "open text") at
 lex_text (lex.WideNumber at) = at_place (codes "wide number") at
 
+-- the text of a refusal of the parser, byte for byte
 abbrev pub parse_text : ParseError → List ℕ
 parse_text parse.OutOfMemory = codes "out of memory"
 parse_text parse.TooLong = codes "too long"
@@ -43,6 +45,7 @@ parse_text (parse.TooDeep at) = at_place (codes "too deep") at
 parse_text (parse.Unexpected at) = at_place (codes "unexpected") at
 parse_text parse.EndOfText = codes "end of text"
 
+-- the text of a finding of the checker, byte for byte
 abbrev pub check_text : CheckError → List ℕ
 check_text (check.Twice name at) = at_name (codes "twice") name at
 check_text (check.Unknown name at) = at_name (codes "unknown") name at
@@ -70,6 +73,7 @@ json_text file json.OutOfMemory = codes "out of memory"
 abbrev pub ended_text : ℕ → ProcessState → List ℕ
 ended_text pid s = codes "ended " ++ decimal pid ++ codes " " ++ state_text s
 
+-- the text of a refusal of settings, byte for byte
 abbrev pub config_text : ConfigError → List ℕ
 config_text config.NotToml = codes "not toml"
 config_text (config.UnknownKey key) = codes "unknown key " ++ key
@@ -95,6 +99,7 @@ restart_text (restart.SamePriority priority) = codes "same priority " ++ decimal
 restart_text restart.TooMany = codes "too many"
 restart_text restart.OutOfMemory = codes "out of memory"
 
+-- the text of the cause of a refusal, byte for byte
 abbrev pub cause_text : Cause → List ℕ
 cause_text cause.Words = codes "words"
 cause_text (cause.NoFile file) = codes "no file " ++ file
@@ -116,6 +121,7 @@ cause_text (cause.UnknownProcess pid) = codes "unknown process " ++ decimal pid
 cause_text (cause.UnknownNode node) = codes "unknown node " ++ decimal node
 cause_text (cause.Ended pid s) = ended_text pid s
 
+-- the line of a refusal: `refused: `, and the text of its cause
 abbrev pub refusal_text : Cause → List ℕ
 refusal_text c = codes "refused: " ++ cause_text c ++ 10 ∷ []
 

@@ -17,11 +17,16 @@ ghost use Rattle.wc_plan.specs.declared.submission.Prepared.{Prepared};
 /// Settings that a file of one content gives are one thing too.
 #[tactic(auto, using(crate::proofs::Once::one_read, crate::proofs::Once::one_from, crate::proofs::Configured::one_settings, crate::proofs::Configured::settings_from))]
 pub fn files_are_read_as_one_thing()
+    // One content is read as one thing.
     ensures read { (file : List ℕ) (content : Option (List ℕ)) (r s : Read) → Reads file content r → Reads file content s → r ≡ s }
+    // Where the shelf tells its contents, a file is read as one thing.
     ensures from { (told : Option (List ℕ → Option (List ℕ))) (file : List ℕ) (r s : Read) → IsSome told → ReadsFrom told file r → ReadsFrom told file s → r ≡ s }
+    // A submission is then prepared as one thing.
     ensures prepared { (told : Option (List ℕ → Option (List ℕ))) (file name : List ℕ) (given : List (List ℕ × List ℕ)) (inputs : Option (List ℕ)) (p q : Prepared)
         → IsSome told → PreparesFrom told file name given inputs p → PreparesFrom told file name given inputs q → p ≡ q }
+    // One content gives one settings or one refusal.
     ensures settings { (file : List ℕ) (content : Option (List ℕ)) (s t : Result Settings Cause) → ReadsSettings file content s → ReadsSettings file content t → s ≡ t }
+    // So does a settings file where the shelf tells.
     ensures settings_from { (told : Option (List ℕ → Option (List ℕ))) (file : Option (List ℕ)) (s t : Result Settings Cause) → IsSome told → SettingsFrom told file s → SettingsFrom told file t → s ≡ t }
 {}
 

@@ -38,7 +38,9 @@ pub struct Report {
 impl Report {
     /// What is to be said of the transcript. It is `Ok` exactly where nothing was found, and nothing was to be found.
     pub fn verdict(&self) -> Verdict
+        // Ok exactly where nothing was found and nothing was meant to be.
         ensures ok { (result ≡ Verdict.Ok) ↔ ((length self.now.findings.list ≡ 0) × (self.now.wrong ≡ 0)) }
+        // Not Failed exactly where as much was found as was meant to be.
         ensures seen { (result ≢ Verdict.Failed) ↔ (length self.now.findings.list ≡ self.now.wrong) }
     {
         if self.findings.count() != self.wrong {

@@ -19,6 +19,7 @@ use Rattle.wc_pool.specs.declared.giving.Why.TheVariants.{Stale, Lapsed, NotRead
 
 -- ---- workers
 
+-- how many workers a pool has
 abbrev pub workers_of : Pool → ℕ
 workers_of p = length p.workers.items
 
@@ -26,15 +27,19 @@ workers_of p = length p.workers.items
 abbrev pub idle : Worker
 idle = record { seat = Free; steps = 0 }
 
+-- a worker of a pool, by its number
 abbrev pub worker_at : Pool → (worker : ℕ) → Worker
 worker_at p k = get_or p.workers.items k idle
 
+-- the seat of a worker
 abbrev pub seat_at : Pool → (worker : ℕ) → Seat
 seat_at p k = (worker_at p k).seat
 
+-- how many steps a worker has taken
 abbrev pub steps_at : Pool → (worker : ℕ) → ℕ
 steps_at p k = (worker_at p k).steps
 
+-- the lease of a seat, if it has one
 abbrev pub lease_in : Seat → Option Lease
 lease_in Free = None
 lease_in (Leased l) = Some l
@@ -50,6 +55,7 @@ lease_at p k = lease_in (seat_at p k)
 abbrev pub entry_at : Pool → (pid : ℕ) → Option Entry
 entry_at p pid = get nat_cmp p.entries pid
 
+-- the epoch of a process's last lease, 0 where there was none
 abbrev pub epoch_of : Option Entry → ℕ
 epoch_of None = 0
 epoch_of (Some e) = e.epoch
@@ -64,6 +70,7 @@ is_current p l = epoch_at p l.pid == l.epoch
 
 -- ---- taking
 
+-- whether a process may be leased at a moment: it had no lease, or the last one is over and a further epoch is left
 abbrev pub is_over : Option Entry → (now : ℕ) → Bool
 is_over None now = true
 is_over (Some e) now = nat_lt e.epoch (2 ^ 64 - 1) && nat_le e.until now

@@ -58,9 +58,13 @@ pub struct Pool {
 impl Pool {
     /// So many workers, none of which has a lease or has made a step, where no process was ever leased. It fits each world.
     pub fn new(alloc: Global, workers: u32) -> Result<Pool, AllocError>
+        // There is at least one worker.
         requires some { 1 ≤ workers }
+        // There are at most sixteen.
         requires few { workers ≤ 16 }
+        // No worker has a lease, and none has taken a step.
         ensures new { IfOk result (IsNew workers) }
+        // It fits any world.
         ensures fits { IfOk result (λ pool. (w : AnyWorld) → FitsWorld pool w) }
     {
         let mut list = Vec::new(alloc);
@@ -85,6 +89,7 @@ impl Pool {
 
     /// What a worker has.
     pub fn seat(&self, worker: u32) -> &Seat
+        // There is such a worker.
         requires { worker < workers_of self.now }
         ensures { result.now ≡ seat_at self.now worker }
     {
@@ -93,6 +98,7 @@ impl Pool {
 
     /// How many steps a worker has made, a count of 64 bits.
     pub fn steps(&self, worker: u32) -> u64
+        // There is such a worker.
         requires { worker < workers_of self.now }
         ensures { result ≡ steps_at self.now worker }
     {

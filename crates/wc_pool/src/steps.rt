@@ -82,11 +82,17 @@ impl Pool {
         worker: u32,
         now: u64,
     ) -> Result<Option<u32>, AllocError>
+        // There is such a worker.
         requires there { worker < workers_of self.old }
+        // The worker has no lease.
         requires free { seat_at self.old worker ≡ Free }
+        // The process is the lowest ready one that is free, if there is one.
         ensures lowest { IfOk result (λ pid. pid ≡ free_at self.old world.now.world now) }
+        // The worker has a lease on it, with the next epoch; or nothing changes but that the worker took a step.
         ensures taken { IfOk result (λ taken. MatchOption taken (Turns self.old self.new worker Free) (λ pid. HasTaken self.old self.new worker pid now)) }
+        // It goes on to fit the world.
         ensures fits { OnOk result ((w : AnyWorld) → FitsWorld self.old w → FitsWorld self.new w) }
+        // Where memory ran out, the pool is as it was.
         ensures same { OnErr result (IsSamePool self.old self.new) }
     {
         let Some(pid) = self.lowest_free(alloc, world, now)? else {
@@ -99,8 +105,11 @@ impl Pool {
 
     /// A worker makes a step that leaves it with nothing.
     pub fn leave(&mut self, worker: u32)
+        // There is such a worker.
         requires there { worker < workers_of self.old }
+        // The worker has no lease then, and took a step.
         ensures left { Turns self.old self.new worker Free }
+        // It goes on to fit the world.
         ensures fits { (w : AnyWorld) → FitsWorld self.old w → FitsWorld self.new w }
     {
         let steps = self.steps(worker).saturating_add(1);
@@ -109,9 +118,13 @@ impl Pool {
 
     /// A worker with a lease keeps what was answered to what its process needs.
     pub fn keep(&mut self, worker: u32, lease: Lease, answer: TaskAnswer)
+        // There is such a worker.
         requires there { worker < workers_of self.old }
+        // The worker has this lease.
         requires leased { lease_at self.old worker ≡ Some lease }
+        // The worker keeps the answer beside its lease, and took a step.
         ensures kept { Turns self.old self.new worker (Answered lease answer) }
+        // It goes on to fit the world, where the answer fits what the process asks.
         ensures fits { (w : AnyWorld) → FitsWorld self.old w → FitsNeed w lease.pid answer → FitsWorld self.new w }
     {
         let steps = self.steps(worker).saturating_add(1);
@@ -130,10 +143,15 @@ impl Pool {
 
     /// A worker whose lease is the last one of its process has committed its turn, and has nothing then; the process may be leased again.
     pub fn close(&mut self, worker: u32, lease: Lease)
+        // There is such a worker.
         requires there { worker < workers_of self.old }
+        // The worker has this lease.
         requires leased { lease_at self.old worker ≡ Some lease }
+        // The lease is the last one of its process.
         requires current { is_current self.old lease ≡ true }
+        // The lease has ended, and the worker took a step.
         ensures closed { HasClosed self.old self.new worker lease.pid }
+        // It goes on to fit the world after the turn.
         ensures fits { (w : AnyWorld) (poll now : ℕ) (a : AnyAnswer) (cs : List Change) → IsReached w → Leads poll w (turn lease.pid a now) cs
             → FitsWorld self.old w → FitsWorld self.new (applied w cs) }
     {
@@ -161,8 +179,11 @@ impl Pool {
 
     /// A worker forgets its lease and its answer. It takes no memory, and what is kept of the process stays.
     pub fn lose(&mut self, worker: u32)
+        // There is such a worker.
         requires there { worker < workers_of self.old }
+        // The worker has no lease, as if it had gone.
         ensures lost { HasLost self.old self.new worker }
+        // It goes on to fit the world.
         ensures fits { (w : AnyWorld) → FitsWorld self.old w → FitsWorld self.new w }
     {
         let steps = self.steps(worker);

@@ -16,6 +16,7 @@ kind_words =
     codes "any" ∷ codes "data" ∷ codes "process" ∷ codes "int" ∷ codes "bool" ∷ codes "text" ∷ codes "list" ∷ codes "dict" ∷ codes "folder"
     ∷ codes "calcfunction" ∷ codes "calcjob" ∷ codes "workchain" ∷ []
 
+-- whether a word is that of a kind of node
 unfoldable pub is_kind : List ℕ → Bool
 is_kind word = list_any (λ kind. bytes_eq kind word) kind_words
 
@@ -23,9 +24,11 @@ is_kind word = list_any (λ kind. bytes_eq kind word) kind_words
 abbrev pub state_words : List (List ℕ)
 state_words = codes "created" ∷ codes "running" ∷ codes "waiting" ∷ codes "finished" ∷ codes "excepted" ∷ codes "killed" ∷ []
 
+-- whether a word is the first one of a state
 unfoldable pub is_state : List ℕ → Bool
 is_state word = list_any (λ state. bytes_eq state word) state_words
 
+-- the type of link of which a word is the name, if it is one
 unfoldable pub link_type_of : List ℕ → Option LinkType
 link_type_of word =
     if bytes_eq word (codes "INPUT_CALC") then Some link.InputCalc

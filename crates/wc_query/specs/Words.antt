@@ -40,6 +40,7 @@ compared field text =
 unfoldable pub filter_of : List ℕ → Option Filter
 filter_of text = option_and_then (λ found. compared found.0 found.1) (field_of text)
 
+-- the test of a node that words are: a kind, and then filters
 abbrev pub node_in : List (List ℕ) → Option NodeTest
 node_in [] = None
 node_in (kind ∷ texts) = if is_kind kind then option_map (λ filters. record { kind = kind; filters = filters }) (read_all filter_of texts) else None
@@ -54,6 +55,7 @@ node_of word = node_in (pieces word)
 abbrev pub types_of : List ℕ → Option (List LinkType)
 types_of text = read_all link_type_of (pieces text)
 
+-- the test of a link with these types, where they are read
 abbrev pub with_types : Bool → Bool → Option (List LinkType) → Option LinkTest
 with_types forward walk types = option_map (λ ts. record { forward = forward; types = ts; walk = walk }) types
 
@@ -73,6 +75,7 @@ abbrev pub or_bad : {A B : Type 0} → ℕ → Option A → (A → Result B Quer
 or_bad at None made = Err (BadWord at)
 or_bad at (Some a) made = made a
 
+-- one more link with the node behind it in front of others, or why those can't be read
 abbrev pub and_joins : LinkTest × NodeTest → Result (List (LinkTest × NodeTest)) QueryError → Result (List (LinkTest × NodeTest)) QueryError
 and_joins join (Ok joins) = Ok (join ∷ joins)
 and_joins join (Err e) = Err e
@@ -84,10 +87,12 @@ joins_of at (link ∷ []) = Ok []
 joins_of at (link ∷ node ∷ words) =
     or_bad at (link_of link) (λ l. or_bad (at + 1) (node_of node) (λ n. and_joins (l, n) (joins_of (at + 2) words)))
 
+-- the query of a first node with its joins, or why those can't be read
 abbrev pub with_first : NodeTest → Result (List (LinkTest × NodeTest)) QueryError → Result Query QueryError
 with_first first (Ok joins) = Ok (record { first = first; more = joins })
 with_first first (Err e) = Err e
 
+-- the query of words whose number is right: the first node, and then links with the nodes behind them
 abbrev pub chain_of : List (List ℕ) → Result Query QueryError
 chain_of [] = Err Shape
 chain_of (node ∷ words) = or_bad 0 (node_of node) (λ n. with_first n (joins_of 1 words))

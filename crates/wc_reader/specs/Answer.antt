@@ -27,9 +27,11 @@ pub record Cut (ts : List Tok) : Type 0 where
   pub goes_on : GoesOn ts
   pub no_library : (library : List Definition) → Derives ts library → ⊥
 
+-- what tokens are read as: a library, or a refusal
 abbrev pub Answer : Type 0
 Answer = Result (List Definition) ReadError
 
+-- What an answer says of the tokens: the library for which they stand, or the first fault; the reading itself never wants memory
 abbrev pub Says : List Tok → Answer → Type 0
 Says ts (Ok library) = Derives ts library
 Says ts (Err (Unexpected at)) = Breaks ts at

@@ -9,12 +9,15 @@ use Rattle.wc_grammar.specs.Rules.{Tok}
 abbrev pub level_after : Bool → Bool → ℕ → ℕ
 level_after opens closes n = if opens then n + 1 else (if closes then n - 1 else n)
 
+-- how many braces are open behind a token
 abbrev pub braces_after : ℕ → Token → ℕ
 braces_after n t = level_after (opens_brace t) (closes_brace t) n
 
+-- how many brackets are open behind a token
 abbrev pub brackets_after : ℕ → Token → ℕ
 brackets_after n t = level_after (opens_bracket t) (closes_bracket t) n
 
+-- the weight of a statement behind a token, 0 at its end
 abbrev pub weight_after : ℕ → Bool → Token → ℕ
 weight_after n called t = if ends_statement t then 0 else n + weight_of called t
 
@@ -27,6 +30,7 @@ after w t = record {
   called = is_called t;
 }
 
+-- where the walk of nesting and weight begins
 abbrev pub start : Walk
 start = record { braces = 0; brackets = 0; weight = 0; called = false }
 
@@ -39,5 +43,6 @@ abbrev pub deep_from : Walk → List Tok → Option ℕ
 deep_from w [] = None
 deep_from w (t ∷ ts) = if is_past (after w t.0) then Some t.1 else deep_from (after w t.0) ts
 
+-- The first token that leads past 24 braces, 128 brackets, or a weight of 100 in a statement, by a walk
 abbrev pub too_deep : List Tok → Option ℕ
 too_deep ts = deep_from start ts

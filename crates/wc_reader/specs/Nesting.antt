@@ -14,6 +14,7 @@ pub record FirstPast (ts : List Tok) (at : ℕ) : Type 0 where
   pub past : IsPast (front ++ token ∷ [])
   pub within : (fewer others : List Tok) → front ≡ fewer ++ others → IsPast fewer → ⊥
 
+-- the place is the first at which the bounds are passed, or none is
 abbrev pub SaysDeep : List Tok → Option ℕ → Type 0
 SaysDeep ts (Some at) = FirstPast ts at
 SaysDeep ts None = StaysWithin ts

@@ -20,6 +20,7 @@ use Rattle.wc_reader.specs.Parts.{Exits, Sets}
 abbrev pub Args : Rule Expr → Rule CallArg
 Args E = Seq NAME (λ x. Seq (Sign S_COLON) (λ _. As E (λ e. record { port = x; value = e })))
 
+-- the words `to` and `append`
 abbrev pub ways : List (ℕ × Bool)
 ways = (W_TO, false) ∷ (W_APPEND, true) ∷ []
 

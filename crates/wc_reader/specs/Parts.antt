@@ -13,6 +13,7 @@ use Rattle.wc_grammar.specs.Kinds.{S_OPEN, S_CLOSE, S_COMMA, S_SEMI, S_COLON, S_
 use Rattle.wc_grammar.specs.Rules.{Rule, Done, Seq, Either, As, Sign, Flag, Between, Pick}
 use Rattle.wc_grammar.specs.Grammar.{NAME, NUMBER, TEXT}
 
+-- the words of kinds
 abbrev pub types : List (ℕ × Kind)
 types = (W_INT, values.Int) ∷ (W_BOOL, values.Bool) ∷ (W_TEXT, values.Text) ∷ (W_LIST, values.List) ∷ (W_DICT, values.Dict) ∷ (W_FOLDER, values.Folder) ∷ []
 

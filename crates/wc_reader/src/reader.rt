@@ -48,7 +48,10 @@ pub fn read(alloc: Global, tokens: &[Spot]) -> Result<Library, ReadError>
 
 /// Tokens have exactly one answer, and stand for one library at most.
 pub fn tokens_have_one_answer()
+    // Tokens derive one library at most.
     ensures library { OneLibrary }
+    // Tokens have one answer at most.
     ensures one { OneAnswer }
+    // Tokens have an answer.
     ensures some { SomeAnswer }
 {}

@@ -9,24 +9,29 @@ use Rattle.wc_world.specs.Fits.{comes_after}
 use Rattle.wc_record.specs.declared.error.RecordError.{RecordError}
 use Rattle.wc_record.specs.declared.error.RecordError.TheVariants.{OutOfMemory, Truncated, BadTag, NotUtf8, Unsorted, TooDeep, Trailing}
 
+-- what bytes are read as from a place on, with the place behind
 abbrev pub Reader : Type 0 → Type 0
 Reader A = List ℕ → ℕ → Result (A × ℕ) RecordError
 
 infixl 10 ◌>>=◌
+-- one reading after another, where the first gave something
 abbrev pub ◌>>=◌ : {A B : Type 0} → Result A RecordError → (A → Result B RecordError) → Result B RecordError
 (Ok x) >>= f = f x
 (Err e) >>= f = Err e
 
 -- ---- what a call returned, beside what reading gives: the same, unless memory ran out
+-- a call failed as the reading does, or memory ran out
 abbrev pub Fails : {X : Type 0} → RecordError → Result X RecordError → Type 0
 Fails OutOfMemory read = Unit {0}
 Fails e read = read ≡ Err e
 
+-- what a call returned is what reading gives; want of memory alone is free
 abbrev pub Answers : {X : Type 0} → Result X RecordError → Result X RecordError → Type 0
 Answers (Ok x) read = read ≡ Ok x
 Answers (Err e) read = Fails e read
 
 -- ---- refusals of values, in the same bytes
+-- a refusal of a value as one of a record
 abbrev pub moved : ValueError → RecordError
 moved value_error.OutOfMemory = OutOfMemory
 moved (value_error.Truncated at) = Truncated at
@@ -36,26 +41,33 @@ moved (value_error.Unsorted at) = Unsorted at
 moved (value_error.TooDeep at) = TooDeep at
 moved (value_error.Trailing at) = Trailing at
 
+-- the reading of a value as one of a record
 abbrev pub lifted : {A : Type 0} → Result A ValueError → Result A RecordError
 lifted (Ok x) = Ok x
 lifted (Err e) = Err (moved e)
 
 -- ---- numbers, texts and values
+-- the reading of one byte; behind the last one the bytes are truncated
 abbrev pub byte : Reader ℕ
 byte bytes at = if nat_lt at (length bytes) then Ok (slice_index bytes at, at + 1) else Err (Truncated (length bytes))
 
+-- the reading of a number of four bytes
 abbrev pub u32 : Reader ℕ
 u32 bytes at = lifted (read.u32_at bytes at)
 
+-- the reading of eight bytes
 abbrev pub eight : Reader (List ℕ)
 eight bytes at = lifted (read.bytes_at 8 bytes at)
 
+-- the reading of a number of eight bytes
 abbrev pub u64 : Reader ℕ
 u64 bytes at = eight bytes at >>= (λ x. Ok (from_be_bytes w64 x.0, x.1))
 
+-- the reading of a whole number of eight bytes
 abbrev pub i64 : Reader ℤ
 i64 bytes at = lifted (read.i64_at bytes at)
 
+-- the reading of a text behind its length
 abbrev pub text : Reader (List ℕ)
 text bytes at = lifted (read.text_at bytes at)
 
@@ -70,6 +82,7 @@ always x bytes at = Ok (x, at)
 
 -- one thing, and another behind it
 infixr 20 ◌⊗◌
+-- two readings one after another, as a pair
 abbrev pub ◌⊗◌ : {A B : Type 0} → Reader A → Reader B → Reader (A × B)
 (r ⊗ s) bytes at = r bytes at >>= (λ x. s bytes x.1 >>= (λ y. Ok ((x.0, y.0), y.1)))
 
@@ -109,6 +122,7 @@ several (suc n) item front bytes at = item front bytes at >>= (λ x. several n i
 abbrev pub counted : {A : Type 0} → (List A → Reader A) → Reader (List A)
 counted item bytes at = u32 bytes at >>= (λ n. several n.0 item [] bytes n.1)
 
+-- the last item, if there is one
 abbrev pub last_of : {A : Type 0} → List A → Option A
 last_of xs = slice_get xs (length xs - 1)
 

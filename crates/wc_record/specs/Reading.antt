@@ -41,6 +41,7 @@ pub record PrintsNone (bytes : List ℕ) (at : ℕ) : Type 0 where
   pub there : text bytes at ≡ Ok (content, next)
   pub none : (library : List Definition) → IsPrinted content library → ⊥
 
+-- the reading of a library's text: the library that it prints, or that it prints none
 abbrev pub library : Step (List Definition)
 library bytes at (Ok x) = (t : List ℕ) × (text bytes at ≡ Ok (t, x.1)) × IsPrinted t x.0
 library bytes at (Err e) = (text bytes at ≡ Err e) ⊎ ((e ≡ BadLibrary (at + 4)) × PrintsNone bytes at)
@@ -50,9 +51,11 @@ abbrev pub library_change : Step Change
 library_change = bind library (λ l. given (built (change.Library l) names))
 
 -- ---- changes
+-- the byte of a library stands at this place
 abbrev pub HasLibraryTag : List ℕ → ℕ → Type 0
 HasLibraryTag bytes at = byte bytes at ≡ Ok (1, at + 1)
 
+-- the reading of one change: a library, or one of the others
 abbrev pub one_change : Step Change
 one_change bytes at r = (HasLibraryTag bytes at × library_change bytes (at + 1) r) ⊎ ((HasLibraryTag bytes at → ⊥) × given other_change bytes at r)
 

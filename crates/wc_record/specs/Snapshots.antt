@@ -4,6 +4,7 @@ use Rattle.wc_graph.specs.declared.node.NodeKind.{NodeKind}
 use Rattle.wc_graph.specs.declared.node.NodeKind.TheVariants as node
 use Rattle.wc_state.specs.declared.record.ProcessRecord.{ProcessRecord}
 
+-- all records but the first
 abbrev pub behind_first : List ProcessRecord → List ProcessRecord
 behind_first [] = []
 behind_first (r ∷ rs) = rs

@@ -28,6 +28,7 @@ use Rattle.wc_records.specs.declared.change.Kept.{Kept}
 use Rattle.wc_world.specs.declared.change.Change.{Change}
 use Rattle.wc_world.specs.declared.change.Change.TheVariants as change
 
+-- a number is below 2^32
 abbrev pub IsNumber : ℕ → Type 0
 IsNumber n = n < 2 ^ 32
 
@@ -37,14 +38,17 @@ pub record IsList {A : Type 0} (P : A → Type 0) (xs : List A) : Type 0 where
   pub each : All P xs
 
 -- ---- parts
+-- a state can stand in bytes: the status of one that has finished is below 2^32
 abbrev pub IsState : ProcessState → Type 0
 IsState (state.Finished n) = IsNumber n
 IsState _ = Unit {0}
 
+-- an exit code, where there is one, fits 64 bits with its sign
 abbrev pub IsCode : Option ℤ → Type 0
 IsCode None = Unit {0}
 IsCode (Some n) = FitsSigned w64 n
 
+-- both numbers of a frame are below 2^32
 pub record IsFrame (f : Frame) : Type 0 where
   pub block : IsNumber f.block
   pub next : IsNumber f.next
@@ -54,23 +58,28 @@ pub record IsValue (v : Value) : Type 0 where
   pub spelled : Spells v (spelling v)
   pub shallow : depth v ≤ 32
 
+-- what a key holds can stand in bytes: a value that has canonical bytes, or numbers of processes below 2^32
 abbrev pub IsHeld : CtxRef → Type 0
 IsHeld (held.Plain v) = IsValue v
 IsHeld (held.One pid) = IsNumber pid
 IsHeld (held.Many pids) = IsList IsNumber pids
 
+-- a key is a text, and what it holds can stand in bytes
 pub record IsPair (p : List ℕ × CtxRef) : Type 0 where
   pub key : IsText p.0
   pub held : IsHeld p.1
 
+-- of an awaited process the key is a text, and its number is below 2^32
 pub record IsAwait (a : Await) : Type 0 where
   pub key : IsText a.key
   pub pid : IsNumber a.pid
 
+-- the label of an output is a text, and the number of its node is below 2^32
 pub record IsOutput (o : List ℕ × ℕ) : Type 0 where
   pub label : IsText o.0
   pub node : IsNumber o.1
 
+-- a checkpoint can stand in bytes: all in it can, its keys differ, and the labels of its outputs ascend
 pub record IsCheckpoint (c : Checkpoint) : Type 0 where
   pub frames : IsList IsFrame c.frames
   pub ctx : IsList IsPair c.ctx
@@ -80,10 +89,12 @@ pub record IsCheckpoint (c : Checkpoint) : Type 0 where
   pub outputs : IsList IsOutput c.outputs
   pub labels_ascend : Ascends c.outputs
 
+-- a job has failed at most five times in a row, and its due moment is below 2^64
 pub record IsJob (j : JobPart) : Type 0 where
   pub fails : j.fails ≤ 5
   pub due : j.due < 2 ^ 64
 
+-- the part of a record can stand in bytes: of a chain its checkpoint, of a job how it stands
 abbrev pub IsPart : Part → Type 0
 IsPart part.Fresh = Unit {0}
 IsPart (part.Chain c) = IsCheckpoint c
@@ -98,17 +109,20 @@ pub record IsLibrary (library : List Definition) (cached : List (List ℕ)) : Ty
   pub names : IsList IsText cached
   pub ascend : names_ascend cached ≡ true
 
+-- a new process can stand in bytes: its definition and its label are texts, its library and its depth below 2^32
 pub record IsNew (n : NewProcess) : Type 0 where
   pub definition : IsText n.definition
   pub library : IsNumber n.library
   pub depth : IsNumber n.depth
   pub label : IsText n.label
 
+-- the ends of a link are below 2^32, and its label is a text
 pub record IsLink (l : Link) : Type 0 where
   pub source : IsNumber l.source
   pub target : IsNumber l.target
   pub label : IsText l.label
 
+-- a process that is set can stand in bytes: its numbers are in their ranges, and its state, its code and its part can
 pub record IsSet (s : SetProcess) : Type 0 where
   pub pid : IsNumber s.pid
   pub state : IsState s.state
@@ -117,11 +131,13 @@ pub record IsSet (s : SetProcess) : Type 0 where
   pub code : IsCode s.code
   pub part : IsPart s.part
 
+-- the three numbers that a snapshot keeps of a process are below 2^32
 pub record IsKept (k : Kept) : Type 0 where
   pub pid : IsNumber k.pid
   pub started : IsNumber k.started
   pub ended : IsNumber k.ended
 
+-- a change can stand in bytes, by its kind
 abbrev pub IsChange : Change → Type 0
 IsChange (change.Library l names) = IsLibrary l names
 IsChange (change.Data v) = IsValue v
@@ -136,6 +152,7 @@ abbrev pub IsWritten : List Change → Type 0
 IsWritten cs = IsList IsChange cs
 
 -- ---- what the types of changes don't tell
+-- a value that a key holds is at most 32 deep
 abbrev pub IsShallow : CtxRef → Type 0
 IsShallow (held.Plain v) = depth v ≤ 32
 IsShallow _ = Unit {0}
@@ -144,10 +161,12 @@ IsShallow _ = Unit {0}
 abbrev pub IsReadable : Pairs → Type 0
 IsReadable ps = All (λ p. IsShallow p.1) ps
 
+-- the values in a chain's context are at most 32 deep
 abbrev pub IsReadablePart : Part → Type 0
 IsReadablePart (part.Chain c) = IsReadable c.ctx
 IsReadablePart _ = Unit {0}
 
+-- a change's values are at most 32 deep
 abbrev pub IsReadableChange : Change → Type 0
 IsReadableChange (change.Data v) = depth v ≤ 32
 IsReadableChange (change.Set s) = IsReadablePart s.part
@@ -157,6 +176,7 @@ IsReadableChange _ = Unit {0}
 abbrev pub AreReadable : List Change → Type 0
 AreReadable cs = All IsReadableChange cs
 
+-- a job has failed at most five times in a row
 abbrev pub FailsFit : Part → Type 0
 FailsFit (part.Job j) = j.fails ≤ 5
 FailsFit _ = Unit {0}
@@ -167,5 +187,6 @@ IsWritable (change.Library l names) = names_ascend names ≡ true
 IsWritable (change.Set s) = FailsFit s.part
 IsWritable _ = Unit {0}
 
+-- each of these changes can be written: what `IsWritable` asks of one
 abbrev pub AreWritable : List Change → Type 0
 AreWritable cs = All IsWritable cs

@@ -33,6 +33,7 @@ made number n = record {
 abbrev pub source_of : ℕ → Option ℕ
 source_of n = if n == 0 then None else Some n
 
+-- whether a state is Created
 abbrev pub is_created : ProcessState → Bool
 is_created state.Created = true
 is_created state.Running = false
@@ -41,6 +42,7 @@ is_created (state.Finished n) = false
 is_created (state.Excepted r) = false
 is_created state.Killed = false
 
+-- whether a state is Killed
 abbrev pub is_killed : ProcessState → Bool
 is_killed state.Created = false
 is_killed state.Running = false

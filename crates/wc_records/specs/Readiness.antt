@@ -19,6 +19,7 @@ is_past passed now (part.Chain c) = passed == length c.awaiting
 is_past passed now (part.Job j) = nat_le j.due now
 is_past passed now part.Over = false
 
+-- a process in this state goes on: it is created, or runs, or waits for what has come by now
 abbrev pub goes_on : ℕ → ℕ → ProcessState → Part → Bool
 goes_on passed now state.Created p = true
 goes_on passed now state.Running p = true
@@ -27,6 +28,7 @@ goes_on passed now (state.Finished n) p = false
 goes_on passed now (state.Excepted r) p = false
 goes_on passed now state.Killed p = false
 
+-- a process is ready: it isn't paused and goes on
 abbrev pub is_ready_past : ℕ → ℕ → ProcessRecord → Bool
 is_ready_past passed now r = not r.paused && goes_on passed now r.state r.part
 
@@ -37,6 +39,7 @@ due_of (part.Chain c) = 0
 due_of (part.Job j) = j.due
 due_of part.Over = 0
 
+-- a state is Waiting
 abbrev pub is_waiting : ProcessState → Bool
 is_waiting state.Created = false
 is_waiting state.Running = false
@@ -51,6 +54,7 @@ waits_later r = not r.paused && (is_waiting r.state && nat_lt 0 (due_of r.part))
 
 -- ---- processes of a list
 
+-- whether a process is there and has ended
 abbrev pub is_over : Option ProcessRecord → Bool
 is_over None = false
 is_over (Some r) = has_ended r.state
@@ -68,6 +72,7 @@ is_through records now (part.Chain c) = list_all (λ a. ended_at records a.pid) 
 is_through records now (part.Job j) = nat_le j.due now
 is_through records now part.Over = false
 
+-- whether a process in this state may take a turn: a waiting one once it is through
 abbrev pub may_go : List ProcessRecord → ℕ → ProcessState → Part → Bool
 may_go records now state.Created p = true
 may_go records now state.Running p = true
@@ -107,6 +112,7 @@ pub record AreDues (records : List ProcessRecord) (dues : List (ℕ × ℕ)) : T
 
 -- ---- awaited processes
 
+-- what a part awaits; of a chain alone there is something
 abbrev pub awaits_of : Part → List Await
 awaits_of part.Fresh = []
 awaits_of (part.Chain c) = c.awaiting

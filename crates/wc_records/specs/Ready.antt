@@ -6,6 +6,7 @@ use Rattle.wc_state.specs.declared.record.ProcessRecord.{ProcessRecord}
 use Rattle.wc_records.specs.Records.{find_record}
 use Rattle.wc_records.specs.Readiness.{is_ready}
 
+-- whether a record is there and is ready at a moment
 abbrev pub is_ready_by : List ProcessRecord → ℕ → Option ProcessRecord → Bool
 is_ready_by records now None = false
 is_ready_by records now (Some r) = is_ready records now r

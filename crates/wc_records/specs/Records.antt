@@ -13,6 +13,7 @@ find_record pid (r ∷ rs) = if r.node == pid then Some r else find_record pid r
 abbrev pub at_process : ℕ → (ProcessRecord → ProcessRecord) → List ProcessRecord → List ProcessRecord
 at_process pid f rs = map (λ r. if r.node == pid then f r else r) rs
 
+-- a state is one of the ends: Finished, Excepted or Killed
 abbrev pub has_ended : ProcessState → Bool
 has_ended state.Created = false
 has_ended state.Running = false

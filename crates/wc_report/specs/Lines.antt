@@ -9,6 +9,7 @@ use Rattle.wc_world.specs.Records.{has_ended}
 
 -- ---- what was done
 
+-- the line of `init`, byte for byte
 abbrev pub initialised_text : List ℕ
 initialised_text = codes "initialised\n"
 
@@ -20,9 +21,11 @@ submitted_text pid = concat (codes "submitted " ∷ decimal pid ∷ codes "\n" �
 abbrev pub paused_text : ℕ → List ℕ
 paused_text pid = concat (codes "paused " ∷ decimal pid ∷ codes "\n" ∷ [])
 
+-- the line of a `play`, byte for byte
 abbrev pub playing_text : ℕ → List ℕ
 playing_text pid = concat (codes "playing " ∷ decimal pid ∷ codes "\n" ∷ [])
 
+-- the line of a `kill`, byte for byte
 abbrev pub killed_text : ℕ → List ℕ
 killed_text pid = concat (codes "killed " ∷ decimal pid ∷ codes "\n" ∷ [])
 
@@ -45,6 +48,7 @@ found_text None = codes "end"
 abbrev pub damaged_text : ℕ → ℕ → Option ℕ → List ℕ
 damaged_text disk at found = concat (codes "damaged: disk " ∷ decimal disk ∷ codes " at " ∷ decimal at ∷ codes " " ∷ found_text found ∷ codes "\n" ∷ [])
 
+-- what a store is too full of, in a word
 abbrev pub what_text : What → List ℕ
 what_text what.Nodes = codes "nodes"
 what_text what.Bytes = codes "bytes"
@@ -77,6 +81,7 @@ wrong_value_text pid = concat (codes "unsound: value at " ∷ decimal pid ∷ co
 
 -- ---- how many processes
 
+-- whether a process hasn't ended
 abbrev pub is_live : ProcessRecord → Bool
 is_live r = not (has_ended r.state)
 

@@ -6,6 +6,7 @@ use Rattle.wc_state.specs.declared.record.ProcessKind.TheVariants as kind
 use Rattle.wc_state.specs.declared.record.ProcessRecord.{ProcessRecord}
 use Rattle.wc_report.specs.Trees.{line, head_text}
 
+-- the word for a kind of process
 abbrev pub process_kind_text : ProcessKind → List ℕ
 process_kind_text kind.Function = codes "calcfunction"
 process_kind_text kind.Job = codes "calcjob"

@@ -11,6 +11,7 @@ use Rattle.wc_value.specs.declared.value.Value.{Value}
 use Rattle.wc_value.specs.Kinds.{kind_of}
 use Rattle.wc_json.specs.Writing.{json_text}
 
+-- the word for a kind of value
 abbrev pub kind_text : Kind → List ℕ
 kind_text kind.Int = codes "int"
 kind_text kind.Bool = codes "bool"
@@ -19,6 +20,7 @@ kind_text kind.List = codes "list"
 kind_text kind.Dict = codes "dict"
 kind_text kind.Folder = codes "folder"
 
+-- what a reason is called
 abbrev pub reason_text : Reason → List ℕ
 reason_text reason.Overflow = codes "overflow"
 reason_text reason.DivideByZero = codes "division by zero"
@@ -30,6 +32,7 @@ reason_text reason.TooLong = codes "too long"
 reason_text reason.Depth = codes "depth"
 reason_text reason.BadInput = codes "bad input"
 
+-- what a state is called, with its status or its reason
 abbrev pub state_text : ProcessState → List ℕ
 state_text state.Created = codes "created"
 state_text state.Running = codes "running"
@@ -38,5 +41,6 @@ state_text (state.Finished n) = codes "finished " ++ decimal n
 state_text (state.Excepted r) = codes "excepted " ++ reason_text r
 state_text state.Killed = codes "killed"
 
+-- the kind of a value and its JSON text
 abbrev pub value_text : Value → List ℕ
 value_text v = kind_text (kind_of v) ++ codes " " ++ json_text v

@@ -18,6 +18,7 @@ use Rattle.wc_report.specs.Names.{state_text, value_text}
 
 -- ---- lines
 
+-- a number in digits, or `none`
 abbrev pub number_text : Option ℕ → List ℕ
 number_text None = codes "none"
 number_text (Some n) = decimal n
@@ -32,6 +33,7 @@ label_line word label n = concat (word ∷ codes " " ∷ label ∷ codes " " ∷
 
 -- ---- links
 
+-- whether a type of link is that of a creation
 abbrev pub creates : LinkType → Bool
 creates link.InputCalc = false
 creates link.InputWork = false
@@ -40,9 +42,11 @@ creates link.Return = false
 creates link.CallCalc = false
 creates link.CallWork = false
 
+-- whether a link creates this node
 abbrev pub is_create_to : ℕ → Link → Bool
 is_create_to n l = creates l.link && (l.target == n)
 
+-- whether a link calls this process
 abbrev pub is_call_to : ℕ → Link → Bool
 is_call_to n l = calls l.link && (l.target == n)
 
@@ -55,6 +59,7 @@ ends_after p end (l ∷ ls) named = ends_after p end ls (if p l then put l.label
 abbrev pub inputs_of : ℕ → List Link → List (List ℕ × ℕ)
 inputs_of pid links = ends_after (is_input_of pid) (λ l. l.source) links []
 
+-- the outputs of a process, ascending by the bytes of their labels, each with the number of its node
 abbrev pub outputs_of : ℕ → List Link → List (List ℕ × ℕ)
 outputs_of pid links = ends_after (is_output_of pid) (λ l. l.target) links []
 
@@ -75,6 +80,7 @@ abbrev pub bare_line : ProcessRecord → List ℕ
 bare_line r =
     concat (decimal r.node ∷ codes " " ∷ process_kind_text r.kind ∷ codes " " ∷ r.definition ∷ codes " " ∷ state_text r.state ∷ codes "\n" ∷ [])
 
+-- the line that says whether a process has the pause mark
 abbrev pub pause_line : Bool → List ℕ
 pause_line true = codes "paused yes\n"
 pause_line false = codes "paused no\n"
@@ -83,6 +89,7 @@ pause_line false = codes "paused no\n"
 abbrev pub named_lines : List ℕ → List (List ℕ × ℕ) → List ℕ
 named_lines word = flat_map (λ e. label_line word e.0 e.1)
 
+-- the line of a link that is a call from this process, of any other nothing
 abbrev pub called_line : ℕ → Link → List ℕ
 called_line pid l = if is_call_from pid l then label_line (codes "called") l.label l.target else []
 
@@ -102,6 +109,7 @@ process_text links r =
     ((head_text r links ++ named_lines (codes "input") (inputs_of r.node links)) ++ named_lines (codes "output") (outputs_of r.node links))
     ++ called_lines r.node links
 
+-- the text of `show` for a node: of a data node, or of a process with its record; none where there is no such node
 abbrev pub text_of : World → ℕ → Option NodeKind → Option (List ℕ)
 text_of w n None = None
 text_of w n (Some (node.Data v)) = Some (data_text n v w.links)
@@ -114,10 +122,12 @@ show_text w n = text_of w n (node_of w.nodes n)
 
 -- ---- graph
 
+-- The text of `graph`: a line for each node, then one for each link; what a type of link is called
 abbrev pub process_line : ℕ → Option ProcessRecord → List ℕ
 process_line n None = []
 process_line n (Some r) = concat (codes "node " ∷ decimal n ∷ codes " " ∷ process_kind_text r.kind ∷ codes " " ∷ r.definition ∷ codes "\n" ∷ [])
 
+-- The text of `graph`: a line for each node, then one for each link; what a type of link is called
 abbrev pub node_line : List ProcessRecord → ℕ → NodeKind → List ℕ
 node_line rs n (node.Data v) = concat (codes "node " ∷ decimal n ∷ codes " data " ∷ value_text v ∷ codes "\n" ∷ [])
 node_line rs n node.Calculation = process_line n (find_record n rs)
@@ -128,6 +138,7 @@ abbrev pub node_lines : List ProcessRecord → ℕ → List NodeKind → List �
 node_lines rs n [] = []
 node_lines rs n (k ∷ ks) = node_line rs n k ++ node_lines rs (suc n) ks
 
+-- The text of `graph`: a line for each node, then one for each link; what a type of link is called
 abbrev pub link_type_text : LinkType → List ℕ
 link_type_text link.InputCalc = codes "INPUT_CALC"
 link_type_text link.InputWork = codes "INPUT_WORK"
@@ -136,6 +147,7 @@ link_type_text link.Return = codes "RETURN"
 link_type_text link.CallCalc = codes "CALL_CALC"
 link_type_text link.CallWork = codes "CALL_WORK"
 
+-- The text of `graph`: a line for each node, then one for each link; what a type of link is called
 abbrev pub link_line : Link → List ℕ
 link_line l =
     concat (codes "link " ∷ decimal l.source ∷ codes " " ∷ decimal l.target ∷ codes " " ∷ link_type_text l.link ∷ codes " " ∷ l.label ∷ codes "\n" ∷ [])

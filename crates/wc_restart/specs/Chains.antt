@@ -18,6 +18,7 @@ use Rattle.wc_restart.specs.Statements.{goes_on, has_succeeded, is_one_of, setti
 
 -- ---- exit codes
 
+-- a declared status with its message
 abbrev pub code : ℕ → List ℕ → ExitCode
 code status message = record { at = 0; status = number status; message = record { text = message; at = 0 }; invalidates = false }
 
@@ -26,6 +27,7 @@ abbrev pub placed : ℕ → List ℕ → List ℕ
 placed n [] = n ∷ []
 placed n (m ∷ ms) = if nat_lt n m then n ∷ (m ∷ ms) else (if n == m then m ∷ ms else m ∷ placed n ms)
 
+-- statuses with that of a handler that ends the chain
 abbrev pub with_abort : Remedy → List ℕ → List ℕ
 with_abort (remedy.Call name) statuses = statuses
 with_abort (remedy.Abort status) statuses = placed status statuses
@@ -39,9 +41,11 @@ aborts_among statuses (h ∷ hs) = aborts_among (with_abort h.remedy statuses) h
 abbrev pub aborts : List Handler → List ℕ
 aborts = aborts_among []
 
+-- the declared status of an end by a handler
 abbrev pub aborted : ℕ → ExitCode
 aborted n = code n (codes "aborted")
 
+-- the exit codes of the chain: 401, 402, and each status with which a handler ends it, ascending, once
 abbrev pub codes_of : Spec → List ExitCode
 codes_of s = code 401 (codes "maximum iterations") ∷ (code 402 (codes "second unhandled failure") ∷ map aborted (aborts s.handlers))
 
@@ -55,6 +59,7 @@ fresh_or_fixed first second callee key ports =
 
 -- ---- handlers
 
+-- handlers by falling priority with one more, behind those of the same priority
 abbrev pub inserted : Handler → List Handler → List Handler
 inserted h [] = h ∷ []
 inserted h (k ∷ ks) = if nat_lt k.priority h.priority then h ∷ (k ∷ ks) else k ∷ inserted h ks
@@ -68,26 +73,32 @@ sorted_among found (h ∷ hs) = sorted_among (inserted h found) hs
 abbrev pub by_priority : List Handler → List Handler
 by_priority = sorted_among []
 
+-- the instructions of a handler: an end, or a call of its function
 abbrev pub remedied : List Definition → Remedy → List Instr
 remedied library (remedy.Abort status) = step (codes "stop") (ending status) ∷ []
 remedied library (remedy.Call name) =
     fresh_or_fixed (codes "mend") (codes "remend") name (codes "fix") (inputs_of name library)
     ∷ (step (codes "mended") mending ∷ [])
 
+-- the arm of a handler: for its statuses, what it does
 abbrev pub arm_of : List Definition → Handler → Arm
 arm_of library h = arm (is_one_of h.statuses) (remedied library h.remedy)
 
 -- ---- the outline
 
+-- the step that sets the counters
 abbrev pub setup : Instr
 setup = step (codes "setup") setting
 
+-- the step that counts an attempt
 abbrev pub counted : Instr
 counted = step (codes "counted") counting
 
+-- the arm for a job that has succeeded: its outputs are the chain's
 abbrev pub good : List Port → Arm
 good outputs = arm has_succeeded (step (codes "good") (passing outputs) ∷ [])
 
+-- the step for a failure that no handler names
 abbrev pub unhandled : Instr
 unhandled = step (codes "unhandled") failing
 
@@ -97,12 +108,15 @@ turn_with library s asked given =
     fresh_or_fixed (codes "start") (codes "again") s.job (codes "job") asked
     ∷ (counted ∷ (either (good given ∷ map (arm_of library) (by_priority s.handlers)) (unhandled ∷ []) ∷ []))
 
+-- the instructions of one attempt
 abbrev pub turn : List Definition → Spec → List Instr
 turn library s = turn_with library s (asked_of s.job library) (given_of s.job library)
 
+-- the step behind the last attempt
 abbrev pub finish : Instr
 finish = step (codes "finish") closing
 
+-- The chain that tries the job of a spec until it succeeds, with the job's required ports
 abbrev pub chain_of : List Definition → Spec → Chain
 chain_of library s = record {
   head = record {

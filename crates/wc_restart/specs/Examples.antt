@@ -18,15 +18,19 @@ use Rattle.wc_handlers.specs.declared.spec.Remedy.TheVariants as remedy
 use Rattle.wc_handlers.specs.declared.spec.Spec.{Spec}
 use Rattle.wc_restart.specs.Pieces.{word, number, expr, numeral, negated, joined}
 
+-- a text in quotes without a place
 abbrev pub quote : List ℕ → Quoted
 quote text = record { text = text; at = 0 }
 
+-- a bare name as an expression
 abbrev pub bare : List ℕ → Expr
 bare name = expr (form.Bare (word name))
 
+-- a required port for a whole number
 abbrev pub port : List ℕ → Port
 port name = record { at = 0; name = word name; optional = false; kind = kind.Int }
 
+-- the text `out.txt` as an expression
 abbrev pub out_txt : Expr
 out_txt = expr (form.Quoted (quote (codes "out.txt")))
 
@@ -60,12 +64,15 @@ less = record {
   rules = rule.Out 0 (word (codes "x")) (joined binary.Subtract (bare (codes "x")) (numeral 7)) ∷ [];
 }
 
+-- a library of a job and a function, for the examples
 abbrev pub library : List Definition
 library = definition.Job double ∷ (definition.Function less ∷ [])
 
+-- the handler that calls the function for the status 310
 abbrev pub mends : Handler
 mends = record { statuses = 310 ∷ []; priority = 10; remedy = remedy.Call (codes "less") }
 
+-- a spec of the job with so many attempts and these handlers
 abbrev pub spec : ℕ → List Handler → Spec
 spec most handlers = record { name = codes "safe"; job = codes "double"; most = most; handlers = handlers }
 

@@ -16,6 +16,7 @@ use Rattle.wc_syntax.specs.declared.definition.Port.{Port}
 use Rattle.wc_restart.specs.Chains.{expanded}
 use Rattle.wc_restart.specs.Ports.{job_named, function_named, asked_of, ports_fit}
 
+-- a refusal, or none
 abbrev pub Refusal : Type 0
 Refusal = Option RestartError
 
@@ -31,10 +32,12 @@ or_then (Some e) r = Some e
 
 -- ---- of one handler
 
+-- the refusal of a handler whose function isn't in the library
 abbrev pub unknown_in : List Definition → Remedy → Refusal
 unknown_in library (remedy.Abort status) = None
 unknown_in library (remedy.Call name) = unless (is_some (function_named name library)) (error.UnknownName name)
 
+-- whether a function's ports fit those of the job, where there is such a function
 abbrev pub fits : List Port → Option Function → Bool
 fits ports None = true
 fits ports (Some f) = ports_fit ports f
@@ -46,14 +49,17 @@ misfit_in library ports (remedy.Call name) = unless (fits ports (function_named 
 
 -- ---- of handlers as written
 
+-- the first refusal of handlers for a function that isn't in the library
 abbrev pub unknown_functions : List Definition → List Handler → Refusal
 unknown_functions library [] = None
 unknown_functions library (h ∷ hs) = or_then (unknown_in library h.remedy) (unknown_functions library hs)
 
+-- the first refusal of handlers whose functions' ports don't fit
 abbrev pub bad_ports : List Definition → List Port → List Handler → Refusal
 bad_ports library ports [] = None
 bad_ports library ports (h ∷ hs) = or_then (misfit_in library ports h.remedy) (bad_ports library ports hs)
 
+-- whether a number is among these
 abbrev pub is_number_among : ℕ → List ℕ → Bool
 is_number_among n ns = list_any (λ m. m == n) ns
 
@@ -77,9 +83,11 @@ misnamed library s =
 abbrev pub is_small : List Definition → Spec → Bool
 is_small library s = if nat_lt (length library) 64 then nat_le (length (printed (expanded library s))) 1048576 else false
 
+-- The first refusal of a spec for a library: of its names and ports, or that there would be too many definitions or too long a text
 abbrev pub refusal : List Definition → Spec → Refusal
 refusal library s = or_then (misnamed library s) (unless (is_small library s) error.TooMany)
 
+-- the refusal of a file, or that of its spec for a library
 abbrev pub refusal_with : List Definition → Result Spec RestartError → Refusal
 refusal_with library (Err e) = Some e
 refusal_with library (Ok s) = refusal library s

@@ -20,20 +20,25 @@ use Rattle.wc_syntax.specs.declared.outline.Instr.TheVariants as instr
 use Rattle.wc_syntax.specs.declared.outline.Stmt.{Stmt}
 use Rattle.wc_syntax.specs.declared.outline.Stmt.TheVariants as stmt
 
+-- a name without a place
 abbrev pub word : List ℕ → Name
 word text = record { text = text; at = 0 }
 
+-- a number without a place
 abbrev pub number : ℕ → Number
 number n = record { value = pos n; at = 0 }
 
 -- ---- expressions
 
+-- an expression without a place
 abbrev pub expr : Form → Expr
 expr f = roll-Expr (record { at = 0; form = f })
 
+-- a number as an expression
 abbrev pub numeral : ℕ → Expr
 numeral n = expr (form.Number (number n))
 
+-- a truth value as an expression
 abbrev pub truth : Bool → Expr
 truth b = expr (form.Truth b)
 
@@ -57,6 +62,7 @@ output_of key label = child key (asked.Outputs (word label))
 abbrev pub negated : Expr → Expr
 negated e = expr (form.Unary unary.Not e)
 
+-- two expressions joined by an operator
 abbrev pub joined : BinaryOp → Expr → Expr → Expr
 joined o a b = expr (form.Binary o a b)
 
@@ -80,12 +86,15 @@ call_with callee source ports key = stmt.Call (record { at = 0; callee = word ca
 
 -- ---- instructions
 
+-- a step without a place
 abbrev pub step : List ℕ → List Stmt → Instr
 step name stmts = instr.Step (record { at = 0; name = word name; stmts = stmts })
 
+-- a block of instructions
 abbrev pub block : List Instr → Block
 block is = roll-Block (record { instrs = is })
 
+-- an arm of an `if`
 abbrev pub arm : Expr → List Instr → Arm
 arm e is = roll-Arm (record { condition = e; block = block is })
 
@@ -93,5 +102,6 @@ arm e is = roll-Arm (record { condition = e; block = block is })
 abbrev pub either : List Arm → List Instr → Instr
 either arms is = instr.If 0 arms (Some (block is))
 
+-- a `while` without a place
 abbrev pub while : Expr → List Instr → Instr
 while e is = instr.While 0 e (block is)

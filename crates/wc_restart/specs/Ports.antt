@@ -12,6 +12,7 @@ use Rattle.wc_syntax.specs.declared.definition.Job.{Job}
 use Rattle.wc_syntax.specs.declared.definition.Port.{Port}
 use Rattle.wc_restart.specs.Pieces.{word}
 
+-- whether a port is required
 abbrev pub is_required : Port → Bool
 is_required p = not p.optional
 
@@ -24,6 +25,7 @@ abbrev pub required : List Port → List Port
 required [] = []
 required (p ∷ ps) = if is_required p then port_of p ∷ required ps else required ps
 
+-- whether two kinds are the same
 abbrev pub same_kind : Kind → Kind → Bool
 same_kind kind.Int kind.Int = true
 same_kind kind.Bool kind.Bool = true
@@ -48,17 +50,21 @@ ports_fit ports f =
 
 -- ---- definitions by name
 
+-- a definition that is a job
 abbrev pub as_job : Option Definition → Option Job
 as_job (Some (definition.Job j)) = Some j
 as_job _ = None
 
+-- a definition that is a function
 abbrev pub as_function : Option Definition → Option Function
 as_function (Some (definition.Function f)) = Some f
 as_function _ = None
 
+-- the job of a library with a name
 abbrev pub job_named : List ℕ → List Definition → Option Job
 job_named name library = as_job (definition_named name library)
 
+-- the function of a library with a name
 abbrev pub function_named : List ℕ → List Definition → Option Function
 function_named name library = as_function (definition_named name library)
 
@@ -67,10 +73,12 @@ abbrev pub inputs_in : Option Definition → List Port
 inputs_in None = []
 inputs_in (Some d) = (head_of d).inputs
 
+-- the output ports of a definition, if there is one
 abbrev pub outputs_in : Option Definition → List Port
 outputs_in None = []
 outputs_in (Some d) = (head_of d).outputs
 
+-- the input ports of the definition with a name
 abbrev pub inputs_of : List ℕ → List Definition → List Port
 inputs_of name library = inputs_in (definition_named name library)
 
@@ -78,5 +86,6 @@ inputs_of name library = inputs_in (definition_named name library)
 abbrev pub asked_of : List ℕ → List Definition → List Port
 asked_of name library = required (inputs_of name library)
 
+-- the required output ports of the definition with a name, without their places
 abbrev pub given_of : List ℕ → List Definition → List Port
 given_of name library = required (outputs_in (definition_named name library))

@@ -9,6 +9,7 @@ use Rattle.wc_restart.specs.declared.pieces.Source.TheVariants.{Inputs, Fix}
 abbrev pub of_fix : List ℕ → Expr
 of_fix name = output_of (codes "fix") name
 
+-- where the value of a port comes from: the inputs, or what the function mended
 abbrev pub source_of : Source → List ℕ → Expr
 source_of Inputs = input
 source_of Fix = of_fix

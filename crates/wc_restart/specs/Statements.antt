@@ -48,6 +48,7 @@ counting = set (codes "n") (joined binary.Add (plain (codes "n")) (numeral 1)) �
 abbrev pub passed_on_as : List ℕ → Stmt
 passed_on_as name = stmt.Out 0 (word name) (output_of (codes "job") name)
 
+-- the statement that makes an output of the job one of the chain
 abbrev pub passed_on : Port → Stmt
 passed_on p = passed_on_as p.name.text
 

@@ -27,9 +27,11 @@ TurnsKeepSound o = (n m : ℕ) (w v : World) → IsReached w → IsSound w → T
 abbrev pub TurnsAreBatches : Outside → Type 0
 TurnsAreBatches o = (n m : ℕ) (w v : World) → Turns o n m w v → v.batches ≡ w.batches + n
 
+-- The law: each world that accepted changes made continues itself
 abbrev pub WorldsContinueThemselves : Type 0
 WorldsContinueThemselves = (w : World) → IsReached w → Continues w w
 
+-- The law: a world that continues another also continues what that one continues
 abbrev pub ContinuingGoesOn : Type 0
 ContinuingGoesOn = (u v w : World) → Continues u v → Continues v w → Continues u w
 

@@ -13,10 +13,12 @@ fails_in (part.Chain c) = 0
 fails_in (part.Job j) = j.fails
 fails_in part.Over = 0
 
+-- whether a process is there and has the pause mark
 abbrev pub is_paused : Option ProcessRecord → Bool
 is_paused None = false
 is_paused (Some r) = r.paused
 
+-- how often a job's task failed in a row, 0 where there is no job
 abbrev pub fails_of : Option ProcessRecord → ℕ
 fails_of None = 0
 fails_of (Some r) = fails_in r.part

@@ -11,7 +11,9 @@ use wc_transport::Transport;
 
 /// Turns keep a sound world sound, and lose nothing that it held.
 pub fn turns_keep_sound<T: Transport, P: Pacer>()
+    // Turns with the answer of one call keep a world sound.
     ensures in_turn { (limits : Limits) (now : ℕ) (old new : T) → TurnsKeepSound (in_turn T.Transport limits now old new) }
+    // So do those of a run.
     ensures in_run { (limits : Limits) (old new : T) (clock : P) → TurnsKeepSound (in_run T.Transport P.Pacer limits old new clock) }
 {}
 

@@ -60,11 +60,19 @@ pub fn answer_for<T: Transport>(
     pid: u32,
     now: u64,
 ) -> Result<TaskAnswer, RunError>
+    // The process is ready at the moment.
     requires ready { is_ready_at world.now.world pid now ≡ true }
+    // The answer is one that this transport gave, or none where nothing is needed.
     ensures answers { IfOk result (λ a. (limits : AnyLimits) → Answers (in_turn T.Transport limits now transport.old transport.new) world.now.world pid a) }
+    // It fits what the process asks.
     ensures fits { IfOk result (FitsAt world.now.world pid) }
+    // An error is want of memory alone.
     ensures memory { IfErr result (λ e. e ≡ OutOfMemory) }
+    // The transport is asked once where something is needed, but for want of memory, before which it may not be asked; where nothing is needed it stays as
+    // it was.
     ensures asks { WhatItNeeds world.now.world pid (AsksOnce result T.asked transport.old transport.new) }
+    // Beside the request that it may place for this process, what the transport has placed, its table and what has ended stay, and it counts one fault at
+    // most.
     ensures stays { WhatItNeeds world.now.world pid (λ n. IsAsked T.Transport pid n transport.old transport.new) }
 {
     let asks = match need(alloc, world, pid) {
@@ -90,10 +98,15 @@ pub fn changes_of(
     answer: TaskAnswer,
     now: u64,
 ) -> Result<Changes, RunError>
+    // The limits lie within their ranges.
     requires limits { AreLimits limits.now }
+    // The process is ready at the moment.
     requires ready { is_ready_at world.now.world pid now ≡ true }
+    // The answer fits what the process asks.
     requires fits { FitsAt world.now.world pid answer }
+    // The changes are those of the turn, and the world has room for them.
     ensures ok { IfOk result (IsReady limits.now world.now.world pid answer now) }
+    // A refusal is that there is no room, or want of memory.
     ensures refused { IfErr result (RefusesChanges limits.now world.now.world pid answer now) }
 {
     match turn(alloc, world, limits, pid, answer, now) {

@@ -18,9 +18,11 @@ use Rattle.wc_semantics.specs.Meaning.{is_killed}
 abbrev pub arm_block : Arm → Block
 arm_block x = (out-Arm x).block
 
+-- the condition of an arm
 abbrev pub condition : Arm → Expr
 condition x = (out-Arm x).condition
 
+-- an arm's condition with the instructions of its block
 abbrev pub arm_list : Arm → Expr × List Instr
 arm_list x = (condition x, instrs (arm_block x))
 

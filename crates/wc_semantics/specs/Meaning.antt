@@ -35,6 +35,7 @@ abbrev pub kept : ProcessState → Values → Values
 kept (Finished n) outs = outs
 kept s outs = []
 
+-- a call's tree under its label
 abbrev pub its_tree : Label × Replayed → Label × Tree
 its_tree c = (c.0, c.1.tree)
 
@@ -42,6 +43,7 @@ its_tree c = (c.0, c.1.tree)
 abbrev pub from_caller : Label → Path × Request → Path × Request
 from_caller l a = (l ∷ a.0, a.1)
 
+-- the requests of a call, with the call's label in front of their paths
 abbrev pub its_asked : Label × Replayed → List (Path × Request)
 its_asked c = map (from_caller c.0) c.1.asked
 
@@ -67,6 +69,7 @@ abbrev pub judged : List Port → ProcessState → Values → ProcessState
 judged ports (Finished n) outs = Finished (final_status ports (n, outs))
 judged ports s outs = s
 
+-- whether a state is Killed
 abbrev pub is_killed : ProcessState → Bool
 is_killed Killed = true
 is_killed s = false
@@ -76,6 +79,7 @@ abbrev pub strays : Option ℕ → ProcessState → Bool
 strays None s = false
 strays (Some c) s = if is_killed s then false else true
 
+-- the tree of a chain that ends in a state; astray where a kill was to come and the state is another than Killed
 abbrev pub end : Option ℕ → List ℕ → ProcessState → ℕ → Progress → Answer
 end stop name s n e = if strays stop s then Astray else Gave (chain_tree name s e) n
 
@@ -91,6 +95,7 @@ ended stop name ports Off = Astray
 abbrev pub first : Values → Progress
 first inputs = record { env = env_of inputs; outputs = []; calls = [] }
 
+-- the kind of the port with a name, if there is one
 abbrev pub kinds_of : List Port → List ℕ → Option Kind
 kinds_of ports name = kind_of_port name ports
 
@@ -98,6 +103,7 @@ kinds_of ports name = kind_of_port name ports
 abbrev pub within : List Port → Option ℕ → Around → Around
 within ports stop a = record { call = a.call; deep = a.deep; takes = a.takes; kinds = kinds_of ports; stop = stop }
 
+-- what a work chain comes to: the run of its outline, ended
 abbrev pub chain : Option ℕ → List ℕ → Chain → Around → ℕ → Values → Answer
 chain stop name c a n inputs = ended stop name c.head.outputs (run (instrs c.outline) (within c.head.outputs stop a) n (first inputs))
 
@@ -128,6 +134,7 @@ cut zero d a n name inputs = Gave (killed_first name) n
 cut (suc c) (Some (definition.Chain k)) a n name inputs = chain (Some (suc c)) name k a n inputs
 cut (suc c) d a n name inputs = Astray
 
+-- what a definition comes to, whole, or up to the kill that is asked for
 abbrev pub by_kill : Option ℕ → Option Definition → Around → (Request → Option JobResult) → ℕ → List ℕ → Values → Answer
 by_kill None d a results n name inputs = whole d a results n name inputs
 by_kill (Some c) d a results n name inputs = cut c d a n name inputs
@@ -136,10 +143,12 @@ by_kill (Some c) d a results n name inputs = cut c d a n name inputs
 abbrev pub is_good : List Port → List ℕ × Value → Bool
 is_good ports i = fits_port (kind_of_port i.0 ports) i.1
 
+-- whether a definition is there and takes these inputs
 abbrev pub takes_inputs : Option Definition → Values → Bool
 takes_inputs None inputs = false
 takes_inputs (Some d) inputs = list_all (is_good (head_of d).inputs) inputs
 
+-- whether a library has a definition of the name that takes these inputs
 abbrev pub takes_of : List Definition → List ℕ → Values → Bool
 takes_of library name inputs = takes_inputs (definition_named name library) inputs
 

@@ -25,6 +25,7 @@ lacks (p ∷ ps) outputs = (not p.optional && is_none (lookup p.name.text output
 abbrev pub final_status : List Port → End → ℕ
 final_status ports end = if (end.0 == 0) && lacks ports end.1 then 11 else end.0
 
+-- the outcome of an exception for a reason, with the outputs that were set
 abbrev pub excepted : Reason → Values → Parsed
 excepted r outputs = record { state = Excepted r; outputs = outputs }
 

@@ -37,6 +37,7 @@ files_of (f ∷ fs) env files = do
   t ← text_at f.value env
   files_of fs env (put f.name.text t files)
 
+-- the name of a file that is fetched
 abbrev pub fetched : Fetch → List ℕ
 fetched f = f.name.text
 

@@ -40,6 +40,7 @@ abbrev pub kind_of_port : List ℕ → List Port → Option Kind
 kind_of_port name [] = None
 kind_of_port name (p ∷ ps) = if bytes_eq p.name.text name then Some p.kind else kind_of_port name ps
 
+-- whether a value is of a port's kind; of no port none is
 abbrev pub fits_port : Option Kind → Value → Bool
 fits_port None v = false
 fits_port (Some k) v = has_kind k (out-Value v)

@@ -57,6 +57,7 @@ Act = Around → ℕ → Progress → Flow
 -- ---- one after another
 
 infixl 10 ◌>->◌
+-- one part of a run after another: where the first goes on, with the fuel that it left
 abbrev pub ◌>->◌ : Flow → (ℕ → Progress → Flow) → Flow
 (Goes n e) >-> f = f n e
 (Ends s n e) >-> f = Ends s n e
@@ -69,6 +70,7 @@ abbrev pub spend : ℕ → (ℕ → Flow) → Flow
 spend zero f = NoFuel
 spend (suc n) f = f n
 
+-- what is done with the tree of a call, where it gave one
 abbrev pub taken : Answer → (Replayed → ℕ → Flow) → Flow
 taken (Gave t n) f = f t n
 taken TooLittle f = NoFuel
@@ -86,6 +88,7 @@ by_value (Faults r) n e f = Ends (Excepted r) n e
 abbrev pub label : List ℕ → ℕ → Label
 label key n = key ++ (95 ∷ decimal n)
 
+-- the children that a key's list holds
 abbrev pub children_at : Option Item → List Child
 children_at (Some (Many cs)) = cs
 children_at _ = []
@@ -94,6 +97,7 @@ children_at _ = []
 abbrev pub joined : Bool → Option Item → Child → Item
 joined append held c = if append then Many (children_at held ++ c ∷ []) else One c
 
+-- an environment with a child bound to its call's key, or put behind that key's list
 abbrev pub bound : Planned → Child → Env → Env
 bound p c env = with_key p.key (joined p.append (lookup p.key env.ctx) c) env
 
@@ -101,6 +105,7 @@ bound p c env = with_key p.key (joined p.append (lookup p.key env.ctx) c) env
 abbrev pub child : Replayed → Child
 child t = record { node = 0; state = (out-Tree t.tree).state; outputs = map unnumbered (out-Tree t.tree).outputs }
 
+-- what a run has come to, with a further call and its tree
 abbrev pub with_call : Planned → Label → Replayed → Progress → Progress
 with_call p l t e = record { env = bound p (child t) e.env; outputs = e.outputs; calls = e.calls ++ (l, t) ∷ [] }
 
@@ -114,6 +119,7 @@ abbrev pub take_calls : List Planned → Act
 take_calls [] a n e = Goes n e
 take_calls (p ∷ ps) a n e = spend n (λ m. taken (a.call (next_label p e) m p.callee p.inputs) (λ t left. take_calls ps a left (with_call p (next_label p e) t e)))
 
+-- whether a run is to stop behind so many calls
 abbrev pub is_stop : Option ℕ → ℕ → Bool
 is_stop None n = false
 is_stop (Some s) n = nat_eq s n
@@ -127,10 +133,12 @@ abbrev pub make_calls : List Planned → Act
 make_calls [] a n e = Goes n e
 make_calls (p ∷ ps) a n e = take_calls (p ∷ ps) a n e >-> stopped a
 
+-- what follows a step: the end that it asked for, or the calls that it collected
 abbrev pub after : Stepped → Act
 after (Stops s env outs) a n e = Ends s n (record { env = env; outputs = outs; calls = e.calls })
 after (Makes ps env outs) a n e = make_calls ps a n (record { env = env; outputs = outs; calls = e.calls })
 
+-- a step: its statements, and what follows them
 abbrev pub step_of : List Stmt → Act
 step_of ss a n e = after (statements a.deep a.takes a.kinds ss [] e.env e.outputs) a n e
 
@@ -142,6 +150,7 @@ test (Faults r) n e then_do else_do = Ends (Excepted r) n e
 test (Gives true) n e then_do else_do = then_do
 test (Gives false) n e then_do else_do = else_do
 
+-- instructions one after another
 abbrev pub all : List Act → Act
 all [] a n e = Goes n e
 all (x ∷ xs) a n e = x a n e >-> all xs a
@@ -151,13 +160,16 @@ abbrev pub picked : {A : Type 0} → List (Expr × A) → A → Env → Outcome 
 picked [] other env = Gives other
 picked (x ∷ xs) other env = holds x.0 env >>= (λ b. if b then Gives x.1 else picked xs other env)
 
+-- an instruction that does nothing
 abbrev pub nothing : Act
 nothing a n e = Goes n e
 
+-- an act, or nothing where there is none
 abbrev pub or_nothing : Option Act → Act
 or_nothing None = nothing
 or_nothing (Some x) = x
 
+-- the act of the first arm whose condition is true, else the other one
 abbrev pub choose : List (Expr × Act) → Option Act → Act
 choose arms other a n e = by_value (picked arms (or_nothing other) e.env) n e (λ x. x a n e)
 
@@ -172,18 +184,22 @@ abbrev pub returned : Option Number → ℕ
 returned None = 0
 returned (Some k) = saturate_unsigned w32 k.value
 
+-- what one instruction does, from what the instructions inside it do
 abbrev pub instr : Instr-F Act (Expr × Act) Act → Act
 instr (Instr-F.Step s) a n e = step_of s.stmts a n e
 instr (Instr-F.If at arms other) a n e = choose arms other a n e
 instr (Instr-F.While at c body) a n e = turns n c body a n e
 instr (Instr-F.Return at code) a n e = Ends (Finished (returned code)) n e
 
+-- an arm's condition with what its block does
 abbrev pub arm : Arm-F Act (Expr × Act) Act → Expr × Act
 arm x = (x.condition, x.block)
 
+-- what a block does: its instructions one after another
 abbrev pub block : Block-F Act (Expr × Act) Act → Act
 block b = all b.instrs
 
+-- what an instruction does
 abbrev pub exec : Instr → Act
 exec = fold-Instr Act (Expr × Act) Act instr arm block
 
@@ -191,6 +207,7 @@ exec = fold-Instr Act (Expr × Act) Act instr arm block
 abbrev pub arm_act : Arm → Expr × Act
 arm_act = fold-Arm Act (Expr × Act) Act instr arm block
 
+-- what a block of an outline does
 abbrev pub run_block : Block → Act
 run_block = fold-Block Act (Expr × Act) Act instr arm block
 

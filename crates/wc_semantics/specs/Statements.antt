@@ -30,6 +30,7 @@ abbrev pub keyed : List ℕ → Item → List (List ℕ × Item) → List (List 
 keyed key item [] = (key, item) ∷ []
 keyed key item (e ∷ es) = if bytes_eq e.0 key then (key, item) ∷ es else e ∷ keyed key item es
 
+-- an environment with a key of the context set
 abbrev pub with_key : List ℕ → Item → Env → Env
 with_key key item env = record { inputs = env.inputs; ctx = keyed key item env.ctx }
 
@@ -59,6 +60,7 @@ arguments (a ∷ rest) env values = do
   v ← argument a.value env
   arguments rest env (put a.port.text v values)
 
+-- a call that a step has collected, with the inputs that it takes
 abbrev pub planned : CallStmt → Values → Planned
 planned c inputs = record { callee = c.callee.text; key = c.key.text; append = c.append; inputs = inputs }
 

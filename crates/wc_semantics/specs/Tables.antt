@@ -30,12 +30,14 @@ no_kills path = None
 
 -- ---- lists of rows
 
+-- whether two lists of texts are equal
 abbrev pub texts_eq : List (List ℕ) → List (List ℕ) → Bool
 texts_eq [] [] = true
 texts_eq [] (u ∷ us) = false
 texts_eq (t ∷ ts) [] = false
 texts_eq (t ∷ ts) (u ∷ us) = bytes_eq t u && texts_eq ts us
 
+-- whether two lists of files are equal, by names and contents
 abbrev pub files_eq : List (List ℕ × List ℕ) → List (List ℕ × List ℕ) → Bool
 files_eq [] [] = true
 files_eq [] (g ∷ gs) = false
@@ -60,6 +62,7 @@ row_at path (r ∷ rs) = if texts_eq r.0 path then Some r.1 else row_at path rs
 abbrev pub plain : List (Request × JobResult) → Table
 plain rows path q = row_of q rows
 
+-- what is there, or another where nothing is
 abbrev pub or_else : {A : Type 0} → Option A → Option A → Option A
 or_else None other = other
 or_else (Some x) other = Some x

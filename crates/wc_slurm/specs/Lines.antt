@@ -22,9 +22,11 @@ lines_of text = slice_split is_feed text
 abbrev pub parts_after : Bool → List (List ℕ) → List ℕ → List (List ℕ)
 parts_after is_end parts part = if is_end then parts ++ part ∷ [] else parts
 
+-- the part of a line that is read, behind one more byte
 abbrev pub part_after : Bool → ℕ → List ℕ → List ℕ
 part_after is_end byte part = if is_end then [] else part ++ byte ∷ []
 
+-- how the parts of a line go on with one more byte
 pub record ReadsByte (is_end : Bool) (byte : ℕ) (parts : List (List ℕ)) (part : List ℕ) (parts' : List (List ℕ)) (part' : List ℕ) : Type 0 where
   pub whole : parts' ≡ parts_after is_end parts part
   pub begun : part' ≡ part_after is_end byte part
@@ -33,6 +35,7 @@ pub record ReadsByte (is_end : Bool) (byte : ℕ) (parts : List (List ℕ)) (par
 abbrev pub part_in : List ℕ → List ℕ
 part_in line = before_first is_bar line
 
+-- what stands behind the first bar of a line
 abbrev pub rest_in : List ℕ → List ℕ
 rest_in line = after_first is_bar line
 
@@ -40,6 +43,7 @@ rest_in line = after_first is_bar line
 abbrev pub word_in : List ℕ → List ℕ
 word_in line = before_first is_blank line
 
+-- what stands behind the first word of a line
 abbrev pub behind_word : List ℕ → List ℕ
 behind_word line = after_first is_blank line
 

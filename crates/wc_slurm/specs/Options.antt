@@ -11,6 +11,7 @@ use Rattle.wc_slurm.specs.declared.options.Place.TheVariants as place
 abbrev pub is_space : ℕ → Bool
 is_space b = b == 32 || (nat_lt 8 b && nat_lt b 14)
 
+-- whether a byte is a backslash
 abbrev pub is_backslash : ℕ → Bool
 is_backslash b = b == 92
 
@@ -18,6 +19,7 @@ is_backslash b = b == 92
 abbrev pub is_quote : ℕ → Bool
 is_quote b = b == 34 || b == 39
 
+-- whether a byte begins a comment
 abbrev pub is_comment : ℕ → Bool
 is_comment b = b == 35
 

@@ -18,6 +18,7 @@ is_of_job name = starts_with nat_eq name (codes "wc-") && is_utf8 name
 abbrev pub counting : List ℕ → List ℕ → List ℕ
 counting earlier later = if is_alive earlier && not (is_alive later) then earlier else later
 
+-- what is said of a job by an earlier and a later line: that of a job that goes on counts
 abbrev pub told_later : Option (List ℕ) → Option (List ℕ) → Option (List ℕ)
 told_later earlier None = earlier
 told_later None (Some later) = Some later

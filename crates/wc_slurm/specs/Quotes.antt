@@ -21,5 +21,7 @@ rest_read (b ∷ bs) outside = if b == 39 then rest_read bs inside else (if b ==
 rest_read (b ∷ bs) inside = if b == 39 then rest_read bs outside else option_map (λ w. b ∷ w) (rest_read bs inside)
 rest_read (b ∷ bs) escaped = if b == 39 then option_map (λ w. b ∷ w) (rest_read bs outside) else None
 
+-- The word that `sh` reads from a text in which each byte is quoted, by single quotes or as a single quote behind a backslash; none where the text is no
+-- such word
 abbrev pub word_read : List ℕ → Option (List ℕ)
 word_read text = rest_read text outside

@@ -10,9 +10,11 @@ use Rattle.wc_slurm.specs.declared.end.End.TheVariants as end
 abbrev pub told_node : List ℕ → List ℕ
 told_node told = field_in (rest_in told)
 
+-- the number of a job in a line of an answer
 abbrev pub told_number : List ℕ → List ℕ
 told_number told = field_in (rest_in (rest_in told))
 
+-- the restarts of a job in a line of an answer
 abbrev pub told_restarts : List ℕ → List ℕ
 told_restarts told = field_in (rest_in (rest_in (rest_in told)))
 
@@ -20,9 +22,11 @@ told_restarts told = field_in (rest_in (rest_in (rest_in told)))
 abbrev pub number_of : List ℕ → List ℕ
 number_of line = word_in line
 
+-- the restarts in a line that a run wrote
 abbrev pub restarts_of : List ℕ → List ℕ
 restarts_of line = word_in (behind_word line)
 
+-- the node in a line that a run wrote
 abbrev pub node_of : List ℕ → List ℕ
 node_of line = word_in (behind_word (behind_word line))
 

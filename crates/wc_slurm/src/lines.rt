@@ -78,7 +78,9 @@ pub fn worded(line: &[u8]) -> (&[u8], &[u8])
 
 /// The first field of a line, up to a blank in it, and what stands behind its bar.
 pub fn field(line: &[u8]) -> (&[u8], &[u8])
+    // The first field of the line.
     ensures word { result.0.now ≡ field_in line.now }
+    // What stands behind it.
     ensures rest { result.1.now ≡ rest_in line.now }
 {
     let (part, rest) = parted(line);

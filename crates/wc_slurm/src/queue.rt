@@ -115,8 +115,11 @@ impl Queue {
 
     /// Notes that a folder is asked about.
     pub fn note(&mut self, dir: u32) -> Result<(), AllocError>
+        // The folder was looked at since the scheduler was asked last, or it wasn't asked yet.
         ensures noted { OnOk result (IsStale self.new dir) }
+        // No other one counts so that didn't.
         ensures others { OnOk result ((other : ℕ) → (other ≡ dir → ⊥) → IsStale self.new other → IsStale self.old other) }
+        // The answer stays.
         ensures answer { self.new.answer ≡ self.old.answer }
     {
         self.noted.insert(dir)?;

@@ -69,12 +69,15 @@ pub record TakesOutcome (w : World) (r q : ProcessRecord) : Type 0 where
 abbrev pub clones : World → ProcessRecord → ProcessRecord → List Change
 clones w r q = ends w r (come_to w q) (Some q.node) None
 
+-- The law: the changes of a created calculation that takes the outcome of an equal one are accepted where there is room
 abbrev pub ClonesAreAccepted : Type 0
 ClonesAreAccepted = (w : World) (r q : ProcessRecord) → TakesOutcome w r q → HasPlaces w (length w.nodes + length (recorded_outputs w q.node)) → IsAccepted w (clones w r q)
 
+-- The law: the world after these changes continues the one before
 abbrev pub ClonesContinue : Type 0
 ClonesContinue = (w : World) (r q : ProcessRecord) → TakesOutcome w r q → Continues w (applied w (clones w r q))
 
+-- The law: where they are accepted, the world after them is sound
 abbrev pub ClonesKeepSound : Type 0
 ClonesKeepSound = (w : World) (r q : ProcessRecord) → TakesOutcome w r q → IsAccepted w (clones w r q) → IsSound (applied w (clones w r q))
 
@@ -100,12 +103,15 @@ pub record MayBegin (w : World) (r : ProcessRecord) : Type 0 where
 abbrev pub beginning : ProcessRecord → List Change
 beginning r = job_set r first_task false ∷ []
 
+-- The law: the change by which a created calculation begins, since it takes no outcome, is accepted, below 4,000,000,000 batches
 abbrev pub BeginningsAreAccepted : Type 0
 BeginningsAreAccepted = (w : World) (r : ProcessRecord) → MayBegin w r → w.batches < 4000000000 → IsAccepted w (beginning r)
 
+-- The law: the world after this change continues the one before
 abbrev pub BeginningsContinue : Type 0
 BeginningsContinue = (w : World) (r : ProcessRecord) → MayBegin w r → Continues w (applied w (beginning r))
 
+-- The law: where it is accepted, the world after it is sound
 abbrev pub BeginningsKeepSound : Type 0
 BeginningsKeepSound = (w : World) (r : ProcessRecord) → MayBegin w r → IsAccepted w (beginning r) → IsSound (applied w (beginning r))
 

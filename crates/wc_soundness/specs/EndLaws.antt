@@ -23,6 +23,7 @@ EndsAlive (loops d) = Unit {0}
 EndsAlive (submits d calls) = Unit {0}
 EndsAlive (ends s outputs) = (has_ended s ≡ true) × (s ≢ state.Killed)
 
+-- The law: an advance that ends its chain finishes or excepts it, and never kills it
 abbrev pub AdvancesEndAlive : Type 0
 AdvancesEndAlive = (library : List Definition) (k : Chain) (depth : ℕ) (env : Env) (c : Checkpoint) → EndsAlive (advance library k depth env c)
 

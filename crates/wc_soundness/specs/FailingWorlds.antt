@@ -15,6 +15,7 @@ use Rattle.wc_soundness.specs.FanWorlds.{world, called_nodes, called_links, fan_
 abbrev pub upload : (fails due : ℕ) → JobPart
 upload fails due = record { task = task.Upload; fails = fails; due = due }
 
+-- the record of the job after so many failures
 abbrev pub tries : (fails due : ℕ) → (paused : Bool) → ProcessRecord
 tries fails due paused = record {
   node = 5;
@@ -34,9 +35,11 @@ tries fails due paused = record {
   part = part.Job (upload fails due);
 }
 
+-- the world after so many failures
 abbrev pub after_failures : (fails due : ℕ) → (paused : Bool) → ℕ → World
 after_failures fails due paused batches = world called_nodes called_links (fan_waits ∷ (fresh first_job ∷ (tries fails due paused ∷ []))) batches
 
+-- the changes that leave the job with so many failures
 abbrev pub to_try : (fails due : ℕ) → (paused : Bool) → List Change
 to_try fails due paused =
     change.Set (record { pid = 5; state = state.Waiting; paused = paused; cached_from = 0; fuel = 0; code = None; part = part.Job (upload fails due) }) ∷ []

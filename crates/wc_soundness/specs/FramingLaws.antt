@@ -47,6 +47,7 @@ abbrev pub SubmissionsTouch : Type 0
 SubmissionsTouch = (w : World) (library : List Definition) (caching : List (List ℕ)) (name : List ℕ) (inputs : Values) (cs : List Change)
     → IsReached w → Submits w library caching name inputs cs → Touches w (applied w cs) (submitted_number w inputs)
 
+-- The law: the end of a process that hasn't started is an event that touches this process alone
 abbrev pub EndsTouch : Type 0
 EndsTouch = (w : World) (r : ProcessRecord) (p : Parsed) (source : Option ℕ) (code : Option ℤ) → find_record r.node w.records ≡ Some r
     → has_ended r.state ≡ false → r.started ≡ 0 → Touches w (applied w (ends w r p source code)) r.node

@@ -55,6 +55,7 @@ MovesAreSafe = (w : World) (r : ProcessRecord) (s : ProcessState) (paused : Bool
 
 -- ---- the pause mark
 
+-- The law: the changes of a pause and of a play of a live process of a sound world are safe
 abbrev pub MarksAreSafe : Type 0
 MarksAreSafe = (w : World) (r : ProcessRecord) → IsSound w → IsLive w r → AreSafe w (pause_changes r) × AreSafe w (play_changes r)
 

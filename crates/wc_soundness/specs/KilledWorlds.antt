@@ -11,6 +11,7 @@ use Rattle.wc_world.specs.declared.change.Change.TheVariants as change
 use Rattle.wc_soundness.specs.Words.{tree}
 use Rattle.wc_soundness.specs.FanWorlds.{world, half_nodes, half_links, fan_record, first_job, second_job, job_record, over, one, two, job_tree, request}
 
+-- the change that kills a process
 abbrev pub kills : ℕ → ℕ → Change
 kills pid fuel = change.Set (record { pid = pid; state = state.Killed; paused = false; cached_from = 0; fuel = fuel; code = None; part = part.Over })
 
@@ -18,6 +19,7 @@ kills pid fuel = change.Set (record { pid = pid; state = state.Killed; paused = 
 abbrev pub kill_changes : List Change
 kill_changes = kills 3 0 ∷ (kills 2 2 ∷ [])
 
+-- the record of the killed chain
 abbrev pub killed_chain : ProcessRecord
 killed_chain = fan_record state.Killed 2 2 8 part.Over
 
@@ -25,6 +27,7 @@ killed_chain = fan_record state.Killed 2 2 8 part.Over
 abbrev pub killed : World
 killed = world half_nodes half_links (killed_chain ∷ (job_record first_job state.Killed None 0 8 part.Over ∷ (over second_job 3 7 ∷ []))) 8
 
+-- the tree of the killed chain
 abbrev pub killed_tree : Tree
 killed_tree = tree (codes "fan") state.Killed [] ((one, tree (codes "double") state.Killed [] []) ∷ ((two, job_tree 54 (pos 6)) ∷ []))
 

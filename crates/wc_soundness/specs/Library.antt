@@ -96,6 +96,7 @@ double = record {
 abbrev pub input_a : Expr
 input_a = expr (form.Input 0 (word (codes "a")))
 
+-- a number as an expression
 abbrev pub numeral : ℕ → Expr
 numeral n = expr (form.Number (number (pos n)))
 
@@ -132,5 +133,6 @@ fan = record {
   outline = roll-Block (record { instrs = instr.Step go ∷ (instr.Step done ∷ []) });
 }
 
+-- A job that doubles a number, and a work chain that calls it twice, written out
 abbrev pub library : List Definition
 library = definition.Job double ∷ (definition.Chain fan ∷ [])

@@ -22,9 +22,11 @@ use Rattle.wc_machine.specs.Results.{result_of, table_of, HasResultsByRequest}
 abbrev pub ResultsAreFound : Type 0
 ResultsAreFound = (w : World) → IsSound w → (pid : ℕ) (x : JobResult) → HasResult w pid x ↔ (result_of w pid ≡ Some x)
 
+-- The law: in a sound world a process has at most one recorded result
 abbrev pub OneResult : Type 0
 OneResult = (w : World) → IsSound w → (pid : ℕ) (x y : JobResult) → HasResult w pid x → HasResult w pid y → x ≡ y
 
+-- The law: in a sound world a killed process has no recorded result
 abbrev pub KilledHaveNoResult : Type 0
 KilledHaveNoResult = (w : World) → IsSound w → (r : ProcessRecord) (x : JobResult) → find_record r.node w.records ≡ Some r → r.state ≡ Killed → ¬ HasResult w r.node x
 

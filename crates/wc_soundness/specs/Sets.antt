@@ -35,6 +35,7 @@ use Rattle.wc_machine.specs.Submissions.{AreInputs}
 abbrev pub moved : ProcessRecord → ProcessState → Bool → ℕ → Part → SetProcess
 moved r s paused fuel p = record { pid = r.node; state = s; paused = paused; cached_from = 0; fuel = fuel; code = None; part = p }
 
+-- the one change, a Set, with which a process goes on
 abbrev pub moves_to : ProcessRecord → ProcessState → Bool → ℕ → Part → List Change
 moves_to r s paused fuel p = change.Set (moved r s paused fuel p) ∷ []
 

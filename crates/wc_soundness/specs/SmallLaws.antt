@@ -70,6 +70,7 @@ pub record FanIsMeant : Type 0 where
 
 -- ---- a job that takes the outcome of an equal one
 
+-- The law of a job that takes the outcome of an equal one: it is submitted, is ready and takes the outcome as written out in `CachedWorlds`
 pub record CachingGoes : Type 0 where
   pub submits : submission cached.ended library.library (codes "double" ∷ []) (codes "double") cached.input (definition.Job library.double) ≡ cached.submission_changes
   pub after : applied cached.ended cached.submission_changes ≡ cached.submitted
@@ -95,6 +96,8 @@ pub record FailuresGo : Type 0 where
 
 -- ---- a work chain that is killed
 
+-- The law of the kill of a waiting chain with a live child and an ended one: both live ones are killed, nothing is ready, and the tree is as written out
+-- in `KilledWorlds`
 pub record KillGoes : Type 0 where
   pub kills_both : Makes fan.half (kill 2) killed.kill_changes killed.killed
   pub ready : ready_at killed.killed 0 ≡ []
@@ -122,6 +125,7 @@ pub record WrongWorldsAreRefused : Type 0 where
   -- awaited children in another order
   pub disordered : All (λ r. AwaitsLastCalls wrong.disordered r r.part) wrong.disordered.records → ⊥
 
+-- The law: none of the worlds of `WrongWorlds`, which are wrong in one thing each, is sound
 pub record WrongWorldsAreUnsound : Type 0 where
   pub swapped : IsSound wrong.swapped → ⊥
   pub other_result : IsSound wrong.other_result → ⊥

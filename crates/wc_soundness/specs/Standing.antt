@@ -15,6 +15,7 @@ use Rattle.wc_machine.specs.Steps.{Argument, node, plain, Call}
 abbrev pub StandsIn : Chain → Checkpoint → Type 0
 StandsIn k c = (not (is_nil c.frames) ≡ true) × (list_all (frame_fits (block_lengths k.outline)) c.frames ≡ true)
 
+-- the checkpoint behind an advance stands in the chain's outline; of an advance that ends the chain nothing is asked
 abbrev pub StandsAfter : Chain → Advanced → Type 0
 StandsAfter k (goes d) = StandsIn k d
 StandsAfter k (loops d) = StandsIn k d
@@ -27,6 +28,7 @@ IsLow (held.Plain v) = depth v ≤ 32
 IsLow (held.One pid) = Unit {0}
 IsLow (held.Many pids) = Unit {0}
 
+-- the values that a checkpoint's context holds are at most 32 deep
 abbrev pub AreLow : Checkpoint → Type 0
 AreLow c = All (λ e. IsLow e.1) c.ctx
 
@@ -35,9 +37,11 @@ abbrev pub IsLowArgument : Argument → Type 0
 IsLowArgument (node n) = Unit {0}
 IsLowArgument (plain v) = depth v ≤ 32
 
+-- the new values that a call passes are at most 32 deep
 abbrev pub AreLowIn : Call → Type 0
 AreLowIn c = All (λ e. IsLowArgument e.1) c.args
 
+-- the values in the context behind an advance, and those that its calls pass, are at most 32 deep; of an advance that ends the chain nothing is asked
 abbrev pub AreLowAfter : Advanced → Type 0
 AreLowAfter (goes d) = AreLow d
 AreLowAfter (loops d) = AreLow d

@@ -35,6 +35,7 @@ input_links type next pid ((port, plain v) ∷ rest) = record { source = next; t
 -- ---- one call
 
 module _ (w : World) (r : ProcessRecord) where
+  -- the process that a call makes
   abbrev pub child_of : Call → NewProcess
   child_of c = record {
     kind = kind_of_callee w r c;
@@ -49,25 +50,31 @@ module _ (w : World) (r : ProcessRecord) where
   abbrev pub child_record : ℕ → Call → ProcessRecord
   child_record next c = made (called_number w r next c) (child_of c)
 
+  -- the nodes that a call adds: its new values and its process
   abbrev pub call_nodes : Call → List NodeKind
   call_nodes c = data_nodes c.args ++ process_node (kind_of_callee w r c) ∷ []
 
+  -- the link from the chain to the process of a call
   abbrev pub its_call_link : ℕ → Call → Link
   its_call_link next c = record { source = r.node; target = called_number w r next c; link = call_link (kind_of_callee w r c); label = c.label }
 
+  -- the links that a call adds: of its arguments, and its own
   abbrev pub call_links : ℕ → Call → List Link
   call_links next c = input_links (input_link (kind_of_callee w r c)) next (called_number w r next c) c.args ++ its_call_link next c ∷ []
 
   -- ---- all calls
 
+  -- the nodes that calls add
   abbrev pub calls_nodes : List Call → List NodeKind
   calls_nodes [] = []
   calls_nodes (c ∷ cs) = call_nodes c ++ calls_nodes cs
 
+  -- the links that calls add
   abbrev pub calls_links : ℕ → List Call → List Link
   calls_links next [] = []
   calls_links next (c ∷ cs) = call_links next c ++ calls_links (suc (called_number w r next c)) cs
 
+  -- the records that calls add
   abbrev pub calls_records : ℕ → List Call → List ProcessRecord
   calls_records next [] = []
   calls_records next (c ∷ cs) = child_record next c ∷ calls_records (suc (called_number w r next c)) cs
@@ -84,15 +91,19 @@ module _ (w : World) (r : ProcessRecord) where
 
   -- ---- the chain waits
 
+  -- the number of the next node
   abbrev pub first_free : ℕ
   first_free = length w.nodes + 1
 
+  -- a chain's checkpoint once it waits for these calls
   abbrev pub waiting_at : Checkpoint → List Call → Checkpoint
   waiting_at d calls = with_awaits w r d (awaits w r first_free calls) (d.calls + length calls)
 
+  -- how a chain is set once it waits for these calls
   abbrev pub waits_at : Checkpoint → List Call → SetProcess
   waits_at d calls = record { pid = r.node; state = state.Waiting; paused = false; cached_from = 0; fuel = r.fuel; code = None; part = part.Chain (waiting_at d calls) }
 
+  -- the record of a chain that waits for the calls that it submitted
   abbrev pub now_waits : Checkpoint → List Call → ProcessRecord
   now_waits d calls = set (w.batches + 1) (waits_at d calls) r
 

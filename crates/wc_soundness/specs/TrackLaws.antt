@@ -51,6 +51,7 @@ ChainsStayOnTrack = (w : World) (r : ProcessRecord) (k : Chain) (library : List 
     → advance library k r.depth env c ≡ goes d
     → (s : ProcessRecord) → find_record r.node (after_turn w r k (goes d)).records ≡ Some s → IsOnTrack (after_turn w r k (goes d)) s
 
+-- The law: a work chain of a sound world is on track after a turn of a loop
 abbrev pub LoopsStayOnTrack : Type 0
 LoopsStayOnTrack = (w : World) (r : ProcessRecord) (k : Chain) (library : List Definition) (c d : Checkpoint) (env : Env) → IsAtTurn w r k library c env
     → advance library k r.depth env c ≡ loops d

@@ -17,23 +17,29 @@ use Rattle.wc_machine.specs.Machine.{Event, Leads, after_changes}
 
 -- ---- definitions, without offsets
 
+-- a name without a place
 abbrev pub word : List ℕ → Name
 word text = record { text = text; at = 0 }
 
+-- a text in quotes without a place
 abbrev pub quote : List ℕ → Quoted
 quote text = record { text = text; at = 0 }
 
+-- a number without a place
 abbrev pub number : ℤ → Number
 number value = record { value = value; at = 0 }
 
+-- an expression without a place
 abbrev pub expr : Form → Expr
 expr form = roll-Expr (record { at = 0; form = form })
 
 -- ---- worlds
 
+-- a link between two nodes, of a type, with a label
 abbrev pub arrow : ℕ → ℕ → LinkType → List ℕ → Link
 arrow source target link label = record { source = source; target = target; link = link; label = label }
 
+-- the tree of a process: its definition, its state, its outputs and the trees of its calls
 abbrev pub tree : List ℕ → ProcessState → Values → List (Label × Tree) → Tree
 tree definition state outputs calls = roll-Tree (record { definition = definition; state = state; outputs = outputs; calls = calls })
 

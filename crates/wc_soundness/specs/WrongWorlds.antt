@@ -15,6 +15,7 @@ use Rattle.wc_soundness.specs.CachedWorlds as cached
 
 -- ---- the outputs of an ended calculation
 
+-- links with two outputs exchanged
 abbrev pub swapped_links : List Link
 swapped_links = arrow 1 2 link.InputCalc (codes "x") ∷ (arrow 2 3 link.Create (codes "value") ∷ (arrow 2 4 link.Create (codes "retrieved") ∷ []))
 
@@ -22,6 +23,7 @@ swapped_links = arrow 1 2 link.InputCalc (codes "x") ∷ (arrow 2 3 link.Create 
 abbrev pub swapped : World
 swapped = record { nodes = cached.ended_nodes; links = swapped_links; records = cached.source ∷ []; libraries = cached.with_caching ∷ []; batches = 6 }
 
+-- nodes with another output
 abbrev pub other_nodes : List NodeKind
 other_nodes = kept.Data (value.Int (pos 2)) ∷ (kept.Calculation ∷ (kept.Data (value.Folder (fan.printed 52)) ∷ (kept.Data (value.Int (pos 5)) ∷ [])))
 
@@ -31,6 +33,7 @@ other_result = record { nodes = other_nodes; links = cached.ended_links; records
 
 -- ---- the cache
 
+-- a source that ended in a later batch
 abbrev pub late_source : ℕ → ProcessRecord
 late_source batch = cached.job_record 2 1 (state.Finished 0) None (Some (pos 0)) 2 batch part.Over
 
@@ -48,14 +51,17 @@ late batch = record {
 abbrev pub marked_source : ProcessRecord
 marked_source = cached.job_record 2 1 (state.Finished 310) None (Some (pos 0)) 2 6 part.Over
 
+-- a job that took the outcome with a marked status
 abbrev pub marked_taker : ProcessRecord
 marked_taker = cached.job_record 5 2 (state.Finished 310) (Some 2) None 8 8 part.Over
 
+-- the nodes of a job with a marked status, and of one that took its outcome
 abbrev pub marked_nodes : List NodeKind
 marked_nodes =
     kept.Data (value.Int (pos 9))
     ∷ (kept.Calculation ∷ (kept.Data (value.Folder []) ∷ (kept.Data (value.Int (pos 9)) ∷ (kept.Calculation ∷ (kept.Data (value.Folder []) ∷ [])))))
 
+-- the links of both
 abbrev pub marked_links : List Link
 marked_links =
     arrow 1 2 link.InputCalc (codes "x")
@@ -73,6 +79,7 @@ marked = record {
 
 -- ---- the calls of a work chain
 
+-- links without that of a call
 abbrev pub cut_links : List Link
 cut_links =
     (arrow 1 2 link.InputWork (codes "a") ∷ (arrow 1 3 link.InputCalc (codes "x") ∷ (arrow 4 5 link.InputCalc (codes "x") ∷ (arrow 2 5 link.CallCalc fan.two ∷ []))))
@@ -93,6 +100,7 @@ disordered = fan.world fan.called_nodes fan.called_links (disordered_chain ∷ (
 
 -- ---- what an ended work chain means
 
+-- links that return the outputs exchanged
 abbrev pub exchanged_links : List Link
 exchanged_links = fan.full_links ++ arrow 2 7 link.Return (codes "first") ∷ (arrow 2 9 link.Return (codes "last") ∷ [])
 
@@ -100,6 +108,7 @@ exchanged_links = fan.full_links ++ arrow 2 7 link.Return (codes "first") ∷ (a
 abbrev pub exchanged : World
 exchanged = fan.world fan.full_nodes exchanged_links (fan.both_over fan.fan_ended) 15
 
+-- the record of a chain that keeps too little fuel
 abbrev pub little_chain : ProcessRecord
 little_chain = fan.fan_record (state.Finished 0) 1 2 15 part.Over
 

@@ -3,6 +3,7 @@ use Rattle.std.specs.Prelude.{◌≡◌, ℕ, List, [], ◌∷◌, ◌++◌, Opt
 use Rattle.std.specs.Str.{bytes_eq}
 use Rattle.wc_state.specs.declared.context.CtxRef.{CtxRef}
 
+-- keys with what they hold
 abbrev pub Pairs : Type 0
 Pairs = List (List ℕ × CtxRef)
 

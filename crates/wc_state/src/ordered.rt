@@ -42,7 +42,9 @@ impl<T> Ordered<T> {
 
     /// How many names there are. No name stands twice.
     pub fn len(&self) -> usize
+        // How many names there are.
         ensures value { result ≡ length self.now }
+        // No name stands twice.
         ensures differ { KeysDiffer self.now }
     {
         match &self.pairs {

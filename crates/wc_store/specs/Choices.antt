@@ -16,6 +16,8 @@ begins image = nat_le 1 (length image) && (slice_index image 0 == 0x57)
 abbrev pub journal_in : List ℕ → Held
 journal_in image = if begins image then journal_of image else no_journal
 
+-- Which of two disks a store is on: on none, or there is damage at a place of one, or on a disk, with the version, the generation and the batches of its
+-- journal
 pub data Choice : Type 0 where
   -- there is no store
   no_store : Choice
@@ -24,6 +26,7 @@ pub data Choice : Type 0 where
   -- the store is on this disk, whose journal has this version, this generation and these batches
   on : (disk version generation : ℕ) → Placed → Choice
 
+-- whether a list is empty
 abbrev pub is_nil : {T : Type 0} → List T → Bool
 is_nil [] = true
 is_nil (x ∷ xs) = false
@@ -47,6 +50,7 @@ later_of one two v g bs v' g' bs' =
     else if nat_lt g' g then settled_on 1 one v g bs
     else settled_on 2 two v' g' bs'
 
+-- which disk has the store, or which is damaged, by what each holds: damage of disk one comes first, and of two journals the later one counts
 abbrev pub chosen_of : List ℕ → List ℕ → Held → Held → Choice
 chosen_of one two (damaged at found) held = broken 1 at found
 chosen_of one two no_journal (damaged at found) = broken 2 at found

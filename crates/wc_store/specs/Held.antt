@@ -13,6 +13,7 @@ use Rattle.wc_world.specs.declared.change.Change.TheVariants as change
 use Rattle.wc_world.specs.declared.error.WorldError.{WorldError}
 use Rattle.wc_store.specs.Choices.{Choice, no_store, broken, on, chosen, found_at}
 
+-- What the images of two disks hold: nothing, damage of a disk at a place, or a world
 pub data Standing : Type 0 where
   nothing : Standing
   damage : (disk at : ℕ) → Found → Standing
@@ -59,9 +60,11 @@ Plays disk image generation place w (b ∷ bs) s =
     (IsUnfit (is_snapshot_place generation place) w cs × (s ≡ damage disk b.0 (found_at image b.0)))
     ⊎ ((suits (is_snapshot_place generation place) cs ≡ true) × IsAccepted w cs × Plays disk image generation (place + 1) (applied w cs) bs s)))
 
+-- the image of a disk, by its number
 abbrev pub image_of : ℕ → List ℕ → List ℕ → List ℕ
 image_of disk one two = if disk == 1 then one else two
 
+-- what two images hold, once a disk is chosen: nothing, damage, or what its batches play to
 abbrev pub PlaysChoice : List ℕ → List ℕ → Choice → Standing → Type 0
 PlaysChoice one two no_store s = s ≡ nothing
 PlaysChoice one two (broken disk at found) s = s ≡ damage disk at found

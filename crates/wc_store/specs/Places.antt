@@ -8,6 +8,7 @@ abbrev pub number_of : Place → ℕ
 number_of One = 1
 number_of Two = 2
 
+-- the other one of two disks
 abbrev pub opposite : Place → Place
 opposite One = Two
 opposite Two = One

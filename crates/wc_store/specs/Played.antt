@@ -25,6 +25,7 @@ RefusesReading payload (unplayed.Unread at) = (e : RecordError) × whole payload
 RefusesReading payload unplayed.Unfit = ⊥
 RefusesReading payload unplayed.OutOfMemory = Unit {0}
 
+-- whether a change is a Count
 abbrev pub is_count : Option Change → Bool
 is_count None = false
 is_count (Some (change.Library l names)) = false
@@ -88,6 +89,7 @@ Makes generation bs w = (disk : ℕ) (image : List ℕ) → Plays disk image gen
 abbrev pub Breaks : ℕ → Placed → ℕ → Type 0
 Breaks generation bs at = (disk : ℕ) (image : List ℕ) → Plays disk image generation 0 empty bs (damage disk at (found_at image at))
 
+-- batches break at a place, or memory ran out
 abbrev pub RefusesBatches : ℕ → Placed → Stop → Type 0
 RefusesBatches generation bs (stop.At at) = AreAddressed bs → Breaks generation bs at
 RefusesBatches generation bs stop.OutOfMemory = Unit {0}

@@ -13,6 +13,7 @@ use Rattle.wc_world.specs.Records.{find_record, is_call_from}
 use Rattle.wc_machine.specs.Recorded.{recorded_request}
 use Rattle.wc_machine.specs.Results.{result_of}
 
+-- requests by the call path of the job that makes them
 abbrev pub Asks : Type 0
 Asks = List (Path × Request)
 
@@ -28,6 +29,7 @@ abbrev pub asked_by_calls : (ℕ → Asks) → ℕ → List Link → Asks
 asked_by_calls asks pid [] = []
 asked_by_calls asks pid (l ∷ ls) = if is_call_from pid l then map (from_caller l.label) (asks l.target) ++ asked_by_calls asks pid ls else asked_by_calls asks pid ls
 
+-- the requests with recorded results of a process and of what it called
 abbrev pub asked_at : World → (ℕ → Asks) → Option ProcessRecord → Asks
 asked_at w asks None = []
 asked_at w asks (Some r) = answered (recorded_request w r) (result_of w r.node) ++ asked_by_calls asks r.node w.links

@@ -6,6 +6,7 @@ use Rattle.std.specs.Cmp.Lexicographic.{slice_cmp}
 use Rattle.std.specs.List.{Contains}
 use Rattle.wc_syntax.specs.Findings.{Finding}
 
+-- the order of findings: by place, then by rule, then by name
 abbrev pub finding_cmp : Finding → Finding → Ordering
 finding_cmp f g = ordering_then (nat_cmp f.at g.at) (ordering_then (nat_cmp f.number g.number) (slice_cmp nat_cmp f.name g.name))
 

@@ -31,11 +31,13 @@ pub data Mention : Type 0 where
   -- `.outputs.NAME`
   Label : Name → Mention
 
+-- the names that are mentioned in what is asked of a child
 abbrev pub part_mentions : ChildPart → List Mention
 part_mentions (part.Outputs n) = Label n ∷ []
 part_mentions part.Status = []
 part_mentions part.Ok = []
 
+-- what is there, or an empty list
 abbrev pub or_none : {A : Type 0} → Option (List A) → List A
 or_none None = []
 or_none (Some xs) = xs
@@ -58,6 +60,7 @@ form_mentions (Form-F.GivenInput at n) = Input at n ∷ []
 form_mentions (Form-F.Count at n) = Context at n ∷ []
 form_mentions (Form-F.List es) = flat_map (λ ms. ms) es
 
+-- the mentions of an expression are those of its form
 abbrev pub its_mentions : Expr-F (List Mention) (List Mention) → List Mention
 its_mentions e = e.form
 
@@ -65,6 +68,7 @@ its_mentions e = e.form
 abbrev pub mentions : Expr → List Mention
 mentions = fold-Expr (List Mention) (List Mention) form_mentions its_mentions
 
+-- the name of a mention
 abbrev pub mentioned : Mention → Name
 mentioned (Bare n) = n
 mentioned (Given n) = n
@@ -72,21 +76,25 @@ mentioned (Input at n) = n
 mentioned (Context at n) = n
 mentioned (Label n) = n
 
+-- the names that are mentioned in a condition
 abbrev pub condition_mentions : Option Expr → List Mention
 condition_mentions None = []
 condition_mentions (Some e) = mentions e
 
+-- the names that are mentioned in an exit
 abbrev pub exit_mentions : Exit → List Mention
 exit_mentions x = condition_mentions x.condition
 
 -- ---- in a statement
 
+-- the names that are mentioned in a statement of a step
 abbrev pub stmt_mentions : Stmt → List Mention
 stmt_mentions (stmt.Ctx at n e) = mentions e
 stmt_mentions (stmt.Out at n e) = mentions e
 stmt_mentions (stmt.Exit x) = exit_mentions x
 stmt_mentions (stmt.Call c) = flat_map (λ a. mentions a.value) c.args
 
+-- the names that are mentioned in a rule
 abbrev pub rule_mentions : Rule → List Mention
 rule_mentions (rule.Let at n e) = mentions e
 rule_mentions (rule.Out at n e) = mentions e
@@ -107,9 +115,11 @@ pub data Piece : Type 0 where
   -- the number behind `return`
   Returns : Number → Piece
 
+-- the pieces of a step: its beginning, its name, its statements
 abbrev pub step_pieces : Step → List Piece
 step_pieces s = Begins s.at ∷ Named s.name ∷ map Does s.stmts
 
+-- the piece of the status of a `return`, if there is one
 abbrev pub returned_pieces : Option Number → List Piece
 returned_pieces None = []
 returned_pieces (Some n) = Returns n ∷ []
@@ -121,9 +131,11 @@ instr_pieces (Instr-F.If at arms other) = Begins at ∷ (flat_map (λ ps. ps) ar
 instr_pieces (Instr-F.While at e b) = Begins at ∷ Tests e ∷ b
 instr_pieces (Instr-F.Return at n) = Begins at ∷ returned_pieces n
 
+-- the pieces of an arm: its condition and those of its block
 abbrev pub arm_pieces : Arm-F (List Piece) (List Piece) (List Piece) → List Piece
 arm_pieces a = Tests a.condition ∷ a.block
 
+-- the pieces of a block, one instruction after another
 abbrev pub block_pieces : Block-F (List Piece) (List Piece) (List Piece) → List Piece
 block_pieces b = flat_map (λ ps. ps) b.instrs
 

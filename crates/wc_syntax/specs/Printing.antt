@@ -52,12 +52,15 @@ escape b =
     else if b == 9 then 92 ∷ 116 ∷ []
     else b ∷ []
 
+-- a text in quotes, with its signs escaped
 abbrev pub quoted : List ℕ → List ℕ
 quoted text = 34 ∷ (flat_map escape text ++ 34 ∷ [])
 
+-- the printed text of a text in quotes
 abbrev pub quoted_text : Quoted → List ℕ
 quoted_text q = quoted q.text
 
+-- the printed text of a number
 abbrev pub number_text : Number → List ℕ
 number_text n = signed_decimal n.value
 
@@ -72,10 +75,12 @@ items text xs = separated true text xs
 
 -- ---- expressions
 
+-- the printed text of an operator of one operand
 abbrev pub unary_text : UnaryOp → List ℕ
 unary_text unary.Negate = codes "-"
 unary_text unary.Not = codes "not "
 
+-- the printed text of an operator of two operands
 abbrev pub binary_text : BinaryOp → List ℕ
 binary_text binary.Or = codes " or "
 binary_text binary.And = codes " and "
@@ -91,12 +96,14 @@ binary_text binary.Multiply = codes " * "
 binary_text binary.Divide = codes " / "
 binary_text binary.Remainder = codes " % "
 
+-- the printed text of a word of one operand
 abbrev pub one_text : OneOf → List ℕ
 one_text one.Text = codes "text"
 one_text one.Int = codes "int"
 one_text one.Trim = codes "trim"
 one_text one.Len = codes "len"
 
+-- the printed text of a word of two operands
 abbrev pub two_text : TwoOf → List ℕ
 two_text two.Get = codes "get"
 two_text two.Has = codes "has"
@@ -106,19 +113,24 @@ two_text two.Contains = codes "contains"
 two_text two.Min = codes "min"
 two_text two.Max = codes "max"
 
+-- a text in round brackets
 abbrev pub in_brackets : List ℕ → List ℕ
 in_brackets text = codes "(" ++ text ++ codes ")"
 
+-- the printed text of an input that is mentioned
 abbrev pub input_text : Name → List ℕ
 input_text n = codes "inputs." ++ n.text
 
+-- the printed text of a key of the context that is mentioned
 abbrev pub context_text : Name → List ℕ
 context_text n = codes "ctx." ++ n.text
 
+-- the printed text of an index in square brackets, where there is one
 abbrev pub index_text : Option (List ℕ) → List ℕ
 index_text None = []
 index_text (Some e) = codes "[" ++ e ++ codes "]"
 
+-- the printed text of what is asked of a child
 abbrev pub part_text : ChildPart → List ℕ
 part_text (part.Outputs n) = codes ".outputs." ++ n.text
 part_text part.Status = codes ".status"
@@ -142,9 +154,11 @@ form_text (Form-F.GivenInput at n) = codes "given" ++ in_brackets (input_text n)
 form_text (Form-F.Count at n) = codes "count" ++ in_brackets (context_text n)
 form_text (Form-F.List es) = codes "[" ++ items (λ t. t) es ++ codes "]"
 
+-- the text of an expression is that of its form
 abbrev pub its_text : Expr-F (List ℕ) (List ℕ) → List ℕ
 its_text e = e.form
 
+-- The printed text of an expression
 abbrev pub expr_text : Expr → List ℕ
 expr_text = fold-Expr (List ℕ) (List ℕ) form_text its_text
 
@@ -162,6 +176,7 @@ deeper margin = codes "  " ++ margin
 abbrev pub inside : List ℕ
 inside = deeper []
 
+-- a text behind a margin, with its end
 abbrev pub line : List ℕ → List ℕ → List ℕ
 line margin text = margin ++ text ++ 10 ∷ []
 
@@ -169,23 +184,28 @@ line margin text = margin ++ text ++ 10 ∷ []
 abbrev pub set_text : List ℕ → Expr → List ℕ
 set_text target e = target ++ codes " = " ++ expr_text e ++ codes ";"
 
+-- the printed text of a condition behind its `if`, where there is one
 abbrev pub condition_text : Option Expr → List ℕ
 condition_text None = []
 condition_text (Some e) = codes " if " ++ expr_text e
 
+-- the printed text of an exit
 abbrev pub exit_text : Exit → List ℕ
 exit_text x = codes "exit " ++ number_text x.status ++ condition_text x.condition ++ codes ";"
 
+-- the printed text of a rule
 abbrev pub rule_text : Rule → List ℕ
 rule_text (rule.Let at n e) = set_text (codes "let " ++ n.text) e
 rule_text (rule.Out at n e) = set_text (codes "out " ++ n.text) e
 rule_text (rule.Exit x) = exit_text x
 
+-- the printed lines of rules
 abbrev pub rule_lines : List ℕ → List Rule → List ℕ
 rule_lines margin = flat_map (λ r. line margin (rule_text r))
 
 -- ---- heads
 
+-- the printed text of a kind
 abbrev pub kind_text : Kind → List ℕ
 kind_text kind.Int = codes "int"
 kind_text kind.Bool = codes "bool"
@@ -194,9 +214,11 @@ kind_text kind.List = codes "list"
 kind_text kind.Dict = codes "dict"
 kind_text kind.Folder = codes "folder"
 
+-- the printed text of a port
 abbrev pub port_text : Port → List ℕ
 port_text p = p.name.text ++ (if p.optional then codes "?" else []) ++ codes ": " ++ kind_text p.kind
 
+-- the printed text of ports
 abbrev pub ports_text : List Port → List ℕ
 ports_text ports = in_brackets (items port_text ports)
 
@@ -204,36 +226,44 @@ ports_text ports = in_brackets (items port_text ports)
 abbrev pub signature_text : Head → List ℕ
 signature_text h = ports_text h.inputs ++ codes " -> " ++ ports_text h.outputs
 
+-- the printed text of the head of a definition
 abbrev pub head_text : List ℕ → Head → List ℕ
 head_text word h = word ++ h.name.text ++ signature_text h ++ codes " {"
 
+-- the printed text of an exit code
 abbrev pub code_text : ExitCode → List ℕ
 code_text c =
     codes "exit_code " ++ number_text c.status ++ codes " " ++ quoted_text c.message
     ++ (if c.invalidates then codes " invalidates" else []) ++ codes ";"
 
+-- the printed lines of exit codes
 abbrev pub code_lines : List ExitCode → List ℕ
 code_lines = flat_map (λ c. line inside (code_text c))
 
 -- ---- the outline of a work chain
 
+-- the printed text of an argument
 abbrev pub arg_text : CallArg → List ℕ
 arg_text a = a.port.text ++ codes ": " ++ expr_text a.value
 
+-- the printed text of a call
 abbrev pub call_text : CallStmt → List ℕ
 call_text c =
     codes "call " ++ c.callee.text ++ in_brackets (items arg_text c.args)
     ++ (if c.append then codes " append " else codes " to ") ++ context_text c.key ++ codes ";"
 
+-- the printed text of a statement of a step
 abbrev pub stmt_text : Stmt → List ℕ
 stmt_text (stmt.Ctx at n e) = set_text (context_text n) e
 stmt_text (stmt.Out at n e) = set_text (codes "out " ++ n.text) e
 stmt_text (stmt.Exit x) = exit_text x
 stmt_text (stmt.Call c) = call_text c
 
+-- the printed lines of statements of a step
 abbrev pub stmt_lines : List ℕ → List Stmt → List ℕ
 stmt_lines margin = flat_map (λ t. line margin (stmt_text t))
 
+-- the printed lines of a step
 abbrev pub step_lines : List ℕ → Step → List ℕ
 step_lines margin s =
     line margin (codes "step " ++ s.name.text ++ codes " {")
@@ -248,9 +278,11 @@ Lines = List ℕ → List ℕ
 abbrev pub Branch : Type 0
 Branch = List ℕ × Lines
 
+-- the lines of an arm behind its word, its block one margin deeper
 abbrev pub branch_lines : List ℕ → List ℕ → Branch → List ℕ
 branch_lines word margin b = line margin (word ++ b.0 ++ codes " {") ++ b.1 (deeper margin)
 
+-- `if` for the first arm, and else `} elif`
 abbrev pub arm_word : Bool → List ℕ
 arm_word first = if first then codes "if " else codes "} elif "
 
@@ -259,13 +291,16 @@ abbrev pub branches_lines : Bool → List ℕ → List Branch → List ℕ
 branches_lines first margin [] = []
 branches_lines first margin (b ∷ bs) = branch_lines (arm_word first) margin b ++ branches_lines false margin bs
 
+-- the lines of the arms of an `if`
 abbrev pub if_lines : List ℕ → List Branch → List ℕ
 if_lines = branches_lines true
 
+-- the lines of an `else`, where there is one
 abbrev pub else_lines : List ℕ → Option Lines → List ℕ
 else_lines margin None = []
 else_lines margin (Some b) = line margin (codes "} else {") ++ b (deeper margin)
 
+-- the printed text of the status of a `return`, where there is one
 abbrev pub returned_text : Option Number → List ℕ
 returned_text None = []
 returned_text (Some n) = codes " " ++ number_text n
@@ -277,9 +312,11 @@ instr_level_lines (Instr-F.If at arms other) margin = if_lines margin arms ++ el
 instr_level_lines (Instr-F.While at e b) margin = branch_lines (codes "while ") margin (expr_text e, b) ++ line margin (codes "}")
 instr_level_lines (Instr-F.Return at n) margin = line margin (codes "return" ++ returned_text n ++ codes ";")
 
+-- an arm's condition as text, with the lines of its block
 abbrev pub arm_level_lines : Arm-F Lines Branch Lines → Branch
 arm_level_lines a = (expr_text a.condition, a.block)
 
+-- the lines of a block's instructions one after another
 abbrev pub block_level_lines : Block-F Lines Branch Lines → Lines
 block_level_lines b margin = flat_map (λ lines. lines margin) b.instrs
 
@@ -297,18 +334,23 @@ block_lines = fold-Block Lines Branch Lines instr_level_lines arm_level_lines bl
 
 -- ---- definitions
 
+-- the printed text of a file of a job
 abbrev pub file_text : JobFile → List ℕ
 file_text f = set_text (codes "file " ++ quoted_text f.name) f.value
 
+-- the printed lines of a job's arguments
 abbrev pub arg_lines : List JobLine → List ℕ
 arg_lines = flat_map (λ l. line inside (codes "arg " ++ expr_text l.value ++ codes ";"))
 
+-- the printed lines of a job's files
 abbrev pub file_lines : List JobFile → List ℕ
 file_lines = flat_map (λ f. line inside (file_text f))
 
+-- the printed lines of the names that a job fetches
 abbrev pub fetch_lines : List Fetch → List ℕ
 fetch_lines = flat_map (λ f. line inside (codes "fetch " ++ quoted_text f.name ++ codes ";"))
 
+-- the printed lines of a job
 abbrev pub job_lines : Job → List ℕ
 job_lines j =
     line inside (codes "program " ++ expr_text j.program.value ++ codes ";")
@@ -323,9 +365,11 @@ start_lines word h = line [] (head_text word h) ++ code_lines h.codes
 abbrev pub closed : List ℕ → List ℕ
 closed body = body ++ line [] (codes "}")
 
+-- the printed lines of a definition
 abbrev pub definition_lines : List ℕ → Head → List ℕ → List ℕ
 definition_lines word h body = start_lines word h ++ closed body
 
+-- The printed text of a definition
 abbrev pub printed_definition : Definition → List ℕ
 printed_definition (definition.Function f) = definition_lines (codes "calcfunction ") f.head (rule_lines inside f.rules)
 printed_definition (definition.Job j) = definition_lines (codes "calcjob ") j.head (job_lines j)

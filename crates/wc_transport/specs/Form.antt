@@ -45,6 +45,7 @@ pub record HoldsAnother (q : Request) (held : Option Request) : Type 0 where
   pub placed : held ≡ Some other
   pub differs : other ≢ q
 
+-- what a directory holds beside a request: nothing, this one, or another
 abbrev pub IsHeld : Request → Option Request → Held → Type 0
 IsHeld q held Nothing = held ≡ None
 IsHeld q held This = held ≡ Some q

@@ -18,22 +18,27 @@ pub data Reply : Type 0 where
   Done : Reply
   Brought : JobResult → Reply
 
+-- the reply of a task that failed
 abbrev pub error_reply : TaskError → Reply
 error_reply error.Failed = Failed
 error_reply error.OutOfMemory = OutOfMemory
 
+-- the reply of an upload or a submission
 abbrev pub task_reply : {T : Type 0} → Result T TaskError → Reply
 task_reply (Ok done) = Done
 task_reply (Err e) = error_reply e
 
+-- the reply of how far a program is
 abbrev pub progress_reply : Progress → Reply
 progress_reply progress.Running = Running
 progress_reply progress.Done = Done
 
+-- the reply of an update
 abbrev pub update_reply : Result Progress TaskError → Reply
 update_reply (Ok p) = progress_reply p
 update_reply (Err e) = error_reply e
 
+-- the reply of a retrieve
 abbrev pub retrieve_reply : Result JobResult TaskError → Reply
 retrieve_reply (Ok brought) = Brought brought
 retrieve_reply (Err e) = error_reply e

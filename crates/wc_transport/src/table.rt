@@ -70,10 +70,15 @@ impl TableTransport {
 
     /// A transport that holds no request yet, with the results of this table. Its calls with the listed numbers fail.
     pub fn new(alloc: Global, table: Table, failing: Failing, busy: Busy) -> TableTransport
+        // It has these results.
         ensures table { result.table ≡ table }
+        // These updates will answer that the program is running.
         ensures busy { result.busy ≡ busy }
+        // These calls will fail, and none was made yet.
         ensures schedule { result.schedule ≡ fresh failing }
+        // No directory holds a request.
         ensures placed { (dir : ℕ) → placed_at result dir ≡ None }
+        // Nothing was started.
         ensures idle { (dir : ℕ) → stage_of result dir ≡ idle }
     {
         TableTransport {
@@ -199,13 +204,18 @@ impl Transport for TableTransport {
     ghost faults = { λ t. t.schedule.faults };
 
     fn upload(&mut self, dir: u32, request: &Request) -> Result<(), TaskError>
+        // It fails exactly where it is listed, or the directory holds another request.
         ensures fails { IsErrOf result error.Failed ↔ (IsTrue (fails_next self.old.schedule) ⊎ HoldsAnother request.now (placed_at self.old dir)) }
         ensures placed { Places dir request.now result (placed_at self.old) (placed_at self.new) }
+        // Where it isn't Ok, all directories stay.
         ensures kept { OnErr result ((d : ℕ) → placed_at self.new d ≡ placed_at self.old d) }
+        // Which programs were started, and which have ended, stays.
         ensures stages { (d : ℕ) → stage_of self.new d ≡ stage_of self.old d }
         ensures finished { Stays (IsFinished self.old) (IsFinished self.new) }
         ensures table { self.new.table ≡ self.old.table }
+        // Which updates answer Running stays.
         ensures busy { self.new.busy ≡ self.old.busy }
+        // The call is counted.
         ensures schedule { Advances self.old.schedule self.new.schedule }
         ensures asked { RisesByOne (asked_of self.old) (asked_of self.new) }
         ensures cause { CountsTaskFault result self.old.schedule.faults self.new.schedule.faults }
@@ -222,15 +232,21 @@ impl Transport for TableTransport {
     }
 
     fn submit(&mut self, dir: u32, request: &Request) -> Result<(), TaskError>
+        // It fails exactly where it is listed, or the directory doesn't hold this request.
         ensures fails { IsErrOf result error.Failed ↔ (IsTrue (fails_next self.old.schedule) ⊎ (placed_at self.old dir ≢ Some request.now)) }
         ensures held { OnOk result (placed_at self.old dir ≡ Some request.now) }
         ensures placed { self.new.placed ≡ self.old.placed }
+        // Where it is Ok, the program is started.
         ensures started { OnOk result (stage_of self.new dir ≡ record (stage_of self.old dir) { started = true }) }
+        // Other directories stay.
         ensures others { (d : ℕ) → d ≢ dir → stage_of self.new d ≡ stage_of self.old d }
+        // Where it isn't Ok, nothing was started.
         ensures kept { OnErr result ((d : ℕ) → stage_of self.new d ≡ stage_of self.old d) }
         ensures finished { Stays (IsFinished self.old) (IsFinished self.new) }
         ensures table { self.new.table ≡ self.old.table }
+        // Which updates answer Running stays.
         ensures busy { self.new.busy ≡ self.old.busy }
+        // The call is counted.
         ensures schedule { Advances self.old.schedule self.new.schedule }
         ensures asked { RisesByOne (asked_of self.old) (asked_of self.new) }
         ensures cause { CountsTaskFault result self.old.schedule.faults self.new.schedule.faults }

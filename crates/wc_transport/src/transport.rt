@@ -77,16 +77,26 @@ pub trait Transport {
 
     /// Whether the program has ended: done only for a finished directory.
     fn update(&mut self, dir: u32, request: &Request) -> Result<Progress, TaskError>
+        // Where it is Ok and requests are told, the directory holds this one.
         ensures held { OnOk result (WhereTold (Holds dir request.now) (placed self.old)) }
+        // Done only where the directory's program has ended, if that is told.
         ensures done { IfOk result (λ progress. OnDone progress (IsTrue (tells_finished self.old) → finished self.old dir)) }
+        // The table stays.
         ensures table { table self.new ≡ table self.old }
+        // Which requests are placed stays.
         ensures placed { placed self.new ≡ placed self.old }
+        // What has ended stays so.
         ensures finished { Stays (finished self.old) (finished self.new) }
+        // Whether ends are told stays.
         ensures tells_finished { tells_finished self.new ≡ tells_finished self.old }
+        // It was asked once more.
         ensures asked { RisesByOne (asked self.old) (asked self.new) }
+        // Its answer counts as given, for this directory, task and request.
         ensures gave { gave self.new dir task.Update request.now (update_reply result) }
+        // An obliging transport stays one, and its answer is as obliging ones are.
         ensures obliging { obliging self.old
             → obliging self.new × IsObliged (table self.old) (placed self.old) (finished self.old) (finished self.new) dir task.Update request.now (update_reply result) }
+        // A failure raises the count of faults, and nothing else does.
         ensures cause { CountsTaskFault result (faults self.old) (faults self.new) };
 
     /// Brings back the result of a finished directory. Where the table is told it is the table's.
@@ -96,16 +106,27 @@ pub trait Transport {
         dir: u32,
         request: &Request,
     ) -> Result<JobResult, TaskError>
+        // What is brought back is the table's row for the request, if the table is told.
         ensures result { IfOk result (λ brought. WhereTold (IsRow request.now brought) (table self.old)) }
+        // Where it is Ok and requests are told, the directory holds this one.
         ensures held { OnOk result (WhereTold (Holds dir request.now) (placed self.old)) }
+        // Ok only where the directory's program has ended, if that is told.
         ensures done { OnOk result (IsTrue (tells_finished self.old) → finished self.old dir) }
+        // The table stays.
         ensures table { table self.new ≡ table self.old }
+        // Which requests are placed stays.
         ensures placed { placed self.new ≡ placed self.old }
+        // What has ended stays so.
         ensures finished { Stays (finished self.old) (finished self.new) }
+        // Whether ends are told stays.
         ensures tells_finished { tells_finished self.new ≡ tells_finished self.old }
+        // It was asked once more.
         ensures asked { RisesByOne (asked self.old) (asked self.new) }
+        // Its answer counts as given, for this directory, task and request.
         ensures gave { gave self.new dir task.Retrieve request.now (retrieve_reply result) }
+        // An obliging transport stays one, and its answer is as obliging ones are.
         ensures obliging { obliging self.old
             → obliging self.new × IsObliged (table self.old) (placed self.old) (finished self.old) (finished self.new) dir task.Retrieve request.now (retrieve_reply result) }
+        // A failure raises the count of faults, and nothing else does.
         ensures cause { CountsTaskFault result (faults self.old) (faults self.new) };
 }

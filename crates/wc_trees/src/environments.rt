@@ -95,8 +95,11 @@ pub fn env_in(
 /// The environment of a process: its inputs by label, and the context of its checkpoint, with each process in the state
 /// and with the outputs that it has.
 pub fn env_of(alloc: Global, world: &World, pid: u32) -> Result<Env, WorldError>
+    // The environment is the one that the world records.
     ensures ok { IfOk result (λ env. environment_at world.now.world pid ≡ Some env) }
+    // An error is want of memory, or that there is no such process.
     ensures refused { IfErr result (λ e. (e ≡ WorldError.OutOfMemory) ⊎ (e ≡ WorldError.NoProcess pid)) }
+    // NoProcess exactly where there is none.
     ensures no_process { IsErrOf result (WorldError.NoProcess pid) ↔ (find_record pid world.now.world.records ≡ None) }
 {
     let Some(record) = world.record_of(pid) else {

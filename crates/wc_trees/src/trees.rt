@@ -66,8 +66,11 @@ fn branches(
 /// The tree that the world records of a process: its definition, its state, the values of its outputs, and what it
 /// called, each under its label with a tree of its own.
 pub fn tree_of(alloc: Global, world: &World, pid: u32) -> Result<Tree, WorldError>
+    // The tree is the recorded one.
     ensures ok { IfOk result (λ tree. recorded_tree world.now.world pid ≡ Some tree) }
+    // An error is want of memory, or that there is no such process.
     ensures refused { IfErr result (λ e. (e ≡ WorldError.OutOfMemory) ⊎ (e ≡ WorldError.NoProcess pid)) }
+    // NoProcess exactly where there is none.
     ensures no_process { IsErrOf result (WorldError.NoProcess pid) ↔ (find_record pid world.now.world.records ≡ None) }
 {
     // A reached world is consistent, so that each of its processes has a tree.

@@ -10,9 +10,11 @@ use Rattle.wc_world.specs.Trees.{NamedValues}
 use Rattle.wc_machine.specs.Advances.{Advanced, goes, loops, submits, ends}
 use Rattle.wc_machine.specs.Steps.{Argument, node, plain, Call}
 
+-- something holds of each of these nodes
 abbrev pub EachNode : (NodeValue → Type 0) → NamedValues → Type 0
 EachNode P es = All (λ e. P e.1) es
 
+-- something holds of each node that a key's children have as outputs
 abbrev pub InItem : (NodeValue → Type 0) → Item → Type 0
 InItem P (item.Plain v) = Unit {0}
 InItem P (item.One c) = EachNode P c.outputs
@@ -28,6 +30,7 @@ abbrev pub InArgument : (NodeValue → Type 0) → Argument → Type 0
 InArgument P (node n) = P n
 InArgument P (plain v) = Unit {0}
 
+-- something holds of each node that a call passes
 abbrev pub InCall : (NodeValue → Type 0) → Call → Type 0
 InCall P c = All (λ e. InArgument P e.1) c.args
 

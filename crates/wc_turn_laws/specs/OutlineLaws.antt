@@ -54,12 +54,14 @@ AreNumbered n (x ∷ xs) = (x.label ≡ label x.key n) × AreNumbered (suc n) xs
 abbrev pub KeepsCalls : Checkpoint → Checkpoint → Type 0
 KeepsCalls c d = (d.calls ≡ c.calls) × (d.awaiting ≡ c.awaiting)
 
+-- an advance that goes on keeps the count of calls and what is awaited, and its calls are numbered from there on; of an end nothing is asked
 abbrev pub IsNumbered : Checkpoint → Advanced → Type 0
 IsNumbered c (goes d) = KeepsCalls c d
 IsNumbered c (loops d) = KeepsCalls c d
 IsNumbered c (submits d calls) = KeepsCalls c d × AreNumbered (c.calls + 1) calls
 IsNumbered c (ends s outputs) = Unit {0}
 
+-- The law: an advance that goes on keeps how many calls were made and what is awaited, and numbers further calls from there on
 abbrev pub AdvancesNumberCalls : Type 0
 AdvancesNumberCalls = (library : List Definition) (k : Chain) (depth : ℕ) (v : View) (inputs : NamedValues) (c : Checkpoint)
     → IsNumbered c (advance library k depth (env_in v inputs c.ctx) c)
@@ -71,5 +73,6 @@ AreOrdered (loops d) = Ascends d.outputs
 AreOrdered (submits d calls) = Ascends d.outputs × All (λ x. Ascends x.args) calls
 AreOrdered (ends s outputs) = Ascends outputs
 
+-- The law: where the labels of the outputs ascend, those behind an advance do, and so do the ports of the arguments of its calls
 abbrev pub AdvancesKeepOrder : Type 0
 AdvancesKeepOrder = (library : List Definition) (k : Chain) (depth : ℕ) (env : Env) (c : Checkpoint) → Ascends c.outputs → AreOrdered (advance library k depth env c)

@@ -46,6 +46,8 @@ pub record IsUnderItsLabel (w : World) (pid : ℕ) (l : Link) : Type 0 where
   pub tables : (table : Table) → Agrees table w pid → Agrees (under l.label table) w l.target
   pub kills : (path : Path) → kills w pid (l.label ∷ path) ≡ kills w l.target path
 
+-- The law: in a sound world, a table that agrees with a process agrees, under the label of a call, with the called one, and the kills under the label
+-- are its kills
 abbrev pub CallsAreUnderTheirLabels : Type 0
 CallsAreUnderTheirLabels = (w : World) → IsSound w → (r : ProcessRecord) → find_record r.node w.records ≡ Some r
     → All (λ l. is_call_from r.node l ≡ true → IsUnderItsLabel w r.node l) w.links

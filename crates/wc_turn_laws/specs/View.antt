@@ -21,11 +21,13 @@ pub record View : Type 0 where
   pub value : ℕ → Value
   pub child : ℕ → Child
 
+-- what a key holds, as a view shows its processes
 abbrev pub item_in : View → CtxRef → Item
 item_in v (held.Plain x) = item.Plain x
 item_in v (held.One pid) = item.One (v.child pid)
 item_in v (held.Many pids) = item.Many (map v.child pids)
 
+-- a context, as a view shows its processes
 abbrev pub context_in : View → Pairs → List (List ℕ × Item)
 context_in v ctx = map (λ e. (e.0, item_in v e.1)) ctx
 

@@ -5,6 +5,7 @@ use Rattle.std.specs.Prelude.{ℕ, zero, suc, ◌+◌, ◌*◌, ◌/◌, ◌%◌
 abbrev pub drawn : ℕ → ℕ
 drawn x = (x * 1103515245 + 12345) % 2 ^ 31
 
+-- the generator's state after so many draws
 abbrev pub after_draws : ℕ → ℕ → ℕ
 after_draws zero x = x
 after_draws (suc n) x = after_draws n (drawn x)

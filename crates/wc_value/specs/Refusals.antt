@@ -8,6 +8,7 @@ use Rattle.wc_value.specs.declared.table.TableError.{TableError}
 use Rattle.wc_value.specs.declared.table.TableError.TheVariants.{OutOfMemory, Twice}
 use Rattle.wc_value.specs.Requests.{RepeatsFirst}
 
+-- rows are refused as a table: one has a request that an earlier one has, or memory ran out
 abbrev pub IsRefused : List (Request × JobResult) → TableError → Type 0
 IsRefused rows OutOfMemory = Unit {0}
 IsRefused rows (Twice i) = RepeatsFirst rows i

@@ -9,9 +9,11 @@ use Rattle.wc_value.specs.declared.value.Value.TheOpen.{Value-F}
 abbrev pub text : List ℕ → List ℕ
 text bytes = to_be_bytes w32 (length bytes) ++ bytes
 
+-- the bytes of a name with bytes behind it
 abbrev pub pair : List ℕ × List ℕ → List ℕ
 pair p = text p.0 ++ p.1
 
+-- the bytes of a file: its name and its content
 abbrev pub file : List ℕ × List ℕ → List ℕ
 file f = text f.0 ++ text f.1
 
@@ -24,6 +26,7 @@ level (Value-F.List items) = 4 ∷ (to_be_bytes w32 (length items) ++ flat_map (
 level (Value-F.Dict pairs) = 5 ∷ (to_be_bytes w32 (length pairs) ++ flat_map pair pairs)
 level (Value-F.Folder files) = 6 ∷ (to_be_bytes w32 (length files) ++ flat_map file files)
 
+-- The canonical bytes computed from a value, one level at a time
 abbrev pub spelling : Value → List ℕ
 spelling = fold-Value (List ℕ) level
 
@@ -32,11 +35,13 @@ abbrev pub deepest : List ℕ → ℕ
 deepest [] = 0
 deepest (d ∷ ds) = max d (deepest ds)
 
+-- how deep a value is, from the depths of what is inside it
 abbrev pub depth_level : Value-F ℕ → ℕ
 depth_level (Value-F.List items) = suc (deepest items)
 depth_level (Value-F.Dict pairs) = suc (deepest (values_of pairs))
 depth_level _ = 1
 
+-- how deep lists and dictionaries nest (a value inside none has depth 1)
 abbrev pub depth : Value → ℕ
 depth = fold-Value ℕ depth_level
 
@@ -44,11 +49,14 @@ depth = fold-Value ℕ depth_level
 abbrev pub spellings : List Value → List ℕ
 spellings vs = to_be_bytes w32 (length vs) ++ flat_map spelling vs
 
+-- the bytes of a name with its value
 abbrev pub pair_of : List ℕ × Value → List ℕ
 pair_of p = text p.0 ++ spelling p.1
 
+-- the bytes of named values: their count and each one's
 abbrev pub pairs : List (List ℕ × Value) → List ℕ
 pairs ps = to_be_bytes w32 (length ps) ++ flat_map pair_of ps
 
+-- the bytes of files: their count and each one's
 abbrev pub files : List (List ℕ × List ℕ) → List ℕ
 files fs = to_be_bytes w32 (length fs) ++ flat_map file fs

@@ -25,7 +25,9 @@ pub fn encode(alloc: Global, value: &Value) -> Result<Bytes, AllocError>
 /// The canonical bytes of a request, which are those of the dictionary with its `args` (a list of texts), `fetch`
 /// (a list of texts), `files` (a folder) and `program` (a text).
 pub fn encode_request(alloc: Global, request: &Request) -> Result<Bytes, AllocError>
+    // The bytes are the spelling of the request's dictionary.
     ensures spelling { IfOk result (λ bytes. bytes ≡ spelling (dictionary_of request.now)) }
+    // The bytes spell the request's dictionary.
     ensures spells { IfOk result (λ bytes. Spells (dictionary_of request.now) bytes) }
 {
     let mut out = Bytes::new(alloc);
@@ -44,6 +46,7 @@ pub fn encode_request(alloc: Global, request: &Request) -> Result<Bytes, AllocEr
 
 /// Puts a count or length of four bytes at the end.
 pub fn put_count(out: &mut Bytes, count: usize) -> Result<(), AllocError>
+    // The count is below 2^32.
     requires { count < 2 ^ 32 }
     ensures { OnOk result (out.new ≡ out.old ++ to_be_bytes w32 count) }
 {
@@ -52,6 +55,7 @@ pub fn put_count(out: &mut Bytes, count: usize) -> Result<(), AllocError>
 
 /// Puts a text behind its length at the end.
 pub fn put_text(out: &mut Bytes, bytes: &[u8]) -> Result<(), AllocError>
+    // The bytes are fewer than 2^32.
     requires { length bytes.now < 2 ^ 32 }
     ensures { OnOk result (out.new ≡ out.old ++ text bytes.now) }
 {
@@ -84,7 +88,9 @@ fn put_texts(out: &mut Bytes, texts: &Words) -> Result<(), AllocError>
 #[cycle(encode)]
 #[tactic(auto, using(crate::proofs::Respelled::int_spelled, crate::proofs::Respelled::bool_spelled))]
 pub fn put_value(out: &mut Bytes, value: &Value) -> Result<(), AllocError>
+    // Where it is Ok, the value's canonical bytes stand behind what was there.
     ensures written { OnOk result (out.new ≡ out.old ++ spelling value.now) }
+    // Where it is Ok, these bytes spell the value.
     ensures spells { OnOk result (Spells value.now (spelling value.now)) }
 {
     match value {

@@ -49,7 +49,9 @@ impl<T> Keyed<T> {
 
     /// The entries as a slice.
     pub fn as_slice(&self) -> &[(Text, T)]
+        // The same entries.
         ensures value { result.now ≡ self.now }
+        // Their names ascend.
         ensures ascends { Ascends result.now }
     {
         self.items.as_slice()
@@ -57,7 +59,9 @@ impl<T> Keyed<T> {
 
     /// The number of entries.
     pub fn len(&self) -> usize
+        // The number of entries.
         ensures value { result ≡ length self.now }
+        // It is below 2^32.
         ensures bound { result < 2 ^ 32 }
     {
         self.items.len()
@@ -86,8 +90,11 @@ impl<T> Keyed<T> {
 impl<T: Drop> Keyed<T> {
     /// Puts an entry at the end, where its name goes last.
     pub fn push(&mut self, item: (Text, T)) -> Result<(), AllocError>
+        // The name goes last.
         requires { goes_last item.0 self.old ≡ true }
+        // Where it is Ok, the entry stands behind the others.
         ensures ok { OnOk result (self.new ≡ self.old ++ item ∷ []) }
+        // Where it isn't, the list is as it was.
         ensures err { OnErr result (self.new ≡ self.old) }
     {
         if self.items.len() >= MOST {
@@ -146,7 +153,9 @@ fn value_named<'a, T>(entries: &'a [(Text, T)], at: usize, name: &[u8]) -> Optio
 impl<T: Drop> Keyed<T> {
     /// Sets the value of a name: in place of the one that it had, or as a new entry in its order.
     pub fn set(&mut self, name: Text, value: T) -> Result<(), AllocError>
+        // Where it is Ok, the entry is put in its order, in place of the one of its name.
         ensures ok { OnOk result (self.new ≡ put name value self.old) }
+        // Where it isn't, the list is as it was.
         ensures err { OnErr result (self.new ≡ self.old) }
     {
         let at = place_of(self.items.as_slice(), name.bytes());

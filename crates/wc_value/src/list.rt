@@ -58,7 +58,9 @@ impl<T> List<T> {
 
     /// The items as a `Vec`.
     pub fn into_vec(self) -> Vec<T>
+        // The same items.
         ensures value { result.items ≡ self }
+        // They are fewer than 2^32.
         ensures bound { length self < 2 ^ 32 }
     {
         self.items
@@ -66,7 +68,9 @@ impl<T> List<T> {
 
     /// The number of items.
     pub fn len(&self) -> usize
+        // The number of items.
         ensures value { result ≡ length self.now }
+        // It is below 2^32.
         ensures bound { result < 2 ^ 32 }
     {
         self.items.len()
@@ -81,7 +85,9 @@ impl<T> List<T> {
 
     /// The item at a place, counted from 0.
     pub fn get(&self, at: usize) -> Option<&T>
+        // The item at the place, if there is one.
         ensures value { option_copied result ≡ slice_get self.now at }
+        // There is one exactly where the place is below the length.
         ensures within { IsSome result ↔ (at < length self.now) }
     {
         self.items.get(at)
@@ -91,7 +97,9 @@ impl<T> List<T> {
 impl<T: Copy> List<T> {
     /// Puts copies of the items at the end.
     pub fn extend(&mut self, items: &[T]) -> Result<(), AllocError>
+        // Where it is Ok, copies of the items stand behind the others.
         ensures ok { OnOk result (self.new ≡ self.old ++ items.now) }
+        // Where it isn't, the list is as it was.
         ensures err { OnErr result (self.new ≡ self.old) }
     {
         if items.len() > MOST - self.items.len() {
@@ -104,7 +112,9 @@ impl<T: Copy> List<T> {
 impl<T: Drop> List<T> {
     /// Puts an item at the end.
     pub fn push(&mut self, item: T) -> Result<(), AllocError>
+        // Where it is Ok, the item stands behind the others.
         ensures ok { OnOk result (self.new ≡ self.old ++ item ∷ []) }
+        // Where it isn't, the list is as it was.
         ensures err { OnErr result (self.new ≡ self.old) }
     {
         if self.items.len() >= MOST {
@@ -128,7 +138,9 @@ impl<T: Duplicate + Drop> Duplicate for List<T> {
 impl List<u8> {
     /// The bytes as a slice.
     pub fn bytes(&self) -> &[u8]
+        // The same bytes.
         ensures value { result.now ≡ self.now }
+        // They are fewer than 2^32.
         ensures bound { length self.now < 2 ^ 32 }
     {
         let _ = self.len();

@@ -46,7 +46,9 @@ impl<T> Roomy<T> {
 
     /// The number of items.
     pub fn len(&self) -> usize
+        // The number of items.
         ensures value { result ≡ length self.now.0 }
+        // It is below 2^32.
         ensures bound { result < 2 ^ 32 }
     {
         self.items.len()
@@ -54,7 +56,9 @@ impl<T> Roomy<T> {
 
     /// The item at a place, counted from 0.
     pub fn get(&self, at: usize) -> Option<&T>
+        // The item at the place, if there is one.
         ensures value { option_copied result ≡ slice_get self.now.0 at }
+        // There is one exactly where the place is below the length.
         ensures within { IsSome result ↔ (at < length self.now.0) }
     {
         self.items.get(at)
@@ -62,9 +66,13 @@ impl<T> Roomy<T> {
 
     /// Makes room for so many further items.
     pub fn reserve(&mut self, more: usize) -> Result<(), AllocError>
+        // The items stay.
         ensures same { self.new.0 ≡ self.old.0 }
+        // Where it is Ok, there is room for so many further items.
         ensures room { OnOk result (more ≤ self.new.1) }
+        // The room gets no less.
         ensures kept { self.old.1 ≤ self.new.1 }
+        // Where it isn't Ok, nothing changes.
         ensures err { OnErr result (self.new ≡ self.old) }
     {
         if more > MOST - self.items.len() {
@@ -77,9 +85,13 @@ impl<T> Roomy<T> {
 impl<T: Drop> Roomy<T> {
     /// Puts an item at the end. With room left it takes no memory.
     pub fn push(&mut self, item: T) -> Result<(), AllocError>
+        // Where it is Ok, the item stands behind the others.
         ensures ok { OnOk result (self.new.0 ≡ self.old.0 ++ item ∷ []) }
+        // The room is at most one less.
         ensures room { OnOk result (self.old.1 ≤ self.new.1 + 1) }
+        // Where it isn't Ok, nothing changes.
         ensures err { OnErr result (self.new ≡ self.old) }
+        // With room left it is Ok.
         ensures takes { 0 < self.old.1 → IsOk result }
     {
         if self.items.len() >= MOST {

@@ -54,8 +54,11 @@ impl Text {
 
     /// The bytes of the text.
     pub fn bytes(&self) -> &[u8]
+        // The text's bytes.
         ensures value { result.now ≡ self.now }
+        // They are fewer than 2^32.
         ensures bound { length self.now < 2 ^ 32 }
+        // They are UTF-8.
         ensures utf8 { is_utf8 self.now ≡ true }
     {
         self.inner.as_bytes()

@@ -6,6 +6,7 @@ pub data Follows (table : List ℕ) : ℕ → ℕ → Type 0 where
   here : (n : ℕ) → Follows table n n
   on : (n m : ℕ) → Follows table (slice_index table n) m → Follows table n m
 
+-- each entry of a table is a place of it
 abbrev pub IsWithin : List ℕ → Type 0
 IsWithin table = (n : ℕ) → n < length table → slice_index table n < length table
 
@@ -35,8 +36,10 @@ pub record IsFar (first : List ℕ) (rank : ℕ → ℕ) (k n m : ℕ) : Type 0 
   pub stays : slice_index first n ≡ n → m ≡ n
   pub far : (slice_index first m ≡ m) ⊎ (rank m + k < rank n)
 
+-- each entry was followed so far, or to its end
 abbrev pub AreFar : List ℕ → (ℕ → ℕ) → ℕ → List ℕ → Type 0
 AreFar first rank k table = (n : ℕ) → n < length table → IsFar first rank k n (slice_index table n)
 
+-- no entry leads further
 abbrev pub IsSettled : List ℕ → Type 0
 IsSettled table = (n : ℕ) → n < length table → slice_index table (slice_index table n) ≡ slice_index table n

@@ -28,6 +28,7 @@ abbrev pub number_or : ℕ → Option ℕ → ℕ
 number_or own None = own
 number_or own (Some source) = source
 
+-- whether a job's exit code is kept
 abbrev pub code_kept : ProcessKind → Option ℤ → Bool
 code_kept kind.Function code = false
 code_kept kind.Job code = is_some code
@@ -41,6 +42,7 @@ keeps_code r = code_kept r.kind r.code
 abbrev pub giver : ProcessRecord → ℕ
 giver r = if is_killed r.state || keeps_code r then r.node else number_or r.node r.cached_from
 
+-- a source, where the process is a job
 abbrev pub if_job : ProcessKind → Option ℕ → Option ℕ
 if_job kind.Function source = None
 if_job kind.Job source = source
@@ -55,6 +57,7 @@ abbrev pub number_at : (ProcessRecord → ℕ) → ℕ → Option ProcessRecord 
 number_at f pid None = pid
 number_at f pid (Some r) = f r
 
+-- what a function of records gives for a process: the number of the one that it names; the process itself where it has no record
 abbrev pub giver_at : (ProcessRecord → ℕ) → World → ℕ → ℕ
 giver_at f w pid = number_at f pid (find_record pid w.records)
 
@@ -71,32 +74,39 @@ pub record AreLastGivers (f : ProcessRecord → ℕ) (w : World) (lasts : List �
 
 -- ---- what is given for a process that took no other's outcome
 
+-- an outcome, where the job has a request
 abbrev pub when_asked : Outcome Request → Parsed → Option Parsed
 when_asked (Gives q) p = Some p
 when_asked (Faults reason) p = None
 
+-- the exception of a job that has no request
 abbrev pub when_unasked : Outcome Request → Option Parsed
 when_unasked (Gives q) = None
 when_unasked (Faults reason) = Some (excepted reason [])
 
+-- the outcome that a job's rules make of its code and files, where these are there
 abbrev pub with_files : Job → Values → ℤ → Option Contents → Option Parsed
 with_files j inputs code None = None
 with_files j inputs code (Some files) = when_asked (request j inputs) (parsed j inputs (result_with code files))
 
+-- the outcome that is given for a job: of its result, or of its want of a request
 abbrev pub job_given : Job → Values → Option ℤ → Option Contents → Option Parsed
 job_given j inputs None files = when_unasked (request j inputs)
 job_given j inputs (Some code) files = with_files j inputs code files
 
+-- the outcome that is given for a calculation by its definition
 abbrev pub given_by : Option Definition → Values → Option ℤ → Option Contents → Option Parsed
 given_by None inputs code files = None
 given_by (Some (definition.Function f)) inputs code files = Some (calculated f inputs)
 given_by (Some (definition.Job j)) inputs code files = job_given j inputs code files
 given_by (Some (definition.Chain c)) inputs code files = None
 
+-- an outcome, unless it came from a source
 abbrev pub unless_sourced : Option ℕ → Option Parsed → Option Parsed
 unless_sourced None p = p
 unless_sourced (Some source) p = None
 
+-- the outcome that is given for a process by what is recorded of it alone
 abbrev pub given_alone : World → ProcessRecord → Option Parsed
 given_alone w r =
     if is_killed r.state then (if keeps_code r then None else Some killed_outcome)
@@ -109,6 +119,7 @@ HasOutcome w r (Some p) = (r.state ≡ p.state) × (recorded_outputs w r.node �
 
 -- ---- the own result of a job
 
+-- a job's own result, where its code and its files are recorded
 abbrev pub own_result_by : ProcessKind → Option ℤ → Option Contents → Option JobResult
 own_result_by kind.Function code files = None
 own_result_by kind.Job None files = None

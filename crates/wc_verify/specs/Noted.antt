@@ -17,6 +17,7 @@ abbrev pub AreBytesOf : Option (Outcome Request) → Option (List ℕ) → Type 
 AreBytesOf asked None = (q : Request) → asked ≡ Some (Gives q) → ⊥
 AreBytesOf asked (Some bytes) = (q : Request) × (asked ≡ Some (Gives q)) × Spells (dictionary_of q) bytes
 
+-- a record is in a list
 abbrev pub IsAmong : ProcessRecord → List ProcessRecord → Type 0
 IsAmong r [] = ⊥
 IsAmong r (s ∷ rs) = (s ≡ r) ⊎ IsAmong r rs
@@ -44,6 +45,7 @@ pub record AreNoted (w : World) (rs : List ProcessRecord) (ns : List Noted) : Ty
   pub only : (n : Noted) → Stands n ns → IsRecorded w rs n
   pub all : (r : ProcessRecord) → IsAmong r rs → (x : JobResult) → HasResult w r.node x → (q : Request) → recorded_request w r ≡ Some (Gives q) → IsNoted ns r.node q x
 
+-- all jobs of these records were noted, and what is kept of them is right
 pub record HaveNoted (w : World) (rs : List ProcessRecord) (firsts : Firsts) : Type 0 where
   pub seen : List Noted
   pub kept : AreFirsts seen firsts

@@ -224,10 +224,15 @@ pub fn step<D: Disk, T: Transport>(
     worker: u32,
     now: u64,
 ) -> Result<Done, RunError>
+    // There is such a worker.
     requires worker { worker < workers_of pool.old }
+    // The store is live.
     requires live { store.old.live ≡ true }
+    // Where the disks tell their bytes, they stand for the store.
     requires stands { IsTrue (D.tells one.old) → IsTrue (D.tells two.old) → StandsFor D.Disk store.old one.old two.old }
+    // The limits are within their bounds.
     requires limits { AreLimits limits.now }
+    // The pool fits the world, before and after.
     requires fits { FitsWorld pool.old store.old.world.world }
     // What the step did to the pool, the transport and the world.
     ensures done { IfOk result (StepOf T.Transport limits.now worker now transport.old transport.new pool.old pool.new store.old.world.world store.new.world.world) }
@@ -235,12 +240,16 @@ pub fn step<D: Disk, T: Transport>(
     ensures fits { FitsWorld pool.new store.new.world.world }
     // Where it breaks off, the pool and the world are as they were.
     ensures kept { OnErr result (IsSamePool pool.old pool.new) }
+    // Where it breaks off, the world and the journal are as they were.
     ensures same { OnErr result (IsAsBefore store.old store.new.world.world store.new.journal) }
     // At each moment the disks hold the world before or the one after the turn with the worker's answer, each by its journal.
     ensures stepped { Stepped D.Disk (IsOrHeldTurn limits.now worker now pool.old store.old.world.world store.old.journal)
         (is_live_after result) store.old one.old two.old store.new one.new two.new }
+    // DiskFault comes only where a turn with the worker's answer was to be written, and Full only where that turn would be too much.
     ensures refused { IfErr result (RefusesHeld limits.now worker now pool.old store.old.journal store.old.world.world) }
+    // Where it breaks off for want of memory or for fullness, both disks are as they were.
     ensures untouched { IsUnchanged result one.old one.new × IsUnchanged result two.old two.new }
+    // The transport is asked at most once, and only for a worker whose lease has no answer yet.
     ensures asks { AsksInStep T.Transport worker pool.old store.old.world.world result transport.old transport.new }
 {
     match without_turn(alloc, pool, store.world(), transport, worker, now) {

@@ -76,10 +76,12 @@ is_in_order (change.Set s ∷ cs) = is_in_order cs
 is_in_order (change.Count n ∷ cs) = is_nil cs
 is_in_order (change.Kept k ∷ cs) = ends_in_count cs
 
+-- how many Kepts there are for a process
 abbrev pub how_often : ℕ → List Kept → ℕ
 how_often pid [] = 0
 how_often pid (k ∷ ks) = if k.pid == pid then suc (how_often pid ks) else how_often pid ks
 
+-- whether a number is among these
 abbrev pub is_among : ℕ → List ℕ → Bool
 is_among n ns = list_any (λ m. m == n) ns
 
@@ -87,6 +89,7 @@ is_among n ns = list_any (λ m. m == n) ns
 abbrev pub keeps_each : List ℕ → List Kept → Bool
 keeps_each made ks = list_all (λ pid. how_often pid ks == 1) made && list_all (λ k. is_among k.pid made) ks
 
+-- whether the world has nothing and no batch
 abbrev pub is_empty : World → Bool
 is_empty w = is_nil w.nodes && (is_nil w.links && (is_nil w.records && (is_nil w.libraries && (w.batches == 0))))
 
@@ -103,17 +106,21 @@ pub record Setting : Type 0 where
   pub snapshot : Bool
   pub all : List Change
 
+-- what the test of a change looks at beside the world: the number of the batch, whether it is a snapshot, and all its changes
 abbrev pub setting : World → List Change → Setting
 setting w cs = record { batch = w.batches + 1; snapshot = is_snapshot w cs; all = cs }
 
+-- what a snapshot keeps of a process, if anything
 abbrev pub kept_of : ℕ → List Kept → Option Kept
 kept_of pid [] = None
 kept_of pid (k ∷ ks) = if k.pid == pid then Some k else kept_of pid ks
 
+-- the batch of the start that is kept, 0 where nothing is
 abbrev pub kept_started : Option Kept → ℕ
 kept_started None = 0
 kept_started (Some k) = k.started
 
+-- the batch of the end that is kept, 0 where nothing is
 abbrev pub kept_ended : Option Kept → ℕ
 kept_ended None = 0
 kept_ended (Some k) = k.ended
@@ -126,6 +133,8 @@ started_after s c r = if s.snapshot then kept_started (kept_of r.node (kepts s.a
 abbrev pub ended_before : Setting → ProcessRecord → ℕ
 ended_before s q = if s.snapshot then kept_ended (kept_of q.node (kepts s.all)) else q.ended
 
+-- whether a process may be set to have taken the outcome of this one: a calculation that ended in an earlier batch than the one in which the process
+-- started
 abbrev pub is_source : Setting → SetProcess → ProcessRecord → Option ProcessRecord → Bool
 is_source s c r None = false
 is_source s c r (Some q) = is_calculation q.kind && (nat_lt 0 (ended_before s q) && nat_lt (ended_before s q) (started_after s c r))
@@ -159,6 +168,7 @@ Fits s w (change.Set c) = (r : ProcessRecord) × (find_record c.pid w.records �
 Fits s w (change.Count n) = (s.snapshot ≡ true) × (n ≤ 4000000000)
 Fits s w (change.Kept k) = kept_fits s k (find_record k.pid w.records) ≡ true
 
+-- the world refuses a link for this: the first rule of the graph that it breaks, or a call that doesn't fit
 abbrev pub RefusesLink : World → Link → WorldError → Type 0
 RefusesLink w l (error.Graph e) = refusals.Refuses w.nodes w.links l e
 RefusesLink w l (error.NoProcess id) = ⊥

@@ -21,6 +21,7 @@ RoomyLibraries = List Known × ℕ
 abbrev pub RoomySeals : Type 0
 RoomySeals = List Sealed × ℕ
 
+-- the world that the parts say in which the code keeps one while changes apply
 abbrev pub world_of : Provenance → RoomyRecords → RoomyLibraries → ℕ → World
 world_of graph records libraries batches = record {
   nodes = graph.nodes;
@@ -30,6 +31,7 @@ world_of graph records libraries batches = record {
   batches = batches;
 }
 
+-- the room that these parts have
 abbrev pub room_of : Provenance → RoomyRecords → RoomyLibraries → RoomySeals → Room
 room_of graph records libraries seals = record {
   nodes = graph.node_room;

@@ -16,14 +16,17 @@ processes_from n (node.Data v ∷ ns) = processes_from (suc n) ns
 processes_from n (node.Calculation ∷ ns) = (n, node.Calculation) ∷ processes_from (suc n) ns
 processes_from n (node.Workflow ∷ ns) = (n, node.Workflow) ∷ processes_from (suc n) ns
 
+-- a record's number beside its node
 abbrev pub process_of : ProcessRecord → ℕ × NodeKind
 process_of r = (r.node, process_node r.kind)
 
+-- the value of a data node is at most 32 deep
 abbrev pub IsShallow : NodeKind → Type 0
 IsShallow (node.Data v) = depth v ≤ 32
 IsShallow node.Calculation = Unit {0}
 IsShallow node.Workflow = Unit {0}
 
+-- whether a record is a calculation that ended in an earlier batch than the one in which this process started
 abbrev pub is_earlier_source : ProcessRecord → Option ProcessRecord → Bool
 is_earlier_source r None = false
 is_earlier_source r (Some q) = is_calculation q.kind && (nat_lt 0 q.ended && nat_lt q.ended r.started)
@@ -33,6 +36,7 @@ abbrev pub source_stands : List ProcessRecord → ProcessRecord → Option ℕ �
 source_stands records r None = true
 source_stands records r (Some pid) = nat_lt 0 pid && is_earlier_source r (find_record pid records)
 
+-- whether a record has the batch of its end, not before that of its start, exactly where it has ended
 abbrev pub ended_stands : ProcessRecord → Bool
 ended_stands r = if has_ended r.state then nat_lt 0 r.ended && nat_le r.started r.ended else (r.ended == 0)
 

@@ -42,13 +42,16 @@ started_by t c r = if t.snapshot then kept_started (kept_at r.node t.slots.items
 abbrev pub ended_by : Terms → ProcessRecord → ℕ
 ended_by t q = if t.snapshot then kept_ended (kept_at q.node t.slots.items) else q.ended
 
+-- as `is_source`, by what a draft knows of its batch
 abbrev pub is_source_by : Terms → SetProcess → ProcessRecord → Option ProcessRecord → Bool
 is_source_by t c r None = false
 is_source_by t c r (Some q) = is_calculation q.kind && (nat_lt 0 (ended_by t q) && nat_lt (ended_by t q) (started_by t c r))
 
+-- whether a process that is set names no source, or one that may be its source
 abbrev pub source_fits_by : Terms → World → SetProcess → ProcessRecord → Bool
 source_fits_by t w c r = (c.cached_from == 0) || is_source_by t c r (find_record c.cached_from w.records)
 
+-- whether the batch is a snapshot, and what it keeps of a process fits the record and is within the count of batches
 abbrev pub kept_fits_by : Terms → Kept → Option ProcessRecord → Bool
 kept_fits_by t k None = false
 kept_fits_by t k (Some r) = t.snapshot && (nat_le k.started t.count && (nat_le k.ended t.count && ended_fits k r))
@@ -63,6 +66,7 @@ RefusesBy t w c e = (s : Setting) → Tells t s → Refuses s w c e
 
 -- ---- processes that a change may unsettle
 
+-- the numbers of processes that a change makes, sets or links from
 abbrev pub touched_by : World → Change → List ℕ
 touched_by w (change.Library l names) = []
 touched_by w (change.Data v) = []

@@ -13,6 +13,7 @@ use Rattle.wc_world.specs.Snapshot.{snapshot}
 abbrev pub NotBoth : Type 0
 NotBoth = (w : World) (cs : List Change) (e : WorldError) → IsAccepted w cs → IsRefused w cs e → ⊥
 
+-- The law: changes that a world refuses are refused for one reason
 abbrev pub OneRefusal : Type 0
 OneRefusal = (w : World) (cs : List Change) (d e : WorldError) → IsRefused w cs d → IsRefused w cs e → d ≡ e
 

@@ -14,18 +14,21 @@ after_other order.Kepts = order.Wrong
 after_other order.Ended = order.Wrong
 after_other order.Wrong = order.Wrong
 
+-- where a batch stands in its order after a Kept
 abbrev pub after_kept : Order → Order
 after_kept order.Others = order.Kepts
 after_kept order.Kepts = order.Kepts
 after_kept order.Ended = order.Wrong
 after_kept order.Wrong = order.Wrong
 
+-- where a batch stands in its order after a Count
 abbrev pub after_count : Order → Order
 after_count order.Others = order.Ended
 after_count order.Kepts = order.Ended
 after_count order.Ended = order.Wrong
 after_count order.Wrong = order.Wrong
 
+-- where a batch stands in its order after a change
 abbrev pub order_after : Order → Change → Order
 order_after o (change.Library l names) = after_other o
 order_after o (change.Data v) = after_other o

@@ -19,15 +19,19 @@ pub record Holding : Type 0 where
   pub room : Room
   pub digested : Bool
 
+-- room for one more node
 abbrev pub with_node : Room → Room
 with_node r = record { nodes = suc r.nodes; links = r.links; records = r.records; libraries = r.libraries; seals = r.seals }
 
+-- room for one more link
 abbrev pub with_link : Room → Room
 with_link r = record { nodes = r.nodes; links = suc r.links; records = r.records; libraries = r.libraries; seals = r.seals }
 
+-- room for one more process, with its node, its record and its digest
 abbrev pub with_process : Room → Room
 with_process r = record { nodes = suc r.nodes; links = r.links; records = suc r.records; libraries = r.libraries; seals = suc r.seals }
 
+-- room for one more library
 abbrev pub with_library : Room → Room
 with_library r = record { nodes = r.nodes; links = r.links; records = r.records; libraries = suc r.libraries; seals = r.seals }
 

@@ -19,14 +19,17 @@ slot_in (change.Set s) = None
 slot_in (change.Count n) = None
 slot_in (change.Kept k) = None
 
+-- the slots of the nodes that a snapshot makes, in their order
 abbrev pub slots_in : List Change → List Slot
 slots_in = filter_map slot_in
 
+-- whether a slot is that of a process that the batch made
 abbrev pub is_made : Slot → Bool
 is_made slot.Other = false
 is_made slot.Made = true
 is_made (slot.Kept k) = false
 
+-- whether there is a slot, of a process that the batch made
 abbrev pub is_made_in : Option Slot → Bool
 is_made_in None = false
 is_made_in (Some s) = is_made s
@@ -36,12 +39,14 @@ abbrev pub made_at : ℕ → List Slot → Bool
 made_at zero slots = false
 made_at (suc place) slots = is_made_in (slice_get slots place)
 
+-- what a snapshot keeps, where a slot has it
 abbrev pub kept_in : Option Slot → Option Kept
 kept_in None = None
 kept_in (Some slot.Other) = None
 kept_in (Some slot.Made) = None
 kept_in (Some (slot.Kept k)) = Some k
 
+-- what a snapshot keeps of the process whose node has this number, counted from 1
 abbrev pub kept_at : ℕ → List Slot → Option Kept
 kept_at zero slots = None
 kept_at (suc place) slots = kept_in (slice_get slots place)

@@ -7,13 +7,16 @@ use Rattle.wc_world.specs.declared.change.Change.{Change}
 use Rattle.wc_world.specs.declared.change.Change.TheVariants as change
 use Rattle.wc_world.specs.World.{World, Known}
 
+-- a number that may be none, as 0 where it is
 abbrev pub number_of : Option ℕ → ℕ
 number_of None = 0
 number_of (Some n) = n
 
+-- the change that adds a library with its names
 abbrev pub library_change : Known → Change
 library_change k = change.Library k.0 k.1
 
+-- the change that adds a process as it was made
 abbrev pub process_change : ProcessRecord → Change
 process_change r = change.Process (record {
   kind = r.kind;
@@ -33,6 +36,7 @@ node_changes (node.Calculation ∷ ns) (r ∷ rs) = process_change r ∷ node_ch
 node_changes (node.Workflow ∷ ns) [] = node_changes ns []
 node_changes (node.Workflow ∷ ns) (r ∷ rs) = process_change r ∷ node_changes ns rs
 
+-- the change that sets a process as it stands
 abbrev pub set_change : ProcessRecord → Change
 set_change r = change.Set (record {
   pid = r.node;
@@ -44,6 +48,7 @@ set_change r = change.Set (record {
   part = r.part;
 })
 
+-- the change that keeps a process's batches of start and end
 abbrev pub kept_change : ProcessRecord → Change
 kept_change r = change.Kept (record { pid = r.node; started = r.started; ended = r.ended })
 

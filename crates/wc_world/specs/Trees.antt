@@ -18,9 +18,11 @@ pub use Rattle.wc_keys.specs.Values.{data_of, value_of, NamedValues, with_value,
 
 -- ---- trees
 
+-- the tree of a call under its label
 abbrev pub Branch : Type 0
 Branch = List ℕ × Tree
 
+-- one more call's tree in front of those of others, where all are there
 abbrev pub and_branch : Option Tree → List ℕ → Option (List Branch) → Option (List Branch)
 and_branch None label rest = None
 and_branch (Some t) label None = None
@@ -31,6 +33,7 @@ abbrev pub branches : (ℕ → Option Tree) → ℕ → List Link → Option (Li
 branches tree pid [] = Some []
 branches tree pid (l ∷ ls) = if is_call_from pid l then and_branch (tree l.target) l.label (branches tree pid ls) else branches tree pid ls
 
+-- the tree of a process with these outputs and calls
 abbrev pub tree_with : ProcessRecord → List (List ℕ × Value) → List Branch → Tree
 tree_with r outputs calls = roll-Tree (record { definition = r.definition; state = r.state; outputs = outputs; calls = calls })
 
@@ -47,23 +50,28 @@ recorded_tree = tree_within 16
 
 -- ---- environments
 
+-- a called process, with its state and its outputs
 abbrev pub child_at : World → ℕ → Option Child
 child_at w pid = option_map (λ r. record { node = pid; state = r.state; outputs = outputs_of w pid }) (find_record pid w.records)
 
+-- one more child in front of others, where all are there
 abbrev pub and_child : Option Child → Option (List Child) → Option (List Child)
 and_child None rest = None
 and_child (Some c) None = None
 and_child (Some c) (Some rest) = Some (c ∷ rest)
 
+-- the called processes with these numbers, where all are there
 abbrev pub children_at : World → List ℕ → Option (List Child)
 children_at w [] = Some []
 children_at w (pid ∷ pids) = and_child (child_at w pid) (children_at w pids)
 
+-- what a key of a context holds, with the processes that it names
 abbrev pub item_of : World → CtxRef → Option Item
 item_of w (held.Plain v) = Some (item.Plain v)
 item_of w (held.One pid) = option_map item.One (child_at w pid)
 item_of w (held.Many pids) = option_map item.Many (children_at w pids)
 
+-- one more key with what it holds in front of others, where all are there
 abbrev pub and_item : List ℕ → Option Item → Option (List (List ℕ × Item)) → Option (List (List ℕ × Item))
 and_item key None rest = None
 and_item key (Some i) None = None

@@ -4,7 +4,9 @@ ghost use Rattle.wc_world.specs.Laws.{LinksStayCorrect, NotBoth, OneRefusal, Rea
 
 /// No changes are both accepted and refused, and they are refused in one way.
 pub fn changes_have_one_answer()
+    // Changes aren't both accepted and refused.
     ensures both { NotBoth }
+    // Changes are refused for one reason at most.
     ensures one { OneRefusal }
 {}
 

@@ -57,7 +57,9 @@ impl Played {
 impl World {
     /// The world that was played. The digests of what it has finished aren't made.
     pub fn of(alloc: Global, played: Played) -> Result<World, AllocError>
+        // The world is what was played.
         ensures world { IfOk result (λ world. world.world ≡ played) }
+        // It has no digests.
         ensures digested { IfOk result (λ world. world.digested ≡ false) }
     {
         let mut seals = Seals::new(alloc);
@@ -74,7 +76,9 @@ impl World {
 
     /// Makes the digests of what the world has finished, where they aren't made.
     pub fn make_digests(&mut self, alloc: Global) -> Result<(), AllocError>
+        // The world stays.
         ensures same { self.new.world ≡ self.old.world }
+        // Where it is Ok, it has digests.
         ensures digested { OnOk result (self.new.digested ≡ true) }
     {
         if !self.digested {

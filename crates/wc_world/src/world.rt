@@ -63,7 +63,9 @@ impl Model for World {
 impl World {
     /// The empty world, which takes no memory.
     pub fn new(alloc: Global) -> World
+        // The world is the empty one.
         ensures empty { result.world ≡ empty }
+        // Its digests are made, of which there are none.
         ensures digested { result.digested ≡ true }
     {
         World {
@@ -78,8 +80,11 @@ impl World {
 
     /// The provenance graph.
     pub fn graph(&self) -> &Graph
+        // Its nodes are the world's, with the room for further ones.
         ensures nodes { (result.now.nodes ≡ self.now.world.nodes) × (result.now.node_room ≡ self.now.room.nodes) }
+        // Its links are the world's, with the room for further ones.
         ensures links { (result.now.links ≡ self.now.world.links) × (result.now.link_room ≡ self.now.room.links) }
+        // Accepted changes made the world.
         ensures reached { IsReached self.now.world }
     {
         &self.graph

@@ -22,9 +22,11 @@ use Rattle.wc_value.specs.declared.boxed.Boxed.TheView.{view, invariant}
 use Rattle.wc_value.specs.contracts.boxed.Boxed as C
 use Rattle.wc_value.specs.contracts.boxed.Boxed.TheInside as I
 
+-- a box as a former of types, by which the toolchain makes folds for types that lead back to themselves through it
 abbrev pub the_former : Former {0} → Former {0}
 the_former g = g
 
+-- that what is inside a box weighs less than the whole
 abbrev pub the_weighed : {g : Former {0}} → Weighed g → Weighed (the_former g)
 the_weighed w = w
 

@@ -29,15 +29,18 @@ use Rattle.wc_value.specs.declared.keyed.Keyed.TheView.{view, invariant}
 use Rattle.wc_value.specs.contracts.keyed.Keyed as C
 use Rattle.wc_value.specs.contracts.keyed.Keyed.TheInside as I
 
+-- an ascending list of named items as a former of types, by which the toolchain makes folds for types that lead back to themselves through it
 abbrev pub the_former : Former {0} → Former {0}
 the_former g = list (entry g (List ℕ))
 
+-- that what is inside an ascending list of named items weighs less than the whole
 abbrev pub the_weighed : {g : Former {0}} → Weighed g → Weighed (the_former g)
 the_weighed w = w_list (w_pair (w_const (List ℕ)) w)
 
 pub the_empty : List (List ℕ × ⊥)
 the_empty = []
 
+-- the items of an ascending list of named items
 abbrev pub the_items : (X : Type 0) → List (List ℕ × X) → List X
 the_items X es = values_of es
 

@@ -22,15 +22,18 @@ use Rattle.wc_value.specs.declared.list.List.TheView.{view, invariant}
 use Rattle.wc_value.specs.contracts.list.List as C
 use Rattle.wc_value.specs.contracts.list.List.TheInside as I
 
+-- a list as a former of types, by which the toolchain makes folds for types that lead back to themselves through it
 abbrev pub the_former : Former {0} → Former {0}
 the_former g = list g
 
+-- that what is inside a list weighs less than the whole
 abbrev pub the_weighed : {g : Former {0}} → Weighed g → Weighed (the_former g)
 the_weighed w = w_list w
 
 pub the_empty : List ⊥
 the_empty = []
 
+-- the items of a list
 abbrev pub the_items : (X : Type 0) → List X → List X
 the_items X d = d
 

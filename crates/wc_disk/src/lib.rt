@@ -1,10 +1,9 @@
-//! A disk that may crash at any moment: what it promises, a form in memory, and a file of the system behind it.
+//! A disk that may crash at any moment: what it promises, and a form in memory.
 #![tactic(auto)]
 
 mod calls;
 mod disk;
 mod edits;
-mod file;
 mod memory;
 mod pick;
 mod replay;
@@ -12,7 +11,6 @@ mod tape;
 
 pub use calls::Call;
 pub use disk::Disk;
-pub use file::FileDisk;
 pub use memory::MemoryDisk;
 pub use pick::Pick;
 pub use tape::Tape;

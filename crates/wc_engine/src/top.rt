@@ -29,7 +29,7 @@ use wc_plan::{Plan, Reply, Status, finish, plan};
 use wc_transport::Transport;
 use wc_value::Words;
 
-/// The reply that is owed for the words, as the shelf's file and the disks make it.
+/// The reply to the words, as the shelf's files and the disks make it.
 fn answer<R: Shelf, D: Disk, T: Transport, P: Pacer>(
     alloc: Global,
     words: &Words,
@@ -90,22 +90,23 @@ pub fn serve<R: Shelf, W: Sink, D: Disk, T: Transport, P: Pacer>(
     transport: &mut T,
     pacer: &mut P,
 ) -> Status
-    // The text that is owed was written whole, be it that of the command or a refusal, and this is its status.
+    // The text of the right reply was written whole, be it that of the command or a refusal, and this is its status.
     ensures replied { IsReplied result → (r : AReply) × IsOwed (R.contents shelf.old) (visit D.Disk one.old two.old one.new two.new) words.now r
         × (r.status ≡ result) × Writes r.text (W.taken sink.old) (W.taken sink.new) }
-    // Where the shelf tells its contents, each deed that the words plan is certain, and the disks that it asks tell their bytes, what is
-    // owed is the status, unless memory runs out or something fails. All deeds are certain but `run` and `drill`.
+    // Where the shelf tells its contents, each deed that the words plan is certain, and the disks that it asks tell their bytes, the status
+    // is that of the right reply, unless memory runs out or something fails. All deeds are certain but `run` and `drill`.
     ensures exact { IsCertain (R.contents shelf.old) (D.tells one.old) (D.tells two.old) words.now
         → (r : AReply) → IsOwed (R.contents shelf.old) (visit D.Disk one.old two.old one.new two.new) words.now r → OwesStatus r.status result }
-    // At any moment of the call one of the disks has only images that a crash at entry might have left. Each image of the other, beside each
-    // that the first may leave at exit, is such a pair, or holds what the words make of what the disks read as at entry: of nothing, where they
-    // begin a store, nothing or a world with which they begin it, which is sound, for `init` the empty one, and for `drill` what submissions of its
-    // first chains, and turns once all are submitted, make of that; of a world, the same world, or what a deed that they plan makes of it, which
-    // for `submit` is the one submission as which its words are prepared, within its settings' limit of nodes, for `pause`, `play` and `kill` that
-    // event, and for `run` what at most as many turns and rests as are given led to, within the limits of its settings, each turn with the answer that this
-    // transport gave to its own call, at a moment that this clock was asked for. The journal by which the images hold it is of the same version and generation, at
-    // the same place, and within the limit of bytes where the event or a turn was committed; of `pack`, and of a store that is begun, it isn't said by which.
-    // What is made of a sound world is sound, and continues it.
+    // At any moment of the call one of the disks has only images that a crash at entry might have left. Each image of the other, beside each that the first
+    // may leave at exit, is such a pair, or holds what the words make of what the disks read as at entry: of nothing, where they begin a store, nothing or a
+    // world with which they begin it, which is sound, for `init` the empty one, and for `drill` what submissions of its first chains, and turns once all are
+    // submitted, make of that; of a world, the same world, or what a deed that they plan makes of it, which for `submit` is the one submission as which its
+    // words are prepared, within its settings' limit of nodes, for `pause`, `play` and `kill` that event, and for `run` what at most as many turns and rests
+    // as are given led to, within the limits of its settings, each turn with the answer that this transport gave to its own call, at a moment that this
+    // clock was asked for. The journal by which the images hold it is of the same version and generation, at the same place, and within the limit of bytes
+    // where the event or a turn was committed; of `pack` it is the store's own, or the next one on the other disk; of a store that is begun it is on disk
+    // one, for `init` the first one, for `drill` one of version 2 and generation 1 within the limits. What is made of a sound world is sound, and continues
+    // it.
     ensures crash { IsTrue (D.tells one.old) → IsTrue (D.tells two.old) → LeavesMade D.Disk (R.contents shelf.old) words.now
         (exchange T.Transport P.Pacer transport.old transport.new pacer.old pacer.new) one.old two.old one.new two.new }
     // Once a deed was done, or found the store too full, nothing is pending, and each pair of images holds what the disks then read as.
@@ -113,7 +114,7 @@ pub fn serve<R: Shelf, W: Sink, D: Disk, T: Transport, P: Pacer>(
         × EachPair D.Disk one.new two.new (HoldsTheSame D.Disk one.new two.new) }
     // Where each pair of images that a crash at entry may leave holds nothing or a sound world (each process that has ended has the tree that
     // its definition means for its recorded inputs, and each created value has one creator, whose inputs give it), so does each at any moment
-    // and at exit, and no disk is told to be damaged. Two empty disks meet this.
+    // and at exit, and no disk is reported as damaged. Two empty disks meet this.
     ensures sound { IsTrue (D.tells one.old) → IsTrue (D.tells two.old) → EachPair D.Disk one.old two.old HoldsSound → StaySound D.Disk one.old two.old one.new two.new result }
     // What was done with status Ok stands: each pair of images at exit holds the world of which the deed's row acknowledges what was written.
     // After `submit` it has the process of the number that was written, with library, name, inputs and caching; after `pause`, `play` and `kill` that
@@ -139,13 +140,13 @@ pub fn serve<R: Shelf, W: Sink, D: Disk, T: Transport, P: Pacer>(
     ensures idle { TakesNoTurns (command_of words.now) → (transport.new ≡ transport.old) × (pacer.new ≡ pacer.old) }
     // They also are where the status is Refused, Damaged or ReadFault, whatever the words.
     ensures unbegun { IsBeforeTurns result → (transport.new ≡ transport.old) × (pacer.new ≡ pacer.old) }
-    // A `run` asks the transport at most as often as it may take turns, whatever comes of them, and it goes on telling the table that it told.
+    // A `run` asks the transport at most as often as it may take turns, whatever comes of them, and the table of results that it answers by stays.
     ensures asked { IsAskedFor T.Transport (turns_of (command_of words.now)) transport.old transport.new }
     // Where a `run` was done, or found the store too full, the world that the disks hold then is what turns and rests make of the one that they
     // held at entry, at most as many as it may take, all of them with Spent, and fewer with Full. They follow each other from the transport and the clock as they were
     // to those that are left, in the order of the seed: each turn has the answer to its own call of the transport, or none where nothing is needed, at a moment that the clock was asked for once, also the
     // last one, which is refused, with Full; each rest was counted, and none was taken where a process was ready. Each exit code that is kept since, of a sound
-    // world, is that of the job's recorded result for its request, which is the table's where it is told. Where no call of the
+    // world, is that of the job's recorded result for its request, which is the table's where the transport has one. Where no call of the
     // transport failed, no process got the pause mark and none failed more often. Where each placed directory belonged to a process, each does.
     ensures outside { NeedDisks (R.contents shelf.old) words.now → IsDoneOrFull result → IsTrue (D.tells one.old) → IsTrue (D.tells two.old)
         → ServesOutside (R.contents shelf.old) words.now (exchange T.Transport P.Pacer transport.old transport.new pacer.old pacer.new) (visit D.Disk one.old two.old one.new two.new) result }
@@ -153,7 +154,7 @@ pub fn serve<R: Shelf, W: Sink, D: Disk, T: Transport, P: Pacer>(
     ensures outside_at_fault { result ≡ Status.WriteFault → (r : AReply) × IsOwed (R.contents shelf.old) (visit D.Disk one.old two.old one.new two.new) words.now r
         × (NeedDisks (R.contents shelf.old) words.now → IsDoneOrFull r.status → IsTrue (D.tells one.old) → IsTrue (D.tells two.old)
         → ServesOutside (R.contents shelf.old) words.now (exchange T.Transport P.Pacer transport.old transport.new pacer.old pacer.new) (visit D.Disk one.old two.old one.new two.new) r.status) }
-    // A `run` whose turns are enough (each live process that nothing called means a tree by the table that the transport tells, the transport and
+    // A `run` whose turns are enough (each live process that nothing called means a tree by the transport's table, the transport and
     // the clock oblige, no live process is paused, and there is a turn for each that is left and one for each job that waits) never ends as Spent or
     // Resting: no process is live then, or the store would be too full, memory ran out, or the shelf, a disk or the sink failed.
     ensures enough { HasEnoughToRun D.Disk T.Transport P.Pacer (R.contents shelf.old) words.now one.old two.old transport.old pacer.old → EndsOrBreaks (D.seen one.new, D.seen two.new) result }
@@ -173,8 +174,8 @@ pub fn serve<R: Shelf, W: Sink, D: Disk, T: Transport, P: Pacer>(
         × (IsTrue (D.tells one.old) → IsTrue (D.tells two.old) → ServesAborted D.Disk (R.contents shelf.old) words.now
         (exchange T.Transport P.Pacer transport.old transport.new pacer.old pacer.new) one.old two.old one.new two.new Status.DiskFault
         ((transport.new ≡ transport.old) × (pacer.new ≡ pacer.old))) }
-    // One call of the sink failed, the last one that was made, and it took a part of what is owed. What was done stays, also where the store was found too full; where
-    // what is owed is a reply that writes no disk, none was written; and where it refuses or tells damage, the transport and the clock are as they were.
+    // One call of the sink failed, the last one that was made, and it took a part of the reply's text. What was done stays, also where the store was found too full; where
+    // the reply is one that writes no disk, none was written; and where it refuses or reports damage, the transport and the clock are as they were.
     ensures write_fault { result ≡ Status.WriteFault → RisesByOne (W.faults sink.old) (W.faults sink.new) × W.failed sink.new
         × (r : AReply) × IsOwed (R.contents shelf.old) (visit D.Disk one.old two.old one.new two.new) words.now r × TakesPart r.text (W.taken sink.old) (W.taken sink.new)
         × (NeedDisks (R.contents shelf.old) words.now → IsDoneOrFull r.status → IsTrue (D.tells one.old) → IsTrue (D.tells two.old) → AreDurable D.Disk one.new two.new)

@@ -20,6 +20,8 @@ pub enum Fault {
     NoRequest,
     /// The folder holds another request.
     OtherRequest,
+    /// Another store takes the folder of jobs again and again.
+    OtherStore,
     /// The `sh` that starts the script failed.
     Start,
     /// The scheduler refused a job.
@@ -50,6 +52,7 @@ impl Fault {
             Fault::Name => "a file has a name that isn't allowed",
             Fault::NoRequest => "the folder holds no request",
             Fault::OtherRequest => "the folder holds another request",
+            Fault::OtherStore => "another store takes the folder of jobs",
             Fault::Start => "sh couldn't start the script",
             Fault::Scheduler => "the scheduler refused: see slurm.err",
             Fault::Silent => "the scheduler doesn't answer",

@@ -2,7 +2,10 @@
 //! another store is taken over.
 
 use crate::fault::{Fault, called};
-use crate::file::{content_in, folder_of, make_folder, path_in, replace_file, sync_names};
+use crate::file::{
+    content_in, folder_of, link_in, make_folder, path_in, place_file, remove_in, rename_in,
+    replace_file, sync_names,
+};
 use crate::random::random_word;
 use std::alloc::{AllocError, Global};
 use std::fs::File;
@@ -51,6 +54,29 @@ fn place_mark<R: Files<File = File>>(
     replace_file(rt, alloc, folder, "mark.tmp", MARK, line.as_bytes())
 }
 
+/// Gives the file with a store's mark the name of marks, unless another store's has it. Where a file can't have two names, it takes that name.
+fn name_mark<R: Files>(rt: &R, alloc: Global, jobs: &str, part: &str) -> Result<(), Fault> {
+    match link_in(rt, alloc, jobs, part, MARK) {
+        Ok(()) => remove_in(rt, alloc, jobs, part),
+        Err(Fault::System(..)) => rename_in(rt, alloc, jobs, part, MARK),
+        Err(fault) => Err(fault),
+    }
+}
+
+/// Brings a store's mark to a folder of jobs that has none, unless another store's comes there meanwhile.
+fn bring_mark<R: Files<File = File>>(
+    rt: &R,
+    alloc: Global,
+    jobs: &str,
+    mark: &str,
+) -> Result<(), Fault> {
+    let line = format!(in alloc; "{mark}\n")?;
+    let part = format!(in alloc; "{MARK}.{mark}")?;
+    place_file(rt, alloc, jobs, part.as_str(), line.as_bytes())?;
+    name_mark(rt, alloc, jobs, part.as_str())?;
+    sync_names(rt, jobs)
+}
+
 /// A new mark of the store.
 fn new_mark<R: Files<File = File>>(rt: &R, alloc: Global, store: &str) -> Result<Text, Fault> {
     let word = random_word(rt, alloc)?;
@@ -84,7 +110,7 @@ fn begin<R: Files<File = File>>(
     mark: &str,
 ) -> Result<(), Fault> {
     make_folder(rt, jobs)?;
-    place_mark(rt, alloc, jobs, mark)?;
+    bring_mark(rt, alloc, jobs, mark)?;
     sync_names(rt, folder_of(jobs))
 }
 
@@ -115,10 +141,41 @@ fn store_mark<R: Files<File = File>>(rt: &R, alloc: Global, jobs: &str) -> Resul
     }
 }
 
+/// Whether the folder of jobs bears this mark. A file of that name that is no mark is replaced by it.
+fn bears<R: Files<File = File>>(
+    rt: &R,
+    alloc: Global,
+    jobs: &str,
+    mark: &Text,
+) -> Result<bool, Fault> {
+    match mark_in(rt, alloc, jobs)? {
+        Some(marked) => Ok(same_text(mark, &marked)),
+        None => {
+            place_mark(rt, alloc, jobs, mark.as_str())?;
+            Ok(true)
+        }
+    }
+}
+
+/// Tries to make the folder of jobs that of a store with this mark. Whether it is: another store may do so at the same moment.
+fn is_claimed<R: Files<File = File>>(
+    rt: &R,
+    alloc: Global,
+    jobs: &str,
+    mark: &Text,
+) -> Result<bool, Fault> {
+    let marked = mark_in(rt, alloc, jobs)?;
+    claim_with(rt, alloc, jobs, mark, &marked)?;
+    bears(rt, alloc, jobs, mark)
+}
+
 /// Sees to it that the folder of jobs is this store's: one with the mark of another store is put aside, and a new one begins. The store
-/// gets its mark first, so that a folder of jobs never bears a mark that its own store lacks.
+/// gets its mark first, so that a folder of jobs never bears a mark that its own store lacks. Of two stores that find one folder with no mark
+/// at the same moment one has it.
 pub fn claim<R: Files<File = File>>(rt: &R, alloc: Global, jobs: &str) -> Result<(), Fault> {
     let mark = store_mark(rt, alloc, jobs)?;
-    let marked = mark_in(rt, alloc, jobs)?;
-    claim_with(rt, alloc, jobs, &mark, &marked)
+    if is_claimed(rt, alloc, jobs, &mark)? || is_claimed(rt, alloc, jobs, &mark)? {
+        return Ok(());
+    }
+    Err(Fault::OtherStore)
 }

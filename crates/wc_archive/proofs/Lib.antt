@@ -11,3 +11,4 @@ pub mod SmallWorlds
 pub mod Tables
 pub mod OneRefusal
 pub mod OneExport
+pub mod OneImport

@@ -1,8 +1,9 @@
 -- Laws of imports.
-use Rattle.std.specs.Prelude.{◌≡◌, ◌+◌, ◌≤◌, ℕ, Some, length, map}
+use Rattle.std.specs.Prelude.{◌≡◌, ◌+◌, ◌≤◌, ℕ, List, Some, length, map}
 use Rattle.wc_semantics.specs.Tables.{Table}
 use Rattle.wc_state.specs.declared.record.ProcessRecord.{ProcessRecord}
 use Rattle.wc_world.specs.World.{World}
+use Rattle.wc_world.specs.declared.change.Change.{Change}
 use Rattle.wc_world.specs.Accepted.{IsAccepted}
 use Rattle.wc_world.specs.Applied.{applied}
 use Rattle.wc_world.specs.Consistent.{IsConsistent}
@@ -20,7 +21,7 @@ use Rattle.wc_archive.specs.After.{own_world, with_archive}
 use Rattle.wc_archive.specs.Alone.{alone, imported, raised}
 use Rattle.wc_archive.specs.Exports.{Exports, RefusesExport}
 use Rattle.wc_archive.specs.Good.{AreGoodLinks, AreGoodProcesses, kind_of_node}
-use Rattle.wc_archive.specs.Judged.{IsFirstRefusal, IsImportable, questions}
+use Rattle.wc_archive.specs.Judged.{Imports, IsFirstRefusal, IsImportable, RefusesImport, questions}
 
 -- An import makes this world, whatever the archive says, where the world before is consistent.
 abbrev pub ImportsMakeTheseWorlds : Type 0
@@ -77,3 +78,9 @@ pub record ExportsAreOne : Type 0 where
   pub archives : (w : World) (root : ℕ) (a b : Archive) → Exports w root a → Exports w root b → a ≡ b
   pub refusals : (w : World) (root : ℕ) (d e : ArchiveError) → RefusesExport w root d → RefusesExport w root e → d ≡ e
   pub either : (w : World) (root : ℕ) (a : Archive) (e : ArchiveError) → Exports w root a → RefusesExport w root e → ⊥
+
+-- An import of bytes has one answer at most: one list of changes, or one refusal.
+pub record ImportsAreOne : Type 0 where
+  pub changes : (w : World) (most : ℕ) (bytes : List ℕ) (cs ds : List Change) → Imports w most bytes cs → Imports w most bytes ds → cs ≡ ds
+  pub refusals : (w : World) (most : ℕ) (bytes : List ℕ) (d e : ArchiveError) → RefusesImport w most bytes d → RefusesImport w most bytes e → d ≡ e
+  pub either : (w : World) (most : ℕ) (bytes : List ℕ) (cs : List Change) (e : ArchiveError) → Imports w most bytes cs → RefusesImport w most bytes e → ⊥

@@ -1,5 +1,5 @@
 //! Laws of imports.
-ghost use Rattle.wc_archive.specs.Laws.{ArchivesArePartsOfImports, ArchivesAreTheseWorlds, GoodArchivesAreConsistent, ImportsAreAccepted, ImportsKeepSound, ImportsKeepTables, ImportsMakeTheseWorlds, RefusalsAreOne, ExportsAreOne};
+ghost use Rattle.wc_archive.specs.Laws.{ArchivesArePartsOfImports, ArchivesAreTheseWorlds, GoodArchivesAreConsistent, ImportsAreAccepted, ImportsKeepSound, ImportsKeepTables, ImportsMakeTheseWorlds, ImportsAreOne, RefusalsAreOne, ExportsAreOne};
 ghost use Rattle.wc_archive.specs.SmallWorlds.{SumsAreArchived};
 ghost use Rattle.wc_archive.specs.Judged.{Imports, RefusesImport};
 
@@ -51,4 +51,9 @@ pub fn refusals_are_one()
 /// An export has one answer at most: one archive, or one refusal.
 pub fn exports_are_one()
     ensures { ExportsAreOne }
+{}
+
+/// An import has one answer at most: one list of changes, or one refusal.
+pub fn imports_are_one()
+    ensures { ImportsAreOne }
 {}

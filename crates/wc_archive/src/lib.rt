@@ -8,6 +8,6 @@ mod laws;
 
 pub use laws::{
     archives_are_parts_of_imports, archives_are_these_worlds, exports_are_one,
-    good_archives_are_consistent, imports_are_accepted, imports_keep_sound, imports_keep_tables,
-    imports_make_these_worlds, refusals_are_one, sums_are_archived,
+    good_archives_are_consistent, imports_are_accepted, imports_are_one, imports_keep_sound,
+    imports_keep_tables, imports_make_these_worlds, refusals_are_one, sums_are_archived,
 };

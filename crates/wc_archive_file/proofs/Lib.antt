@@ -10,3 +10,4 @@ pub mod Forms
 pub mod Links
 pub mod Digits
 pub mod Files
+pub mod One

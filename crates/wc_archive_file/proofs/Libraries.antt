@@ -23,17 +23,17 @@ use Rattle.wc_archive_file.specs.Reads.{Names}
 abbrev parsed : List Definition → Result (List Definition) ParseError
 parsed l = Ok l
 
-same_parsed : (l m : List Definition) → parsed l ≡ parsed m → l ≡ m
+pub same_parsed : (l m : List Definition) → parsed l ≡ parsed m → l ≡ m
 same_parsed l m h = cc
 
 -- the printed text of a kept library is a file, whose library is the same but for offsets and meets the rules
-record Prints (text : List ℕ) (kept_as : List Definition) : Type 0 where
-  library : List Definition
-  says : TextSays text (Ok library)
-  rules : KeepsRules library
-  bare : bare_library library ≡ kept_as
+pub record Prints (text : List ℕ) (kept_as : List Definition) : Type 0 where
+  pub library : List Definition
+  pub says : TextSays text (Ok library)
+  pub rules : KeepsRules library
+  pub bare : bare_library library ≡ kept_as
 
-prints : (text : List ℕ) (l : List Definition) → IsKept l → printed l ≡ text → Prints text l
+pub prints : (text : List ℕ) (l : List Definition) → IsKept l → printed l ≡ text → Prints text l
 prints text l k same =
     let back = reads_back k.0 k.1.writable in
     let is : printed k.0 ≡ text = sym (printed_bare k.0) ∙ ap printed k.2 ∙ same in

@@ -50,7 +50,7 @@ code_some (object ms) z e h = cc
 below : (n : ℕ) → FitsSigned w64 (pos n) → n < 2 ^ 63
 below n h = omega (arith, ints, h.sfits)
 
-reads_code : (a : ℤ) → FitsSigned w64 a → option_and_then as_i64 (as_number (code_data a)) ≡ Some a
+pub reads_code : (a : ℤ) → FitsSigned w64 a → option_and_then as_i64 (as_number (code_data a)) ≡ Some a
 reads_code (pos n) h = ap (λ (b : Bool). if b then Some (pos n) else None) (lt-ltb n (2 ^ 63) (below n h))
 reads_code (negsuc n) h = refl
 

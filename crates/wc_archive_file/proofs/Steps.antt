@@ -49,7 +49,7 @@ string_seen (string t) s e = let same : s ≡ t = cc in ap string (sym same)
 string_seen (array ds) s e = cc
 string_seen (object ms) s e = cc
 
-same_string : (s t : List ℕ) → string s ≡ string t → s ≡ t
+pub same_string : (s t : List ℕ) → string s ≡ string t → s ≡ t
 same_string s t e = cc
 
 module _ {A : Type 0} (text : A → List ℕ) (fits : A → Type 0) (d : Data) where

@@ -1,2 +1,3 @@
 pub mod Archives
 pub mod Reads
+pub mod Laws

@@ -4,6 +4,7 @@
 mod archive;
 mod error;
 mod file;
+mod laws;
 mod library;
 mod members;
 mod misread;
@@ -16,3 +17,4 @@ mod writing;
 pub use archive::{Archive, ArchiveLinks, ArchiveNode, ArchiveNodes, ArchiveProcess};
 pub use error::ArchiveError;
 pub use file::{archive_text, read_archive};
+pub use laws::bytes_are_of_one_archive;

@@ -12,7 +12,7 @@ use Rattle.wc_world.proofs.FoundRecords.{found_holds}
 use Rattle.wc_world.proofs.ReachedLists.{found_node}
 use Rattle.wc_machine.proofs.Frames.{records_below}
 use Rattle.wc_verify.specs.Following.{Follows, here, on, EndsWithin}
-use Rattle.wc_verify.specs.Givers.{AreGivers, AreLastGivers, giver, giver_at, if_job, keeps_code, number_at, number_or, result_giver}
+use Rattle.wc_verify.specs.Givers.{AreGivers, AreLastGivers, giver, giver_at, if_job, keeps_code, number_at, number_or, recorded_giver, result_giver}
 use Rattle.wc_verify.proofs.Given.{source_before, stands}
 
 -- the process itself or its source
@@ -38,6 +38,14 @@ of_job kind.Chain source = inl refl
 
 pub may_give_result : MayGive result_giver
 may_give_result r = at (is_killed r.state)
+  where
+    at : (b : Bool) → ((if b then r.node else number_or r.node (if_job r.kind r.cached_from)) ≡ r.node)
+        ⊎ (r.cached_from ≡ Some (if b then r.node else number_or r.node (if_job r.kind r.cached_from)))
+    at true = inl refl
+    at false = numbered r.node (if_job r.kind r.cached_from) r.cached_from (of_job r.kind r.cached_from)
+
+pub may_give_recorded : MayGive recorded_giver
+may_give_recorded r = at (is_killed r.state || keeps_code r)
   where
     at : (b : Bool) → ((if b then r.node else number_or r.node (if_job r.kind r.cached_from)) ≡ r.node)
         ⊎ (r.cached_from ≡ Some (if b then r.node else number_or r.node (if_job r.kind r.cached_from)))

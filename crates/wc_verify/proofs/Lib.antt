@@ -3,7 +3,8 @@ mod Leaping
 mod Noting
 mod Given
 mod Lasts
-mod Wrong
+mod LastResults
+pub mod Wrong
 pub mod Results
 mod Disagreeing
 pub mod Unique

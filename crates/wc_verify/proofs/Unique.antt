@@ -1,5 +1,5 @@
 -- What is found of a world is one, and a sound world has no fault.
-use Rattle.std.proofs.Common.{◌≡◌, ℕ, ◌<◌, ◌≤◌, ◌⊎◌, inl, inr, ⊎_elim, Option, Some, None, List, sym, ap, subst, ◌∙◌, arith}
+use Rattle.std.proofs.Common.{◌≡◌, ℕ, ◌<◌, ◌≤◌, Bool, ◌⊎◌, inl, inr, ⊎_elim, Option, Some, None, List, sym, ap, subst, ◌∙◌, arith}
 use Rattle.std.proofs.lemmas.Bool.{cases_eq}
 use Rattle.wc_graph.specs.declared.link.Link.{Link}
 use Rattle.wc_world.specs.World.{World}
@@ -10,7 +10,7 @@ use Rattle.wc_machine.specs.Created.{IsCreatedByInputs}
 use Rattle.wc_machine.specs.Recorded.{HasResult}
 use Rattle.wc_machine.specs.Sound.{IsSound}
 use Rattle.wc_machine.specs.Results.{HasResultsByRequest}
-use Rattle.wc_verify.specs.Faults.{Disagree, IsLeastDisagreement, IsLeastOnCycle, IsLowestWrong, IsNotAfter, IsRight}
+use Rattle.wc_verify.specs.Faults.{Disagree, IsLeastAmong, IsLeastDisagreement, IsLeastOnCycle, IsLowestWrong, IsNotAfter, IsRight}
 use Rattle.wc_verify.proofs.Disagreeing.{either}
 
 -- ---- one of each
@@ -56,6 +56,12 @@ one_least_disagreement w None None a b = λ i. None
 one_least_disagreement w None (Some q) a b = absurd (agree_or_disagree w q.0 q.1 a b.0)
 one_least_disagreement w (Some p) None a b = absurd (agree_or_disagree w p.0 p.1 b a.0)
 one_least_disagreement w (Some p) (Some q) a b = ap (λ (x : ℕ × ℕ). Some x) (same_pair p q (a.1 q.0 q.1 b.0) (b.1 p.0 p.1 a.0))
+
+pub one_least_among : (w : World) (chosen : ℕ → Bool) (p q : Option (ℕ × ℕ)) → IsLeastAmong w chosen p → IsLeastAmong w chosen q → p ≡ q
+one_least_among w chosen None None a b = λ i. None
+one_least_among w chosen None (Some q) a b = absurd (a q.0 q.1 b.0)
+one_least_among w chosen (Some p) None a b = absurd (b p.0 p.1 a.0)
+one_least_among w chosen (Some p) (Some q) a b = ap (λ (x : ℕ × ℕ). Some x) (same_pair p q (a.1 q.0 q.1 b.0) (b.1 p.0 p.1 a.0))
 
 -- ---- sound worlds
 

@@ -57,7 +57,7 @@ first_above n k r rs h rest =
     let e : r.node ≡ n = ap (λ (p : ℕ × NodeKind). p.0) h in
     All-cons (λ x. n ≤ x.node) r rs (omega arith) (lower n rs rest)
 
-above : (n : ℕ) (nodes : List NodeKind) (rs : List ProcessRecord) → map process_of rs ≡ processes_from n nodes → AreAbove n rs
+pub above : (n : ℕ) (nodes : List NodeKind) (rs : List ProcessRecord) → map process_of rs ≡ processes_from n nodes → AreAbove n rs
 above n [] [] h = All-nil (λ r. n ≤ r.node)
 above n [] (r ∷ rs) h = absurd (cc)
 above n (node.Data v ∷ ns) rs h = lower n rs (above (suc n) ns rs h)
@@ -114,22 +114,22 @@ module _ (w : World) (c : IsConsistent w) where
   all_rise : Rising w.records
   all_rise = rising 1 w.nodes w.records c.numbered
 
-  abbrev IsRightBelow : ℕ → ProcessRecord → Type 0
-  IsRightBelow n q = q.node < n → IsRight w q
+  -- what holds of each in front of a place holds of each that is lower than the one there
+  front_below : (Q : ProcessRecord → Type 0) (i : ℕ) (d r : ProcessRecord) → i < length w.records → r ≡ get_or w.records i d → All Q (take i w.records)
+      → All (λ q. q.node < r.node → Q q) w.records
+  front_below Q i d r lt e holds =
+      let front = All-weaker Q (λ q. q.node < r.node → Q q) (λ q good small. good) (take i w.records) holds in
+      let up : AreAbove r.node (drop i w.records)
+      = subst (λ (x : ProcessRecord). AreAbove x.node (drop i w.records)) (sym e) (not_below w.records i d all_rise lt) in
+      let back = All-weaker (λ q. r.node ≤ q.node) (λ q. q.node < r.node → Q q) (λ q le small. absurd (omega (arith, le, small))) (drop i w.records) up in
+      subst (All (λ q. q.node < r.node → Q q)) (take-append-drop i w.records) (All-append (λ q. q.node < r.node → Q q) (take i w.records) (drop i w.records) front back)
 
   first_is_lowest : (i : ℕ) (d r : ProcessRecord) → i < length w.records → r ≡ get_or w.records i d → All (IsRight w) (take i w.records) → IsWrong w r
       → IsLowestWrong w (Some r.node)
   first_is_lowest i d r lt e right is =
-      let front = All-weaker (IsRight w) (IsRightBelow r.node) (λ q good small. good) (take i w.records) right in
-      let up : AreAbove r.node (drop i w.records)
-      = subst (λ (x : ProcessRecord). AreAbove x.node (drop i w.records)) (sym e) (not_below w.records i d all_rise lt) in
-      let back = All-weaker (λ q. r.node ≤ q.node) (IsRightBelow r.node) (λ q le small. absurd (omega (arith, le, small))) (drop i w.records) up in
       let found : find_record r.node w.records ≡ Some r
-      = subst (λ (x : ProcessRecord). find_record x.node w.records ≡ Some x) (sym e) (unique 1 w.nodes w.records c.numbered i d lt) in (
-        (r, found, is),
-        subst (All (IsRightBelow r.node)) (take-append-drop i w.records)
-            (All-append (IsRightBelow r.node) (take i w.records) (drop i w.records) front back),
-      )
+      = subst (λ (x : ProcessRecord). find_record x.node w.records ≡ Some x) (sym e) (unique 1 w.nodes w.records c.numbered i d lt) in
+      ((r, found, is), front_below (IsRight w) i d r lt e right)
 
   all_right : All (IsRight w) w.records → IsCreatedByInputs w
   all_right right = record {
@@ -152,6 +152,12 @@ module _ (w : World) (c : IsConsistent w) where
     lower_before d r lt is =
         subst (λ (y : ProcessRecord). All (λ x. x.node < y.node) (take i items)) (sym is)
         (below items i d (subst Rising (sym e) all_rise) lt)
+
+    pub front_holds : (Q : ProcessRecord → Type 0) (d r : ProcessRecord) → i < length items → r ≡ get_or items i d → All Q (take i items)
+        → All (λ x. x.node < r.node → Q x) w.records
+    front_holds Q d r lt is holds =
+        front_below Q i d r (subst (λ (xs : List ProcessRecord). i < length xs) e lt) (is ∙ ap (λ (xs : List ProcessRecord). get_or xs i d) e)
+        (subst (λ (xs : List ProcessRecord). All Q (take i xs)) e holds)
 
     pub lowest : (d r : ProcessRecord) → i < length items → r ≡ get_or items i d → All (IsRight w) (take i items) → IsWrong w r → IsLowestWrong w (Some r.node)
     lowest d r lt is right wrong =

@@ -1,5 +1,5 @@
 -- What may be wrong with a world.
-use Rattle.std.specs.Prelude.{◌≡◌, ◌≢◌, ◌⊎◌, ℕ, ◌<◌, ◌≤◌, true, List, All, Option, Some, None}
+use Rattle.std.specs.Prelude.{◌≡◌, ◌≢◌, ◌⊎◌, ℕ, ◌<◌, ◌≤◌, Bool, true, List, All, Option, Some, None}
 use Rattle.wc_value.specs.declared.process.JobResult.{JobResult}
 use Rattle.wc_value.specs.declared.process.Request.{Request}
 use Rattle.wc_expression.specs.declared.outcome.Outcome.TheVariants.{Gives}
@@ -11,7 +11,7 @@ use Rattle.wc_world.specs.World.{World}
 use Rattle.wc_world.specs.Records.{find_record, has_ended, is_calculation}
 use Rattle.wc_machine.specs.Created.{IsGiven, IsCreatedByInputs}
 use Rattle.wc_machine.specs.Recorded.{recorded_request, HasResult}
-use Rattle.wc_machine.specs.Results.{HasResultsByRequest}
+use Rattle.wc_machine.specs.Results.{HasResultsByRequest, result_of}
 
 -- ---- cycles
 
@@ -47,8 +47,8 @@ pub record HaveOneOrigin (w : World) : Type 0 where
   pub bare : (r : ProcessRecord) → find_record r.node w.records ≡ Some r → r.kind ≡ kind.Job → has_ended r.state ≡ true
       → (source : ℕ) → r.cached_from ≡ Some source → r.code ≡ None
 
--- two jobs, in order of their numbers, have equal requests and different recorded results
-pub record Disagree (w : World) (p q : ℕ) : Type 0 where
+-- Two jobs, in order of their numbers, have equal requests and different results, by what is taken for the results of jobs.
+pub record DisagreeBy (has : ℕ → JobResult → Type 0) (w : World) (p q : ℕ) : Type 0 where
   pub before : p < q
   pub one : ProcessRecord
   pub other : ProcessRecord
@@ -59,9 +59,13 @@ pub record Disagree (w : World) (p q : ℕ) : Type 0 where
   pub other_asks : recorded_request w other ≡ Some (Gives request)
   pub one_result : JobResult
   pub other_result : JobResult
-  pub one_has : HasResult w p one_result
-  pub other_has : HasResult w q other_result
+  pub one_has : has p one_result
+  pub other_has : has q other_result
   pub differ : one_result ≢ other_result
+
+-- two jobs, in order of their numbers, have equal requests and different recorded results
+abbrev pub Disagree : World → (p q : ℕ) → Type 0
+Disagree w = DisagreeBy (HasResult w) w
 
 -- a pair of numbers is not after another: by the first, then by the second
 abbrev pub IsNotAfter : ℕ × ℕ → ℕ × ℕ → Type 0
@@ -71,3 +75,15 @@ IsNotAfter p q = (p.0 < q.0) ⊎ ((p.0 ≡ q.0) × (p.1 ≤ q.1))
 abbrev pub IsLeastDisagreement : World → Option (ℕ × ℕ) → Type 0
 IsLeastDisagreement w None = HasResultsByRequest w
 IsLeastDisagreement w (Some p) = Disagree w p.0 p.1 × ((a b : ℕ) → Disagree w a b → IsNotAfter p (a, b))
+
+-- ---- results of some jobs
+
+-- a process that is chosen has this recorded result, found step by step
+abbrev pub HasResultAmong : World → (chosen : ℕ → Bool) → ℕ → JobResult → Type 0
+HasResultAmong w chosen pid x = (chosen pid ≡ true) × (result_of w pid ≡ Some x)
+
+-- the least two jobs among those chosen that disagree, and none exactly where no two disagree
+abbrev pub IsLeastAmong : World → (chosen : ℕ → Bool) → Option (ℕ × ℕ) → Type 0
+IsLeastAmong w chosen None = (p q : ℕ) → ¬ DisagreeBy (HasResultAmong w chosen) w p q
+IsLeastAmong w chosen (Some p) =
+    DisagreeBy (HasResultAmong w chosen) w p.0 p.1 × ((a b : ℕ) → DisagreeBy (HasResultAmong w chosen) w a b → IsNotAfter p (a, b))

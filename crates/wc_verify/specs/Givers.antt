@@ -52,6 +52,10 @@ if_job kind.Chain source = None
 abbrev pub result_giver : ProcessRecord → ℕ
 result_giver r = if is_killed r.state then r.node else number_or r.node (if_job r.kind r.cached_from)
 
+-- the process whose recorded result a job has: its source, where it keeps no exit code and wasn't killed, or itself
+abbrev pub recorded_giver : ProcessRecord → ℕ
+recorded_giver r = if is_killed r.state || keeps_code r then r.node else number_or r.node (if_job r.kind r.cached_from)
+
 -- the same by the number of a process, and the number itself where it is none of a process
 abbrev pub number_at : (ProcessRecord → ℕ) → ℕ → Option ProcessRecord → ℕ
 number_at f pid None = pid

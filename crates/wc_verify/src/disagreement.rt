@@ -23,7 +23,7 @@ use wc_value::{Bytes, Fields, JobResult, encode_request};
 use wc_world::{World, reached_worlds_are_consistent};
 
 /// The result of a job's own run, if it has one.
-fn own_result(
+pub(crate) fn own_result(
     alloc: Global,
     world: &World,
     process: &ProcessRecord,
@@ -82,7 +82,11 @@ fn bytes_asked(
 }
 
 /// The canonical bytes of the request of a process, if it has one.
-fn asked(alloc: Global, world: &World, process: &ProcessRecord) -> Result<Option<Bytes>, AllocError>
+pub(crate) fn asked(
+    alloc: Global,
+    world: &World,
+    process: &ProcessRecord,
+) -> Result<Option<Bytes>, AllocError>
     requires { IsSome (find_record process.now.node world.now.world.records) }
     ensures { IfOk result (AreBytesOf (recorded_request world.now.world process.now)) }
 {
@@ -101,8 +105,8 @@ fn note_process(
     requires lasts { AreLastGivers result_giver world.now.world lasts.now }
     requires found { find_record process.now.node world.now.world.records ≡ Some process.now }
     requires origins { HaveOneOrigin world.now.world }
-    ensures { OnOk result ((rs : List ProcessRecord) → All (λ r. r.node < process.now.node) rs → HaveNoted world.now.world rs firsts.old
-        → HaveNoted world.now.world (rs ++ process.now ∷ []) firsts.new) }
+    ensures { OnOk result ((rs : List ProcessRecord) → All (λ r. r.node < process.now.node) rs → HaveNoted (HasResult world.now.world) world.now.world rs firsts.old
+        → HaveNoted (HasResult world.now.world) world.now.world (rs ++ process.now ∷ []) firsts.new) }
 {
     let Some(given) = result_of(alloc, world, lasts, process)? else {
         return Ok(());

@@ -2,7 +2,7 @@
 
 ghost use Rattle.std.specs.Prelude.{◌≡◌, ℕ, ◌+◌, ◌<◌, length, slice_index, IfOk};
 ghost use Rattle.wc_semantics.specs.Meaning.{is_killed};
-ghost use Rattle.wc_verify.specs.Givers.{AreLastGivers, giver, giver_at, if_job, keeps_code, number_or, result_giver};
+ghost use Rattle.wc_verify.specs.Givers.{AreLastGivers, giver, giver_at, if_job, keeps_code, number_or, recorded_giver, result_giver};
 
 use crate::ends::lasts_of;
 use std::alloc::{AllocError, Global};
@@ -70,6 +70,17 @@ fn result_giver(process: &ProcessRecord) -> u32
     }
 }
 
+/// The process whose recorded result a job has: its source, where it keeps no exit code and wasn't killed, or itself.
+fn recorded_giver(process: &ProcessRecord) -> u32
+    ensures { result ≡ recorded_giver process.now }
+{
+    if is_killed(process.state) || keeps_code(process) {
+        process.node
+    } else {
+        number_or(process.node, if_job(process.kind, process.cached_from))
+    }
+}
+
 /// The giver of the process with a number, or the number itself where there is no such process.
 fn giver_at(world: &World, pid: u32) -> u32
     ensures { result ≡ giver_at giver world.now.world pid }
@@ -86,6 +97,16 @@ fn result_giver_at(world: &World, pid: u32) -> u32
 {
     match world.record_of(pid) {
         Some(process) => result_giver(process),
+        None => pid,
+    }
+}
+
+/// The same of recorded results.
+fn recorded_giver_at(world: &World, pid: u32) -> u32
+    ensures { result ≡ giver_at recorded_giver world.now.world pid }
+{
+    match world.record_of(pid) {
+        Some(process) => recorded_giver(process),
         None => pid,
     }
 }
@@ -115,6 +136,20 @@ pub(crate) fn last_result_givers(alloc: Global, world: &World) -> Result<Vec<u32
     let mut table = Vec::new(alloc);
     for pid in 0..world.graph().nodes().len() + 1 {
         table.push(result_giver_at(world, pid as u32))?;
+    }
+    Ok(lasts_of(table, world.batches()))
+}
+
+/// For each number, up to that of the last node, the process from whose own run its recorded result comes, where it has one.
+pub fn last_recorded_givers(alloc: Global, world: &World) -> Result<Vec<u32>, AllocError>
+    ensures { IfOk result (λ lasts. AreLastGivers recorded_giver world.now.world lasts.items) }
+{
+    // A reached world is consistent, as above.
+    let _ = world.graph();
+    reached_worlds_are_consistent();
+    let mut table = Vec::new(alloc);
+    for pid in 0..world.graph().nodes().len() + 1 {
+        table.push(recorded_giver_at(world, pid as u32))?;
     }
     Ok(lasts_of(table, world.batches()))
 }

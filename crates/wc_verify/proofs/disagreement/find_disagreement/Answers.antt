@@ -1,6 +1,7 @@
 use Rattle.std.proofs.Common.{take, sym, ap, subst, ◌∙◌}
 use Rattle.std.proofs.lemmas.List.{take_all}
 use Rattle.wc_verify.specs.Faults.{IsLeastDisagreement}
+use Rattle.wc_machine.specs.Recorded.{HasResult}
 use Rattle.wc_verify.specs.Noted.{HaveNoted}
 use Rattle.wc_verify.proofs.Wrong.{found_there, lower_before}
 use Rattle.wc_verify.proofs.Disagreeing.{least_of_world, none_noted, taken_on}
@@ -13,7 +14,7 @@ note_process-requires-clause-found c =
     (c.as_slice-process-items.ensures ∙ ap (λ p. p.0) c.records.ensures) c.loop-process.process-index _ c.process-item.result c.loop-process-test.true c.process-item.is
 
 pub loop-process-init : goal.loop-process-init
-loop-process-init c = none_noted c.args.world.now.world c.«new-firsts».result c.«new-firsts».ensures
+loop-process-init c = none_noted (HasResult c.args.world.now.world) c.args.world.now.world c.«new-firsts».result c.«new-firsts».ensures
 
 pub loop-process-preserved : goal.loop-process-preserved
 loop-process-preserved c =
@@ -23,7 +24,7 @@ loop-process-preserved c =
     let process = c.process-item.result in
     let lower = lower_before w (c.reached_worlds_are_consistent.ensures w c.graph.ensures.reached) items (c.as_slice-process-items.ensures ∙ ap (λ p. p.0) c.records.ensures) i
     _ process c.loop-process-test.true c.process-item.is in
-    taken_on w items i _ process c.note_process.new.firsts c.loop-process-test.true c.process-item.is (c.in_ok-note_process.ensures (take i items) lower c.loop-process.invariant)
+    taken_on (HasResult w) w items i _ process c.note_process.new.firsts c.loop-process-test.true c.process-item.is (c.in_ok-note_process.ensures (take i items) lower c.loop-process.invariant)
 
 pub returns : goal.returns
 returns c =
@@ -33,4 +34,4 @@ returns c =
     let firsts = c.loop-process.firsts in
     subst (IsLeastDisagreement w) (sym c.least.ensures)
     (least_of_world w (c.reached_worlds_are_consistent.ensures w c.graph.ensures.reached) c.requires c.in_ok-lasts.lasts.items c.in_ok-lasts.ensures firsts
-    (subst (λ rs. HaveNoted w rs firsts) (take_all c.loop-process.process-index items c.loop-process-test.false ∙ e) c.loop-process.invariant))
+    (subst (λ rs. HaveNoted (HasResult w) w rs firsts) (take_all c.loop-process.process-index items c.loop-process-test.false ∙ e) c.loop-process.invariant))

@@ -5,7 +5,12 @@ and keys nested at most 80 deep, and Python's reader that of 1.0: where a file m
 """
 import math
 import re
-import tomllib
+
+try:
+    import tomllib
+except ImportError:
+    # Before Python 3.11.
+    tomllib = None
 
 KINDS = "any data process int bool text list dict folder calcfunction calcjob workchain".split()
 STATES = "created running waiting finished excepted killed".split()
@@ -114,7 +119,7 @@ def is_wide(value):
 
 def read(data):
     """The table of a file, or None where it is no TOML. Unknown where that isn't known here."""
-    if max(map(data.count, (b"[", b"{", b"."))) > 70:
+    if tomllib is None or max(map(data.count, (b"[", b"{", b"."))) > 70:
         raise Unknown
     try:
         table = tomllib.loads(data.decode("utf-8"))

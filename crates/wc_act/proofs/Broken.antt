@@ -1,5 +1,5 @@
 -- What is left where memory ran out, or a disk failed.
-use Rattle.std.proofs.Common.{◌≡◌, ◌↔◌, inr, ℕ, List, Result, Ok, Err, IsErrAnd, refl, sym, subst}
+use Rattle.std.proofs.Common.{◌≡◌, ◌⊎◌, ◌↔◌, inl, inr, ⊎_elim, ℕ, List, Result, Ok, Err, IsErrAnd, refl, sym, subst}
 use Rattle.std.specs.Prelude.{IfErr, IfOk}
 use Rattle.wc_disk.specs.declared.disk.Disk as disk
 use Rattle.wc_disk.specs.Steps.{Only}
@@ -28,13 +28,14 @@ use Rattle.wc_plan.specs.declared.status.Status.{Status}
 use Rattle.wc_plan.specs.declared.status.Status.TheVariants as status
 use Rattle.wc_act.specs.declared.error.ActError.{ActError}
 use Rattle.wc_act.specs.declared.error.ActError.TheVariants.{OutOfMemory, DiskFault}
-use Rattle.wc_act.specs.Aborted.{Aborts, BreaksOutside, StaysDurable, WorkAborts}
+use Rattle.wc_act.specs.Aborted.{Aborts, BreaksOutside, StaysBegun, StaysDurable, WorkAborts}
 use Rattle.wc_act.specs.Crashes.{AreDurable, EachPair}
 use Rattle.wc_act.specs.Exchanges.{Exchange}
 use Rattle.wc_act.specs.Outside.{IsNoRun}
+use Rattle.wc_act.specs.Rows.{IsEmpty, begin_row}
 use Rattle.wc_act.specs.StoreDeeds.{Hold}
 use Rattle.wc_act.specs.Statuses.{IsDoneOrFull}
-use Rattle.wc_act.specs.Undone.{IsUnbroken, ended_by}
+use Rattle.wc_act.specs.Undone.{EndsWith, IsBeforeStoring, IsUnbroken, LeavesUnwritten, ended_by}
 use Rattle.wc_act.proofs.Visiting.{journal_of_images, seen_images}
 
 -- ---- errors
@@ -133,7 +134,16 @@ module _ {D : Type 0} (g : disk.Ghosts D) where
 
   -- ---- what begins a store
 
-  pub begun_aborts : (e : Exchange) (b : Begin) (one two one_new two_new : D) (A B idle : Type 0) (result : Result Reply ActError)
+  pub begun_aborts : (e : Exchange) (b : Begin) (one two one_new two_new : D) (A B idle : Type 0) → idle → (result : Result Reply ActError)
+      → IfErr result (λ x. A → B → LeavesUnwritten g one two one_new two_new ⊎ StaysBegun g (begin_row b).begins one_new two_new (ended_by x))
       → IfErr result (λ x. A → B → Aborts g e (deed.Begin b) one two one_new two_new (ended_by x) idle)
-  begun_aborts e b one two one_new two_new A B idle (Ok r) = tt
-  begun_aborts e b one two one_new two_new A B idle (Err x) = λ told told_too. inr tt
+  begun_aborts e b one two one_new two_new A B idle still (Ok r) leaves = tt
+  begun_aborts e b one two one_new two_new A B idle still (Err x) leaves = λ told told_too. ⊎_elim (λ none. inl (none, still)) (λ stays. inr stays) (leaves told told_too)
+
+  -- `init` has written nothing where memory ran out
+  pub init_aborts : (one two one_new two_new : D) (A B : Type 0) (result : Result Reply ActError)
+      → (EndsWith IsBeforeStoring result → A → B → LeavesUnwritten g one two one_new two_new)
+      → IfErr result (λ x. A → B → LeavesUnwritten g one two one_new two_new ⊎ StaysBegun g IsEmpty one_new two_new (ended_by x))
+  init_aborts one two one_new two_new A B (Ok r) unwritten = tt
+  init_aborts one two one_new two_new A B (Err OutOfMemory) unwritten = λ told told_too. inl (unwritten tt told told_too)
+  init_aborts one two one_new two_new A B (Err DiskFault) unwritten = λ told told_too. inr (λ is. absurd (fault_no_memory is))

@@ -6,12 +6,12 @@ use Rattle.wc_world.specs.World.{World, empty}
 use Rattle.wc_store.specs.declared.error.StoreError.{StoreError}
 use Rattle.wc_store.specs.declared.error.StoreError.TheVariants as error
 use Rattle.wc_store.specs.declared.store.Store.{Store}
-use Rattle.wc_store.specs.Held.{Standing, IsHeld, nothing, damage, a_world}
+use Rattle.wc_store.specs.Held.{Standing, IsHeld, HoldsAWorld, nothing, damage, a_world}
 use Rattle.wc_store.specs.declared.place.Place.TheVariants.{One}
 use Rattle.wc_store.specs.Prepared.{HasGeneration}
-use Rattle.wc_store.specs.Refusals.{RefusesLoad, RefusesPack, RefusesInit, IsDamageOf, IsUnchanged}
+use Rattle.wc_store.specs.Refusals.{RefusesLoad, RefusesPack, RefusesInit, IsUnchanged}
 use Rattle.wc_store.specs.Sights.{OfImages}
-use Rattle.wc_store.specs.Stores.{StandsFor, HasImages, HoldsAWorld, IsLoadedOf}
+use Rattle.wc_store.specs.Stores.{StandsFor, HasImages, IsLoadedOf}
 use Rattle.wc_report.specs.Lines.{initialised_text, packed_text}
 use Rattle.wc_plan.specs.declared.deed.Begin.TheVariants as begin
 use Rattle.wc_plan.specs.declared.deed.Deed.TheVariants as deed
@@ -127,17 +127,17 @@ module _ {D : Type 0} (g : disk.Ghosts D) where
       (λ before after h. record { standing = nothing; held = h.1; still = h.0; tells = reply })
       (are_read g one two one_new two_new (λ a b. IsHeld a b nothing) images (λ told told_too. (same, same_too)))
 
-  pub opened_refused : (one two one_new two_new : D) (told : Type 0) (held : Standing → Type 0) (e : StoreError) (r : Reply) → RefusesLoad told held e → IsDamageOf g one two e
+  pub opened_refused : (one two one_new two_new : D) (e : StoreError) (r : Reply) → RefusesLoad g one two e
       → g.seen one_new ≡ g.seen one → g.seen two_new ≡ g.seen two → store_reply e ≡ Some r
       → OfVisit (visit g one two one_new two_new) (λ before after. HasNoWorld before after r)
-  opened_refused one two one_new two_new told held error.DiskFault r refused is same same_too reply = absurd (cc)
-  opened_refused one two one_new two_new told held (error.Damaged number at found) r refused is same same_too reply =
+  opened_refused one two one_new two_new error.DiskFault r refused same same_too reply = absurd (cc)
+  opened_refused one two one_new two_new (error.Damaged number at found) r refused same same_too reply =
       visit_as (visit g one two one_new two_new) (λ before after. (after ≡ before) × Hold before (damage number at found)) (λ before after. HasNoWorld before after r)
       (λ before after h. record { standing = damage number at found; held = h.1; still = h.0; tells = sym (some_is (is_damaged number at found) r reply) })
-      (are_read g one two one_new two_new (λ a b. IsHeld a b (damage number at found)) is (λ told told_too. (same, same_too)))
-  opened_refused one two one_new two_new told held (error.Full what count limit) r refused is same same_too reply = absurd refused
-  opened_refused one two one_new two_new told held error.AlreadyThere r refused is same same_too reply = absurd refused
-  opened_refused one two one_new two_new told held error.OutOfMemory r refused is same same_too reply = absurd (cc)
+      (are_read g one two one_new two_new (λ a b. IsHeld a b (damage number at found)) refused (λ told told_too. (same, same_too)))
+  opened_refused one two one_new two_new (error.Full what count limit) r refused same same_too reply = absurd refused
+  opened_refused one two one_new two_new error.AlreadyThere r refused same same_too reply = absurd refused
+  opened_refused one two one_new two_new error.OutOfMemory r refused same same_too reply = absurd (cc)
 
 -- ---- init
 
@@ -162,19 +162,17 @@ has_begun store r bare made reply before after are = (
 
 module _ {D : Type 0} (g : disk.Ghosts D) where
   pub refused_init : {E : Type 0} (e : StoreError) (one two one_new two_new : D) (result : Result Reply E)
-      → RefusesInit (IsTrue (g.tells one) × IsTrue (g.tells two)) (IsHeld (g.seen one) (g.seen two)) e → IsDamageOf g one two e
-      → (e ≡ error.AlreadyThere → OfImages g one two HoldsAWorld)
-      → IsUnchanged {T = Store} (Err e) (g.seen one) (g.seen one_new) → g.seen two_new ≡ g.seen two
+      → RefusesInit g one two e → IsUnchanged {T = Store} (Err e) (g.seen one) (g.seen one_new) → g.seen two_new ≡ g.seen two
       → IfOk result (λ r. store_reply e ≡ Some r) → IfOk result (λ r. OwedDeed (visit g one two one_new two_new) (deed.Begin begin.Init) r)
-  refused_init e one two one_new two_new (Err x) refused is there same same_too reply = reply
-  refused_init error.DiskFault one two one_new two_new (Ok r) refused is there same same_too reply = absurd (cc)
-  refused_init (error.Damaged number at found) one two one_new two_new (Ok r) refused is there same same_too reply =
+  refused_init e one two one_new two_new (Err x) refused same same_too reply = reply
+  refused_init error.DiskFault one two one_new two_new (Ok r) refused same same_too reply = absurd (cc)
+  refused_init (error.Damaged number at found) one two one_new two_new (Ok r) refused same same_too reply =
       visit_as (visit g one two one_new two_new) (λ before after. (after ≡ before) × Hold before (damage number at found)) (Done (row (deed.Begin begin.Init)) r)
       (λ before after h. (damage number at found, h.1, (h.0, sym (some_is (is_damaged number at found) r reply))))
-      (are_read g one two one_new two_new (λ a b. IsHeld a b (damage number at found)) is (λ told told_too. (same, same_too)))
-  refused_init (error.Full what count limit) one two one_new two_new (Ok r) refused is there same same_too reply = absurd refused
-  refused_init error.AlreadyThere one two one_new two_new (Ok r) refused is there same same_too reply =
+      (are_read g one two one_new two_new (λ a b. IsHeld a b (damage number at found)) refused (λ told told_too. (same, same_too)))
+  refused_init (error.Full what count limit) one two one_new two_new (Ok r) refused same same_too reply = absurd refused
+  refused_init error.AlreadyThere one two one_new two_new (Ok r) refused same same_too reply =
       visit_as (visit g one two one_new two_new) (λ before after. (after ≡ before) × HoldsAWorld before.0 before.1) (Done (row (deed.Begin begin.Init)) r)
       (λ before after h. (a_world h.1.0, h.1.1, (h.0, sym (some_is (refuses cause.StoreExists) r reply))))
-      (are_read g one two one_new two_new HoldsAWorld (there refl) (λ told told_too. (same, same_too)))
-  refused_init error.OutOfMemory one two one_new two_new (Ok r) refused is there same same_too reply = absurd (cc)
+      (are_read g one two one_new two_new HoldsAWorld refused (λ told told_too. (same, same_too)))
+  refused_init error.OutOfMemory one two one_new two_new (Ok r) refused same same_too reply = absurd (cc)

@@ -1,21 +1,22 @@
 -- What a drill does, and what it leaves.
-use Rattle.std.proofs.Common.{◌≡◌, ◌⊎◌, inl, inr, ⊎_elim, ◌≤◌, ℕ, List, Some, Result, Ok, Err, IfOk, IsTrue, refl, sym, ap, subst, ◌∙◌, arith}
+use Rattle.std.proofs.Common.{◌≡◌, ◌⊎◌, inl, inr, ⊎_elim, ◌≤◌, ℕ, Bool, List, Some, Result, Ok, Err, IfOk, IsTrue, refl, sym, ap, subst, ◌∙◌, arith}
+use Rattle.std.specs.Prelude.{IfErr, IsErrOf}
 use Rattle.wc_disk.specs.declared.disk.Disk as disk
 use Rattle.wc_disk.specs.Images.{LeavesOnly}
 use Rattle.wc_disk.proofs.Runs.{weaker_run}
 use Rattle.wc_journal.specs.declared.journal.Journal.{Journal}
 use Rattle.wc_world.specs.World.{World, empty}
-use Rattle.wc_store.specs.Held.{IsHeld, nothing, damage, a_world}
+use Rattle.wc_store.specs.Held.{IsHeld, HoldsAWorld, nothing, damage, a_world}
 use Rattle.wc_store.specs.declared.place.Place.TheVariants.{One}
 use Rattle.wc_store.specs.Sights.{OfImages}
-use Rattle.wc_store.specs.Stores.{HoldsAWorld}
+use Rattle.wc_store.specs.Stepped.{HoldsSome}
 use Rattle.wc_drill.specs.Runner.Leaves.{SomeTurns}
 use Rattle.wc_drill.specs.Runner.Trips as trips
 use Rattle.wc_drill.specs.Draws.{sum_of_squares}
 use Rattle.wc_drill.specs.Texts.{drilled_text}
 use Rattle.wc_drill.specs.Drilled as drilled
 use Rattle.wc_drill.specs.Drilled.{Drills, DrillsBy, HasDrilled, outside, turns_of}
-use Rattle.wc_drill.specs.Leaves.{DrilledBeside, IsBegun, IsFilled, IsOfDrill, RefusedLeaves, AreDurable as AreNow}
+use Rattle.wc_drill.specs.Leaves.{DrilledBeside, IsBegun, IsFilled, IsOfDrill, RefusedLeaves, StaysDrilled, AreDurable as AreNow}
 use Rattle.wc_drill.specs.Refusals.{RefusesDrill}
 use Rattle.wc_drill.specs.Sound.{DrillsAreSound}
 use Rattle.wc_drill.specs.declared.error.DrillError.{DrillError}
@@ -26,19 +27,24 @@ use Rattle.wc_act.specs.declared.error.ActError.{ActError}
 use Rattle.wc_act.specs.declared.error.ActError.TheVariants as act
 use Rattle.wc_plan.specs.declared.reply.Reply.{Reply}
 use Rattle.wc_plan.specs.declared.status.Cause.TheVariants as cause
-use Rattle.wc_act.specs.Crashes.{AreDurable, ComesOfNothing, Kept, LeavesKept}
+use Rattle.wc_act.specs.Aborted.{StaysBegun}
+use Rattle.wc_act.specs.Crashes.{AreDurable, ComesOfNothing, HoldsBegun, Kept, LeavesKept}
 use Rattle.wc_act.specs.Drills.{HasEnded, FillsUp, broken_reply}
 use Rattle.wc_act.specs.Owed.{visit, Done, OwedDeed}
 use Rattle.wc_plan.specs.Replies.{refuses, prints}
 use Rattle.wc_act.specs.Statuses.{IsDoneOrFull}
 use Rattle.wc_act.specs.Rows.{MakesNothing, row}
 use Rattle.wc_act.specs.StoreDeeds.{Images, is_damaged, is_full}
-use Rattle.wc_act.specs.Undone.{EndsWith, IsBeforeTurns, LeavesUnwritten}
+use Rattle.wc_act.specs.Undone.{EndsWith, IsBeforeTurns, LeavesUnwritten, ended_by}
+use Rattle.wc_act.proofs.Broken.{fault_no_memory}
 use Rattle.wc_act.proofs.Doing.{some_is}
 use Rattle.wc_drill.proofs.Fitting.{empty_fits}
 use Rattle.wc_act.proofs.Leaving.{first_journal, journal_pair}
 use Rattle.wc_act.proofs.Unwriting.{images_again}
 use Rattle.wc_act.proofs.Visiting.{are_read, visit_as}
+
+error_is : (x y : ActError) → IsErrOf {T = Reply} (Err x) y → x ≡ y
+error_is x y is = cc
 
 -- ---- what is begun
 
@@ -56,6 +62,18 @@ none_submitted seed count = record {
   order = inl refl;
 }
 
+-- an image of disk one that holds what it has made, beside one of disk two
+begun_by : DrillsAreSound → (seed count : ℕ) (a b : List ℕ) → HoldsSome One (DrillsBy seed count) b a → HoldsBegun (DrillsBy seed count) a b
+begun_by law seed count a b d = record {
+  world = d.0;
+  held = d.3.held;
+  journal = d.1;
+  kept = journal_pair One a b d.0 d.1 d.3;
+  place = refl;
+  begun = d.2;
+  sound = law seed count d.0 d.2.drills;
+}
+
 -- what it leaves of two images comes of nothing
 comes_of_drill : DrillsAreSound → (seed count : ℕ) (one two a b : List ℕ) → IsOfDrill seed count one two a b → ComesOfNothing (DrillsBy seed count) one two a b
 comes_of_drill law seed count one two a b h = record {
@@ -66,15 +84,7 @@ comes_of_drill law seed count one two a b h = record {
     record { drills = none_submitted seed count; fits = empty_fits empty first_journal refl refl refl; version = refl; generation = refl },
   );
   held = ⊎_elim (λ none. inl none)
-      (λ d. inr (record {
-        world = d.0;
-        held = d.3.held;
-        journal = d.1;
-        kept = journal_pair One a b d.0 d.1 d.3;
-        place = refl;
-        begun = d.2;
-        sound = law seed count d.0 d.2.drills;
-      })) h.held;
+      (λ d. inr (begun_by law seed count a b d)) h.held;
 }
 
 -- ---- what is told
@@ -126,7 +136,7 @@ module _ {D : Type 0} (g : disk.Ghosts D) (seed count : ℕ) (one two one_new tw
 
   pub refused_drill : {E : Type 0} (e : DrillError) (result : Result Reply E) → RefusesDrill g seed count one two one_new two_new e
       → (IsTrue (g.tells one) → IsTrue (g.tells two) → g.seen two_new ≡ g.seen two)
-      → (IsTrue (g.tells one) → IsTrue (g.tells two) → RefusedLeaves {T = ℕ} g (Err e) one two one_new two_new)
+      → (IsTrue (g.tells one) → IsTrue (g.tells two) → RefusedLeaves {T = ℕ} g seed count (Err e) one two one_new two_new)
       → IfOk result (λ r. broken_reply e ≡ Some r) → IfOk result Owes
   refused_drill e (Err x) refused seen_two leaves reply = reply
   refused_drill error.DiskFault (Ok r) refused seen_two leaves reply = absurd (cc)
@@ -155,10 +165,23 @@ module _ {D : Type 0} (g : disk.Ghosts D) (seed count : ℕ) (one two one_new tw
   told_done error.OutOfMemory r reply done = absurd (cc)
 
   pub refused_durable : {E : Type 0} (e : DrillError) (result : Result Reply E)
-      → (IsBegun {T = ℕ} (Err e) → IsTrue (g.tells one) → IsTrue (g.tells two) → AreNow g one_new two_new) → IfOk result (λ r. broken_reply e ≡ Some r)
+      → (IsBegun {T = ℕ} (Err e) → IsTrue (g.tells one) → IsTrue (g.tells two) → StaysDrilled g seed count one_new two_new) → IfOk result (λ r. broken_reply e ≡ Some r)
       → IfOk result (λ r. IsDoneOrFull r.status → IsTrue (g.tells one) → IsTrue (g.tells two) → AreDurable g one_new two_new)
   refused_durable e (Err x) now reply = reply
-  refused_durable e (Ok r) now reply = λ done told told_too. durable (now (told_done e r reply done) told told_too)
+  refused_durable e (Ok r) now reply = λ done told told_too. durable (now (told_done e r reply done) told told_too).durable
+
+  -- what the drill has made is a store that it has begun
+  stays_begun : DrillsAreSound → StaysDrilled g seed count one_new two_new → AreDurable g one_new two_new × HoldsBegun (DrillsBy seed count) (g.seen one_new) (g.seen two_new)
+  stays_begun law stays = (durable stays.durable, begun_by law seed count (g.seen one_new) (g.seen two_new) stays.held)
+
+  -- what is so of an error: nothing was written, or what was committed stays
+  abbrev Breaks : ActError → Type 0
+  Breaks x = IsTrue (g.tells one) → IsTrue (g.tells two) → LeavesUnwritten g one two one_new two_new ⊎ StaysBegun g (DrillsBy seed count) one_new two_new (ended_by x)
+
+  -- memory ran out for the reply to a drill that came to its end
+  pub untold_leaves : DrillsAreSound → (IsTrue (g.tells one) → IsTrue (g.tells two) → StaysDrilled g seed count one_new two_new) → (result : Result Reply ActError) → IfErr result Breaks
+  untold_leaves law now (Ok r) = tt
+  untold_leaves law now (Err x) = λ told told_too. inr (λ is. stays_begun law (now told told_too))
 
   -- ---- what is left
 
@@ -177,7 +200,7 @@ module _ {D : Type 0} (g : disk.Ghosts D) (seed count : ℕ) (one two one_new tw
 
     -- a drill that wasn't begun
     pub refused_unwritten : g.may_leave one (g.seen one) → g.may_leave two (g.seen two) → g.may_leave one_new (g.seen one_new) → g.may_leave two_new (g.seen two_new)
-        → (e : DrillError) → RefusedLeaves {T = ℕ} g (Err e) one two one_new two_new → g.seen two_new ≡ g.seen two → (result : Result Reply ActError)
+        → (e : DrillError) → RefusedLeaves {T = ℕ} g seed count (Err e) one two one_new two_new → g.seen two_new ≡ g.seen two → (result : Result Reply ActError)
         → IfOk result (λ r. broken_reply e ≡ Some r) → EndsWith IsBeforeTurns result → LeavesUnwritten g one two one_new two_new
     refused_unwritten reads reads_too reads_new reads_new_too e leaves seen_too (Err act.OutOfMemory) reply ends = absurd ends
     refused_unwritten reads reads_too reads_new reads_new_too e leaves seen_too (Err act.DiskFault) reply ends = absurd ends
@@ -188,3 +211,30 @@ module _ {D : Type 0} (g : disk.Ghosts D) (seed count : ℕ) (one two one_new tw
     refused_unwritten reads reads_too reads_new reads_new_too error.AlreadyThere leaves seen_too (Ok r) reply ends =
         (images_again g counts one two one_new two_new reads reads_too reads_new reads_new_too leaves.0, leaves.1, seen_too)
     refused_unwritten reads reads_too reads_new reads_new_too error.OutOfMemory leaves seen_too (Ok r) reply ends = absurd (cc)
+
+    -- it has no reply: nothing was written, or what the drill has made stays
+    pub broken_leaves : DrillsAreSound → ((d : D) → IsTrue (g.tells d) → g.may_leave d (g.seen d)) → (g.tells one_new ≡ g.tells one) × (g.tells two_new ≡ g.tells two)
+        → (e : DrillError) (result : Result Reply ActError)
+        → (IsTrue (g.tells one) → IsTrue (g.tells two) → RefusedLeaves {T = ℕ} g seed count (Err e) one two one_new two_new)
+        → (IsTrue (g.tells one) → IsTrue (g.tells two) → g.seen two_new ≡ g.seen two)
+        → (IsBegun {T = ℕ} (Err e) → IsTrue (g.tells one) → IsTrue (g.tells two) → StaysDrilled g seed count one_new two_new)
+        → (e ≡ error.DiskFault → result ≡ Err act.DiskFault) → IfErr result Breaks
+    broken_leaves law reads tells e (Ok r) leaves seen_too now fault = tt
+    broken_leaves law reads tells error.DiskFault (Err x) leaves seen_too now fault =
+        λ told told_too. inr (λ is. absurd (fault_no_memory (sym (ap ended_by (error_is x act.DiskFault (fault refl))) ∙ is)))
+    broken_leaves law reads tells (error.Damaged disk at found) (Err x) leaves seen_too now fault =
+        λ told told_too. let l = leaves told told_too in inl (l.0, l.1, seen_too told told_too)
+    broken_leaves law reads tells (error.Full what many limit) (Err x) leaves seen_too now fault =
+        λ told told_too. inr (λ is. stays_begun law (now tt told told_too))
+    broken_leaves law reads tells error.AlreadyThere (Err x) leaves seen_too now fault =
+        λ told told_too.
+        let l = leaves told told_too in
+        let told_new = subst (λ (b : Bool). IsTrue b) (sym tells.0) told in
+        let told_new_too = subst (λ (b : Bool). IsTrue b) (sym tells.1) told_too in
+        inl (
+          images_again g counts one two one_new two_new (reads one told) (reads two told_too) (reads one_new told_new) (reads two_new told_new_too) l.0,
+          l.1,
+          seen_too told told_too,
+        )
+    broken_leaves law reads tells error.OutOfMemory (Err x) leaves seen_too now fault =
+        λ told told_too. ⊎_elim (λ none. inl (none.0, none.1, seen_too told told_too)) (λ stays. inr (λ is. stays_begun law stays)) (leaves told told_too)

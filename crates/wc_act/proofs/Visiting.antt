@@ -9,6 +9,7 @@ use Rattle.wc_store.specs.Stores.{StandsFor, IsOfImages, HasImages, LeadsTo, Pac
 use Rattle.wc_store.specs.declared.place.Place.{Place}
 use Rattle.wc_store.specs.declared.place.Place.TheVariants.{One, Two}
 use Rattle.wc_store.specs.declared.store.Store.{Store}
+use Rattle.wc_store.proofs.Opened.{of_seen}
 use Rattle.wc_act.specs.Owed.{Visit, visit, OfVisit}
 use Rattle.wc_act.specs.StoreDeeds.{Images, HasJournal, GoesOn}
 
@@ -131,11 +132,11 @@ module _ {D : Type 0} (g : disk.Ghosts D) where
         ((images.0, images.1), (packed.one_new, packed.two_new), record { was = images.2; is = packed.are; still = packed.still; written = packed.written })
 
     -- a store was made
-    pub are_of_new : (store : Store) → Told (IsHeld (g.seen one) (g.seen two) nothing) → OfImages g one two (IsMadeOf store)
-        → Told (StandsFor g store one_new two_new) → g.seen two_new ≡ g.seen two → OfVisit (visit g one two one_new two_new) (AreOfNew store)
-    are_of_new store bare images stands same =
+    pub are_of_new : (store : Store) → OfImages g one two (IsMadeOf store) → Told (StandsFor g store one_new two_new) → g.seen two_new ≡ g.seen two
+        → OfVisit (visit g one two one_new two_new) (AreOfNew store)
+    are_of_new store images stands same =
         by_seen (visit g one two one_new two_new) (AreOfNew store)
-        (λ told told_too. record { bare = bare told told_too; is = seen_images store one_new two_new (stands told told_too); rest = same })
+        (λ told told_too. record { bare = (of_seen g one two (IsMadeOf store) images told told_too).0; is = seen_images store one_new two_new (stands told told_too); rest = same })
         ((images.first, images.second), (images.are.1.0, images.second), record { bare = images.are.0; is = images.are.1.1; rest = refl })
 
     -- the disks are as they were

@@ -22,14 +22,20 @@ use Rattle.wc_plan.specs.declared.deed.Work.TheVariants as work
 use Rattle.wc_plan.specs.declared.status.Status.{Status}
 use Rattle.wc_plan.specs.declared.status.Status.TheVariants as status
 use Rattle.wc_plan.specs.Plans.{Plans}
-use Rattle.wc_act.specs.Crashes.{AreDurable, EachPair}
+use Rattle.wc_act.specs.Crashes.{AreDurable, EachPair, HoldsBegun}
 use Rattle.wc_act.specs.Exchanges.{Exchange}
+use Rattle.wc_act.specs.Rows.{begin_row}
 use Rattle.wc_act.specs.StoreDeeds.{HasJournal, Hold}
 use Rattle.wc_act.specs.Undone.{LeavesUnwritten}
 
 -- where memory ran out, what was committed stays: nothing is pending on either disk
 abbrev pub StaysDurable : {D : Type 0} → disk.Ghosts D → (one two : D) → Status → Type 0
 StaysDurable g one two s = s ≡ status.OutOfMemory → AreDurable g one two
+
+-- where memory ran out once a store was begun, what was committed stays: nothing is pending on either disk, and they read as a world with which the deed
+-- begins, by its journal
+abbrev pub StaysBegun : {D : Type 0} → disk.Ghosts D → (begins : World → Journal → Type 0) → (one two : D) → Status → Type 0
+StaysBegun g begins one two s = s ≡ status.OutOfMemory → AreDurable g one two × HoldsBegun begins (g.seen one) (g.seen two)
 
 -- What a run that has no reply made of a world. It went like this, with this transport and this clock: a disk failed, or none did and memory ran out, in the
 -- run or for its reply. Where memory ran out the disks read as the world that it came to, by its journal. Exit codes come from results that were given; where
@@ -51,9 +57,9 @@ abbrev pub WorkAborts : {D : Type 0} → disk.Ghosts D → Exchange → Work →
 WorkAborts g e (work.Run o) w one two s = BreaksOutside g e o w one two s
 WorkAborts g e _ w one two s = Unit {0}
 
--- what a deed on a store leaves that has come to the disks, on which it found a world
+-- what a deed leaves that has come to the disks: where it begins a store, that stays; where it is work on a store, it found a world
 abbrev pub DeedAborts : {D : Type 0} → disk.Ghosts D → Exchange → Deed → (one two one_new two_new : D) → Status → Type 0
-DeedAborts g e (deed.Begin b) one two one_new two_new s = Unit {0}
+DeedAborts g e (deed.Begin b) one two one_new two_new s = StaysBegun g (begin_row b).begins one_new two_new s
 DeedAborts g e (deed.Work k) one two one_new two_new s =
     StaysDurable g one_new two_new s × ((w : World) × Hold (g.seen one, g.seen two) (a_world w) × WorkAborts g e k w one_new two_new s)
 

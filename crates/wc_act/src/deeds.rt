@@ -1,6 +1,6 @@
 //! What a deed does with two disks, a transport and a clock. No shelf is in scope.
 
-ghost use Rattle.std.specs.Prelude.{◌≡◌, true, IsTrue, IfErr, IfOk};
+ghost use Rattle.std.specs.Prelude.{◌≡◌, ◌⊎◌, true, IsTrue, IfErr, IfOk};
 ghost use Rattle.wc_store.specs.Stores.{HasImages, StandsFor};
 ghost use Rattle.wc_act.specs.Counts.{CountsDisks};
 ghost use Rattle.wc_act.specs.Crashes.{AreDurable, HoldsKeeping, LeavesKept, LeavesPairs};
@@ -121,8 +121,8 @@ pub fn act<D: Disk, T: Transport, P: Pacer>(
     ensures durable { IfOk result (λ r. IsDoneOrFull r.status → IsTrue (D.tells one.old) → IsTrue (D.tells two.old) → AreDurable D.Disk one.new two.new) }
     ensures tells { (D.tells one.new ≡ D.tells one.old) × (D.tells two.new ≡ D.tells two.old) }
     ensures undone { EndsWith (row deed).undone result → IsTrue (D.tells one.old) → IsTrue (D.tells two.old) → LeavesUnwritten D.Disk one.old two.old one.new two.new }
-    ensures idle { IsIdle deed → (transport.new ≡ transport.old) × (pacer.new ≡ pacer.old) }
-    ensures unbegun { EndsWith IsBeforeTurns result → (transport.new ≡ transport.old) × (pacer.new ≡ pacer.old) }
+    // The transport and the clock are as they were for a deed that takes no turns, and where it ends before the first one.
+    ensures still { IsIdle deed ⊎ EndsWith IsBeforeTurns result → (transport.new ≡ transport.old) × (pacer.new ≡ pacer.old) }
     ensures asked { AsksByTurns T.Transport deed transport.old transport.new }
     ensures outside { IfOk result (λ r. IsDoneOrFull r.status → IsTrue (D.tells one.old) → IsTrue (D.tells two.old)
         → ActsOutside (exchange T.Transport P.Pacer transport.old transport.new pacer.old pacer.new) deed (D.seen one.old, D.seen two.old) (D.seen one.new, D.seen two.new) r.status) }

@@ -1,14 +1,15 @@
 //! How a drill is made, and what is told of it.
 
-ghost use Rattle.std.specs.Prelude.{◌≡◌, ◌≤◌, ◌↔◌, Some, IsTrue, IsErrOf, IfOk};
+ghost use Rattle.std.specs.Prelude.{◌≡◌, ◌≤◌, ◌⊎◌, ◌↔◌, Some, IsTrue, IsErrOf, IfErr, IfOk};
 ghost use Rattle.wc_drill.specs.Drilled.{DrillsBy};
+ghost use Rattle.wc_act.specs.Aborted.{StaysBegun};
 ghost use Rattle.wc_act.specs.Counts.{CountsDisks};
 ghost use Rattle.wc_act.specs.Crashes.{AreDurable, LeavesKept};
 ghost use Rattle.wc_act.specs.Drills.{broken_reply};
 ghost use Rattle.wc_act.specs.Owed.{visit, OwedDeed};
 ghost use Rattle.wc_act.specs.Statuses.{IsDoneOrFull};
 ghost use Rattle.wc_act.specs.Rows.{MakesNothing};
-ghost use Rattle.wc_act.specs.Undone.{EndsWith, IsBeforeTurns, LeavesUnwritten};
+ghost use Rattle.wc_act.specs.Undone.{EndsWith, IsBeforeTurns, LeavesUnwritten, ended_by};
 ghost use Rattle.wc_plan.specs.declared.deed.Begin.TheVariants.{Drill};
 ghost use Rattle.wc_plan.specs.declared.deed.Deed.TheVariants.{Begin};
 
@@ -47,6 +48,8 @@ pub(crate) fn drill_reply<D: Disk>(
     ensures durable { IfOk result (λ r. IsDoneOrFull r.status → IsTrue (D.tells one.old) → IsTrue (D.tells two.old) → AreDurable D.Disk one.new two.new) }
     ensures tells { (D.tells one.new ≡ D.tells one.old) × (D.tells two.new ≡ D.tells two.old) }
     ensures unwritten { EndsWith IsBeforeTurns result → IsTrue (D.tells one.old) → IsTrue (D.tells two.old) → LeavesUnwritten D.Disk one.old two.old one.new two.new }
+    ensures broken { IfErr result (λ e. IsTrue (D.tells one.old) → IsTrue (D.tells two.old)
+        → LeavesUnwritten D.Disk one.old two.old one.new two.new ⊎ StaysBegun D.Disk (DrillsBy seed count) one.new two.new (ended_by e)) }
     ensures cause { CountsDisks result (D.faults one.old) (D.faults one.new) (D.faults two.old) (D.faults two.new) (D.failed one.new) (D.failed two.new) }
 {
     drills_are_sound();

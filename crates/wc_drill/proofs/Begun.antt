@@ -9,19 +9,20 @@ use Rattle.wc_disk.proofs.Runs.{no_call, both_runs, weaker_run}
 use Rattle.wc_journal.specs.declared.journal.Journal.{Journal}
 use Rattle.wc_world.specs.World.{World, empty}
 use Rattle.wc_store.specs.Stepped.{HoldsSome, LeavesHeld}
-use Rattle.wc_store.specs.Held.{IsHeld, Standing, nothing, a_world}
-use Rattle.wc_store.specs.Refusals.{RefusesInit, IsDamageOf}
+use Rattle.wc_store.specs.Held.{IsHeld, nothing, a_world}
+use Rattle.wc_store.specs.Refusals.{RefusesInit}
 use Rattle.wc_store.specs.Refusals.{Counts as CountsStore, IsUnchanged as IsUnchangedStore}
 use Rattle.wc_store.specs.declared.store.Store.{Store}
 use Rattle.wc_store.specs.Sights.{OfImages}
-use Rattle.wc_store.specs.Stores.{AreImages, BeginsFrom, HoldsAWorld, HoldsBy, InitLeaves, InOnePart, InTwoParts, IsMadeOf}
+use Rattle.wc_store.specs.Stores.{AreImages, BeginsFrom, HoldsBy, InitLeaves, InOnePart, InTwoParts, IsMadeOf}
 use Rattle.wc_store.specs.declared.error.StoreError.{StoreError}
 use Rattle.wc_store.specs.declared.error.StoreError.TheVariants as store_error
 use Rattle.wc_store.specs.declared.place.Place.TheVariants.{One}
+use Rattle.wc_store.proofs.Opened.{of_seen}
 use Rattle.wc_drill.specs.declared.error.DrillError.{DrillError}
 use Rattle.wc_drill.specs.declared.error.DrillError.TheVariants as drill
 use Rattle.wc_drill.specs.Drilled.{Drills, DrillsBy}
-use Rattle.wc_drill.specs.Leaves.{AreDurable, IsHeldAfter, DrilledBeside, HoldsOnOne, IsBegun, IsFilled, IsOfDrill, IsUnfailed, RefusedLeaves}
+use Rattle.wc_drill.specs.Leaves.{AreDurable, IsHeldAfter, DrilledBeside, HoldsOnOne, IsBegun, IsFilled, IsOfDrill, IsUnfailed, RefusedLeaves, StaysDrilled}
 use Rattle.wc_drill.specs.Refusals.{Counts, IsOfInit, RefusesDrill, RefusesDrilled, of_init}
 use Rattle.wc_drill.proofs.Fitting.{empty_fits}
 use Rattle.wc_drill.proofs.Joined.{of_some}
@@ -122,15 +123,30 @@ module _ {D : Type 0} (g : disk.Ghosts D) (at_now : (d : D) (image : List ℕ) �
           held = inr (h.0, h.1, h.2, subst (λ (rest : List ℕ). HoldsBy One a rest h.0 h.1) (sym (rest_is b now)) h.3);
         }))
 
+-- a store was made where the disks read as images that hold nothing
+pub held_nothing : {D : Type 0} (g : disk.Ghosts D) (one two : D) (store : Store) → OfImages g one two (IsMadeOf store) → IsTrue (g.tells one) → IsTrue (g.tells two)
+    → IsHeld (g.seen one) (g.seen two) nothing
+held_nothing g one two store images told told_too = (of_seen g one two (IsMadeOf store) images told told_too).0
+
+-- what the drill leaves in the end is what the disks read as, where nothing is pending
+pub stays : {D : Type 0} (g : disk.Ghosts D) (seed count : ℕ) (one_mid two_mid one_new two_new : D)
+    → ((d : D) (t : ℕ) (image : List ℕ) → t ≤ g.moment d → g.may_leave d image → g.left_since d t image) → g.may_leave one_new (g.seen one_new)
+    → LeavesHeld g One (DrillsBy seed count) one_mid two_mid one_new two_new → AreDurable g one_new two_new → StaysDrilled g seed count one_new two_new
+stays g seed count one_mid two_mid one_new two_new counts reads leaves durable = record {
+  durable = durable;
+  held = subst (λ (rest : List ℕ). HoldsSome One (DrillsBy seed count) rest (g.seen one_new)) (ap g.seen (sym leaves.untouched))
+      (leaves.each.each (g.seen one_new) (counts one_new (g.moment one_mid) (g.seen one_new) leaves.each.later reads));
+}
+
 -- ---- refusals
 
 -- why no store is made
-pub of_init_alone : (told : Type 0) (held : Standing → Type 0) (e : StoreError) → RefusesInit told held e → IsOfInit e
-of_init_alone told held store_error.DiskFault h = tt
-of_init_alone told held (store_error.Damaged disk at found) h = tt
-of_init_alone told held (store_error.Full what most limit) h = h
-of_init_alone told held store_error.AlreadyThere h = tt
-of_init_alone told held store_error.OutOfMemory h = tt
+pub of_init_alone : {D : Type 0} (g : disk.Ghosts D) (one two : D) (e : StoreError) → RefusesInit g one two e → IsOfInit e
+of_init_alone g one two store_error.DiskFault h = tt
+of_init_alone g one two (store_error.Damaged disk at found) h = tt
+of_init_alone g one two (store_error.Full what most limit) h = h
+of_init_alone g one two store_error.AlreadyThere h = tt
+of_init_alone g one two store_error.OutOfMemory h = tt
 
 -- then none was begun
 pub not_begun : (A : Type 0) (e : StoreError) → IsBegun {T = A} (Err (of_init e)) → ⊥
@@ -201,16 +217,15 @@ module _ {D : Type 0} (g : disk.Ghosts D) (seed count : ℕ) (one two one_mid tw
       }
 
 module _ {D : Type 0} (g : disk.Ghosts D) (seed count : ℕ) (one two one_new two_new : D) where
-  pub init_refused : (e : StoreError) → IsDamageOf g one two e → (e ≡ store_error.AlreadyThere → OfImages g one two HoldsAWorld)
-      → RefusesDrill g seed count one two one_new two_new (of_init e)
-  init_refused store_error.DiskFault is there = tt
-  init_refused (store_error.Damaged disk at found) is there = is
-  init_refused (store_error.Full what most limit) is there = tt
-  init_refused store_error.AlreadyThere is there = there refl
-  init_refused store_error.OutOfMemory is there = tt
+  pub init_refused : (e : StoreError) → RefusesInit g one two e → RefusesDrill g seed count one two one_new two_new (of_init e)
+  init_refused store_error.DiskFault h = tt
+  init_refused (store_error.Damaged disk at found) h = h
+  init_refused (store_error.Full what most limit) h = tt
+  init_refused store_error.AlreadyThere h = h
+  init_refused store_error.OutOfMemory h = tt
 
   pub init_unbegun : (A : Type 0) (e : StoreError) → InitLeaves g (Err e) one two one_new two_new
-      → IsUnchangedStore {T = Store} (Err e) (g.seen one) (g.seen one_new) → RefusedLeaves {T = A} g (Err (of_init e)) one two one_new two_new
+      → IsUnchangedStore {T = Store} (Err e) (g.seen one) (g.seen one_new) → RefusedLeaves {T = A} g seed count (Err (of_init e)) one two one_new two_new
   init_unbegun A store_error.DiskFault leaves same = tt
   init_unbegun A (store_error.Damaged disk at found) leaves same = (leaves, same)
   init_unbegun A (store_error.Full what most limit) leaves same = inl (leaves, same)
@@ -228,8 +243,8 @@ module _ {D : Type 0} (g : disk.Ghosts D) (seed count : ℕ) (one two one_new tw
     drilled_refused fills drill.AlreadyThere h = absurd h
     drilled_refused fills drill.OutOfMemory h = tt
 
-    pub drilled_unbegun : {A : Type 0} (result : Result A DrillError) → IfErr result (RefusesDrilled Holds seed count) → (IsUnfailed result → AreDurable g one_new two_new)
-        → RefusedLeaves g result one two one_new two_new
+    pub drilled_unbegun : {A : Type 0} (result : Result A DrillError) → IfErr result (RefusesDrilled Holds seed count) → (IsUnfailed result → StaysDrilled g seed count one_new two_new)
+        → RefusedLeaves g seed count result one two one_new two_new
     drilled_unbegun (Ok a) h durable = tt
     drilled_unbegun (Err drill.DiskFault) h durable = tt
     drilled_unbegun (Err (drill.Damaged disk at found)) h durable = absurd h
@@ -248,8 +263,8 @@ begun_unfailed (Err drill.OutOfMemory) begun = tt
 
 -- memory ran out before any disk was called
 pub lost_unbegun : {D A : Type 0} (g : disk.Ghosts D) → ((d : D) (image : List ℕ) → g.left_since d (g.moment d) image → g.may_leave d image)
-    → (one two : D) (result : Result A DrillError) → IsErrAnd result (λ e. e ≡ drill.OutOfMemory) → RefusedLeaves g result one two one two
-lost_unbegun g at_now one two (Ok a) is = absurd is
-lost_unbegun {D} {A} g at_now one two (Err e) is =
-    subst (λ (x : DrillError). RefusedLeaves {T = A} g (Err x) one two one two) (sym is)
+    → (seed count : ℕ) (one two : D) (result : Result A DrillError) → IsErrAnd result (λ e. e ≡ drill.OutOfMemory) → RefusedLeaves g seed count result one two one two
+lost_unbegun g at_now seed count one two (Ok a) is = absurd is
+lost_unbegun {D} {A} g at_now seed count one two (Err e) is =
+    subst (λ (x : DrillError). RefusedLeaves {T = A} g seed count (Err x) one two one two) (sym is)
     (inl (record { only_one = no_call g one (g.may_leave one) (at_now one); only_two = no_call g two (g.may_leave two) (at_now two) }, refl))

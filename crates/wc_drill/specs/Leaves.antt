@@ -8,6 +8,7 @@ use Rattle.wc_world.specs.World.{World}
 use Rattle.wc_store.specs.Choices.{chosen, on}
 use Rattle.wc_store.specs.Held.{IsHeld, nothing, a_world}
 use Rattle.wc_store.specs.Places.{number_of}
+use Rattle.wc_store.specs.Stepped.{HoldsSome}
 use Rattle.wc_store.specs.Stores.{InOnePart, InTwoParts, AreImages, HoldsBy, IsOfImages}
 use Rattle.wc_store.specs.declared.place.Place.TheVariants.{One}
 use Rattle.wc_store.specs.declared.store.Store.{Store}
@@ -30,6 +31,11 @@ DrilledBeside g seed count one two two_new image =
 pub record AreDurable {D : Type 0} (g : disk.Ghosts D) (one two : D) : Type 0 where
   pub durable_one : Only (g.seen one) (g.may_leave one)
   pub durable_two : Only (g.seen two) (g.may_leave two)
+
+-- Nothing is pending on either disk, and what they read as holds what the drill has made, by its journal on disk one.
+pub record StaysDrilled {D : Type 0} (g : disk.Ghosts D) (seed count : ℕ) (one two : D) : Type 0 where
+  pub durable : AreDurable g one two
+  pub held : HoldsSome One (DrillsBy seed count) (g.seen two) (g.seen one)
 
 -- The store is on disk one, and kept by a journal of generation 1 and version 2.
 abbrev pub IsOnDiskOne : Store → Type 0
@@ -76,9 +82,11 @@ IsUnfailed (Err DiskFault) = ⊥
 IsUnfailed _ = Unit {0}
 
 -- what a drill leaves that wasn't begun, since there is a store, or damage; and where memory ran out: nothing was written, or what was committed stays,
--- nothing being pending on either disk
-abbrev pub RefusedLeaves : {D T : Type 0} → disk.Ghosts D → Result T DrillError → (one two one_new two_new : D) → Type 0
-RefusedLeaves g (Err (Damaged number at found)) one two one_new two_new = InOnePart g one two one_new two_new × (g.seen one_new ≡ g.seen one)
-RefusedLeaves g (Err AlreadyThere) one two one_new two_new = InTwoParts g one two one_new two_new (AreImages (g.seen one) (g.seen two)) × (g.seen one_new ≡ g.seen one)
-RefusedLeaves g (Err OutOfMemory) one two one_new two_new = (InOnePart g one two one_new two_new × (g.seen one_new ≡ g.seen one)) ⊎ AreDurable g one_new two_new
-RefusedLeaves g _ one two one_new two_new = Unit {0}
+-- nothing being pending on either disk, which hold what the drill has made
+abbrev pub RefusedLeaves : {D T : Type 0} → disk.Ghosts D → (seed count : ℕ) → Result T DrillError → (one two one_new two_new : D) → Type 0
+RefusedLeaves g seed count (Err (Damaged number at found)) one two one_new two_new = InOnePart g one two one_new two_new × (g.seen one_new ≡ g.seen one)
+RefusedLeaves g seed count (Err AlreadyThere) one two one_new two_new =
+    InTwoParts g one two one_new two_new (AreImages (g.seen one) (g.seen two)) × (g.seen one_new ≡ g.seen one)
+RefusedLeaves g seed count (Err OutOfMemory) one two one_new two_new =
+    (InOnePart g one two one_new two_new × (g.seen one_new ≡ g.seen one)) ⊎ StaysDrilled g seed count one_new two_new
+RefusedLeaves g seed count _ one two one_new two_new = Unit {0}

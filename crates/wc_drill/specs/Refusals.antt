@@ -4,9 +4,8 @@ use Rattle.wc_io.specs.Counts.{EitherFailedLast}
 use Rattle.wc_disk.specs.declared.disk.Disk as disk
 use Rattle.wc_journal.specs.declared.journal.Journal.{Journal}
 use Rattle.wc_world.specs.World.{World, empty}
-use Rattle.wc_store.specs.Held.{IsHeld, damage}
+use Rattle.wc_store.specs.Held.{IsHeld, HoldsAWorld, damage}
 use Rattle.wc_store.specs.Sights.{OfImages}
-use Rattle.wc_store.specs.Stores.{HoldsAWorld}
 use Rattle.wc_store.specs.declared.store.Store.{Store}
 use Rattle.wc_store.specs.declared.error.StoreError.{StoreError}
 use Rattle.wc_store.specs.declared.error.StoreError.TheVariants as store_error

@@ -12,7 +12,7 @@ ghost use Rattle.wc_ends.specs.Runner.Refusals.{RefusesRun, is_live_after};
 ghost use Rattle.wc_drill.specs.Library.{library};
 ghost use Rattle.wc_drill.specs.Squares.{square_rows};
 ghost use Rattle.wc_drill.specs.Drilled.{DrillsBy, HasDrilled, Submitted, outside, turns_of};
-ghost use Rattle.wc_drill.specs.Leaves.{AreDurable, DrilledBeside, IsBegun, IsFilled, IsHeldAfter, IsUnfailed, RefusedLeaves};
+ghost use Rattle.wc_drill.specs.Leaves.{AreDurable, DrilledBeside, IsBegun, IsFilled, IsHeldAfter, IsUnfailed, RefusedLeaves, StaysDrilled};
 ghost use Rattle.wc_drill.specs.Refusals.{Counts, IsOfInit, RefusesDrill, RefusesDrilled, of_init};
 ghost use Rattle.wc_drill.specs.Runs.{EndsAll, TakesFewer, TakesSome};
 
@@ -123,10 +123,10 @@ pub fn drill<D: Disk>(
     // turn of a ready process, is refused so, by the journal that keeps it: of nodes, else of batches, else of bytes. No other answer is there: the
     // seventeen turns of each chain are enough, so its run ends every process, or breaks off.
     ensures refused { IfErr result (RefusesDrill D.Disk seed count one.old two.old one.new two.new) }
-    // Where a store was made and no disk failed, nothing is pending on either disk.
-    ensures durable { IsBegun result → IsTrue (D.tells one.old) → IsTrue (D.tells two.old) → AreDurable D.Disk one.new two.new }
+    // Where a store was made and no disk failed, nothing is pending on either disk, and they read as what the drill has made.
+    ensures durable { IsBegun result → IsTrue (D.tells one.old) → IsTrue (D.tells two.old) → StaysDrilled D.Disk seed count one.new two.new }
     // A drill that wasn't begun wrote nothing; and where memory ran out, nothing was written, or what was committed stays.
-    ensures unbegun { IsTrue (D.tells one.old) → IsTrue (D.tells two.old) → RefusedLeaves D.Disk result one.old two.old one.new two.new }
+    ensures unbegun { IsTrue (D.tells one.old) → IsTrue (D.tells two.old) → RefusedLeaves D.Disk seed count result one.old two.old one.new two.new }
     // Disk two reads as before.
     ensures seen_two { IsTrue (D.tells one.old) → IsTrue (D.tells two.old) → D.seen two.new ≡ D.seen two.old }
     // Disk two is not written, and each image of disk one is one that a crash at entry might have left, or holds what the drill makes, by its journal.

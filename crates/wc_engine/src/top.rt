@@ -159,7 +159,7 @@ pub fn serve<R: Shelf, W: Sink, D: Disk, T: Transport, P: Pacer>(
     // Resting: no process is live then, or the store would be too full, memory ran out, or the shelf, a disk or the sink failed.
     ensures enough { HasEnoughToRun D.Disk T.Transport P.Pacer (R.contents shelf.old) words.now one.old two.old transport.old pacer.old → EndsOrBreaks (D.seen one.new, D.seen two.new) result }
     // Nothing was written on a disk then, and the transport and the clock are as they were; or a deed that the words plan has come to the disks. Then nothing is
-    // pending on them, unless it begins a store. If it is a `run`, they read as the world to which turns and rests led from the one at entry, with this transport and this clock and in the
+    // pending on them. If it begins a store, as `drill` does, they read as a sound world with which it begins, by its journal. If it is a `run`, they read as the world to which turns and rests led from the one at entry, with this transport and this clock and in the
     // order of the seed, whether memory ran out in the run or for its reply; exit codes, marks and directories are as `outside` says.
     ensures memory { result ≡ Status.OutOfMemory → (W.taken sink.new ≡ W.taken sink.old)
         × (IsTrue (D.tells one.old) → IsTrue (D.tells two.old) → ServesAborted D.Disk (R.contents shelf.old) words.now

@@ -15,10 +15,10 @@ use Rattle.wc_store.specs.declared.place.Place.TheVariants.{One}
 use Rattle.wc_store.specs.declared.store.Store.{Store}
 use Rattle.wc_store.specs.Places.{number_of, its}
 use Rattle.wc_store.specs.Choices.{Choice, no_store, broken, on, is_nil, found_at, without_journal, settled_on, chosen_of, chosen, journal_in}
-use Rattle.wc_store.specs.Held.{a_world, nothing, PlaysChoice, IsHeld}
+use Rattle.wc_store.specs.Held.{a_world, nothing, HoldsAWorld, PlaysChoice, IsHeld}
 use Rattle.wc_store.specs.Opened.{Opens, IsOpenedOf}
 use Rattle.wc_store.specs.Sights.{OfImages}
-use Rattle.wc_store.specs.Stores.{StandsFor, HoldsAWorld, IsLoadedOf, InTwoParts, BeginsFrom, HoldsBy, IsFirst}
+use Rattle.wc_store.specs.Stores.{StandsFor, IsLoadedOf, InTwoParts, BeginsFrom, HoldsBy, IsFirst}
 use Rattle.wc_store.proofs.Chosen.{IsBefore, keeps_chosen}
 use Rattle.wc_store.proofs.Commits.{holds_by}
 use Rattle.wc_store.proofs.Looking.{bare_shown}

@@ -1,5 +1,5 @@
 -- What is opened of two disks.
-use Rattle.std.proofs.Common.{◌≡◌, ℕ, true, false, List, Option, Some, None, refl, sym, ap, subst, ◌∙◌}
+use Rattle.std.proofs.Common.{◌≡◌, ℕ, false, List, Option, Some, None, refl, sym, ap, subst, ◌∙◌}
 use Rattle.std.specs.Prelude.{IsTrue, is_some}
 use Rattle.wc_disk.specs.declared.disk.Disk as disk
 use Rattle.wc_disk.specs.Steps.{Only}
@@ -21,7 +21,7 @@ use Rattle.wc_store.specs.Played.{AreCounted, Makes, RefusesPlaying}
 use Rattle.wc_store.specs.Opened.{Opens, IsOpenedOf}
 use Rattle.wc_store.specs.Sights.{IsOn, OfImages}
 use Rattle.wc_store.specs.Stores.{StandsFor, IsOfImages}
-use Rattle.wc_store.specs.Refusals.{RefusesFinding, RefusesLoad, IsDamageOf}
+use Rattle.wc_store.specs.Refusals.{RefusesFinding, RefusesLoad}
 use Rattle.wc_store.proofs.Addressed.{addressed}
 
 module _ (one two : List ℕ) where
@@ -53,19 +53,19 @@ module _ {D : Type 0} (g : disk.Ghosts D) (one two : D) where
   of_seen P o told told_too = subst (λ (b : List ℕ). P (g.seen one) b) (o.told_two told_too) (subst (λ (a : List ℕ). P a o.second) (o.told_one told) o.are)
 
   -- ---- refusals
-  pub finding_damage : (e : StoreError) → RefusesFinding g one two e → IsDamageOf g one two e
-  finding_damage DiskFault refused = tt
-  finding_damage (Damaged number at found) refused =
+  pub finding_refused : (e : StoreError) → RefusesFinding g one two e → RefusesLoad g one two e
+  finding_refused DiskFault refused = tt
+  finding_refused (Damaged number at found) refused =
       images_as (λ a b. chosen a b ≡ broken number at found) (λ a b. IsHeld a b (damage number at found))
       (λ a b is. held_by a b (broken number at found) (damage number at found) is refl) refused
-  finding_damage (Full what count limit) refused = tt
-  finding_damage AlreadyThere refused = tt
-  finding_damage OutOfMemory refused = tt
+  finding_refused (Full what count limit) refused = refused
+  finding_refused AlreadyThere refused = refused
+  finding_refused OutOfMemory refused = tt
 
-  pub playing_damage : (place : Place) (loaded : Loaded) → OfImages g one two (λ a b. IsOn (chosen a b) (its place a b) place loaded) → (e : StoreError)
-      → RefusesPlaying (number_of place) loaded.batches.image loaded.journal.generation loaded.batches.placed e → IsDamageOf g one two e
-  playing_damage place loaded finds DiskFault refused = tt
-  playing_damage place loaded finds (Damaged number at found) refused =
+  pub playing_refused : (place : Place) (loaded : Loaded) → OfImages g one two (λ a b. IsOn (chosen a b) (its place a b) place loaded) → (e : StoreError)
+      → RefusesPlaying (number_of place) loaded.batches.image loaded.journal.generation loaded.batches.placed e → RefusesLoad g one two e
+  playing_refused place loaded finds DiskFault refused = absurd refused
+  playing_refused place loaded finds (Damaged number at found) refused =
       images_as (λ a b. IsOn (chosen a b) (its place a b) place loaded) (λ a b. IsHeld a b (damage number at found))
       (λ a b is.
       let counted : AreCounted loaded.batches.image loaded.batches.placed
@@ -73,45 +73,9 @@ module _ {D : Type 0} (g : disk.Ghosts D) (one two : D) where
       played a b place loaded.journal.version loaded.journal.generation loaded.batches.placed (damage number at found) is.chosen
       (subst (λ (image : List ℕ). Plays (number_of place) image loaded.journal.generation 0 empty loaded.batches.placed (damage number at found)) is.kept (refused counted)))
       finds
-  playing_damage place loaded finds (Full what count limit) refused = tt
-  playing_damage place loaded finds AlreadyThere refused = tt
-  playing_damage place loaded finds OutOfMemory refused = tt
-
-  abbrev IsOfReading : StoreError → Type 0
-  IsOfReading DiskFault = Unit {0}
-  IsOfReading (Damaged number at found) = Unit {0}
-  IsOfReading (Full what count limit) = ⊥
-  IsOfReading AlreadyThere = ⊥
-  IsOfReading OutOfMemory = Unit {0}
-
-  load_refused : (e : StoreError) → IsOfReading e → IsDamageOf g one two e → RefusesLoad (IsTrue (g.tells one) × IsTrue (g.tells two)) (IsHeld (g.seen one) (g.seen two)) e
-  load_refused DiskFault reading is = tt
-  load_refused (Damaged number at found) reading is = λ told. of_seen (λ a b. IsHeld a b (damage number at found)) is told.0 told.1
-  load_refused (Full what count limit) reading is = reading
-  load_refused AlreadyThere reading is = reading
-  load_refused OutOfMemory reading is = tt
-
-  pub finding_refused : (e : StoreError) → RefusesFinding g one two e → RefusesLoad (IsTrue (g.tells one) × IsTrue (g.tells two)) (IsHeld (g.seen one) (g.seen two)) e
-  finding_refused e refused = load_refused e (of_reading e refused) (finding_damage e refused)
-    where
-      of_reading : (e : StoreError) → RefusesFinding g one two e → IsOfReading e
-      of_reading DiskFault refused = tt
-      of_reading (Damaged number at found) refused = tt
-      of_reading (Full what count limit) refused = refused
-      of_reading AlreadyThere refused = refused
-      of_reading OutOfMemory refused = tt
-
-  pub playing_refused : (place : Place) (loaded : Loaded) → OfImages g one two (λ a b. IsOn (chosen a b) (its place a b) place loaded) → (e : StoreError)
-      → RefusesPlaying (number_of place) loaded.batches.image loaded.journal.generation loaded.batches.placed e
-      → RefusesLoad (IsTrue (g.tells one) × IsTrue (g.tells two)) (IsHeld (g.seen one) (g.seen two)) e
-  playing_refused place loaded finds e refused = load_refused e (of_reading e refused) (playing_damage place loaded finds e refused)
-    where
-      of_reading : (e : StoreError) → RefusesPlaying (number_of place) loaded.batches.image loaded.journal.generation loaded.batches.placed e → IsOfReading e
-      of_reading DiskFault refused = absurd refused
-      of_reading (Damaged number at found) refused = tt
-      of_reading (Full what count limit) refused = refused
-      of_reading AlreadyThere refused = refused
-      of_reading OutOfMemory refused = tt
+  playing_refused place loaded finds (Full what count limit) refused = refused
+  playing_refused place loaded finds AlreadyThere refused = refused
+  playing_refused place loaded finds OutOfMemory refused = tt
 
   -- ---- a store
   pub opened_of : (store : Store) (loaded : Loaded) → OfImages g one two (λ a b. IsOn (chosen a b) (its store.place a b) store.place loaded) → store.journal ≡ loaded.journal
@@ -166,13 +130,3 @@ module _ {D : Type 0} (g : disk.Ghosts D) where
   pub opens_none : (found : Option Store) (one two : D) → is_some found ≡ false → Opens g found one two → chosen (g.seen one) (g.seen two) ≡ no_store
   opens_none None one two none opens = opens
   opens_none (Some store) one two none opens = absurd (cc)
-
-  -- what was opened is a store, whose world is held
-  pub opens_some : (found : Option Store) (one two : D) (seen seen_too : List ℕ) → g.seen one ≡ seen → g.seen two ≡ seen_too
-      → is_some found ≡ true → Opens g found one two → (w : World) × IsHeld seen seen_too (a_world w)
-  opens_some None one two seen seen_too same same_too some opens = absurd (cc)
-  opens_some (Some store) one two seen seen_too same same_too some opens = (
-    store.world.world,
-    subst (λ (image : List ℕ). IsHeld image seen_too (a_world store.world.world)) same
-        (subst (λ (image : List ℕ). IsHeld (g.seen one) image (a_world store.world.world)) same_too opens.held),
-  )

@@ -73,3 +73,7 @@ PlaysChoice one two (on disk version generation batches) s = Plays disk (image_o
 -- The images of disk one and disk two hold this.
 abbrev pub IsHeld : List ℕ → List ℕ → Standing → Type 0
 IsHeld one two s = PlaysChoice one two (chosen one two) s
+
+-- the two images hold some world
+abbrev pub HoldsAWorld : (one two : List ℕ) → Type 0
+HoldsAWorld one two = (w : World) × IsHeld one two (a_world w)

@@ -8,7 +8,7 @@ use Rattle.wc_store.specs.Choices.{broken, chosen}
 use Rattle.wc_store.specs.Sights.{OfImages}
 use Rattle.wc_state.specs.declared.record.Limits.{Limits}
 use Rattle.wc_state.specs.declared.record.What.TheVariants as what
-use Rattle.wc_store.specs.Held.{Standing, damage, a_world, IsHeld}
+use Rattle.wc_store.specs.Held.{damage, IsHeld, HoldsAWorld}
 use Rattle.wc_journal.specs.declared.journal.Journal.{Journal}
 use Rattle.wc_journal.specs.Refusals.{size_after}
 use Rattle.wc_record.specs.Spelled.{spelled}
@@ -56,29 +56,21 @@ Counts (Err (Full what count limit)) one one' two two' failed_one failed_two = (
 Counts (Err AlreadyThere) one one' two two' failed_one failed_two = (one' ≡ one) × (two' ≡ two)
 Counts (Err OutOfMemory) one one' two two' failed_one failed_two = (one' ≡ one) × (two' ≡ two)
 
--- where the disks tell their bytes, damage is what they hold; a load is never refused for a store that is there
-abbrev pub RefusesLoad : Type 0 → (Standing → Type 0) → StoreError → Type 0
-RefusesLoad told held DiskFault = Unit {0}
-RefusesLoad told held (Damaged disk at found) = told → held (damage disk at found)
-RefusesLoad told held (Full what count limit) = ⊥
-RefusesLoad told held AlreadyThere = ⊥
-RefusesLoad told held OutOfMemory = Unit {0}
+-- damage that is told is what two images hold: those that the disks read as, where they tell their bytes; a load is never refused for a store that is there
+abbrev pub RefusesLoad : {D : Type 0} → disk.Ghosts D → (one two : D) → StoreError → Type 0
+RefusesLoad g one two DiskFault = Unit {0}
+RefusesLoad g one two (Damaged number at found) = OfImages g one two (λ a b. IsHeld a b (damage number at found))
+RefusesLoad g one two (Full what count limit) = ⊥
+RefusesLoad g one two AlreadyThere = ⊥
+RefusesLoad g one two OutOfMemory = Unit {0}
 
--- damage that is told is what two images hold: those that the disks read as, where they tell their bytes
-abbrev pub IsDamageOf : {D : Type 0} → disk.Ghosts D → (one two : D) → StoreError → Type 0
-IsDamageOf g one two DiskFault = Unit {0}
-IsDamageOf g one two (Damaged number at found) = OfImages g one two (λ a b. IsHeld a b (damage number at found))
-IsDamageOf g one two (Full what count limit) = Unit {0}
-IsDamageOf g one two AlreadyThere = Unit {0}
-IsDamageOf g one two OutOfMemory = Unit {0}
-
--- where they tell their bytes, a store that is there holds a world
-abbrev pub RefusesInit : Type 0 → (Standing → Type 0) → StoreError → Type 0
-RefusesInit told held DiskFault = Unit {0}
-RefusesInit told held (Damaged disk at found) = told → held (damage disk at found)
-RefusesInit told held (Full what count limit) = ⊥
-RefusesInit told held AlreadyThere = told → (w : World) × held (a_world w)
-RefusesInit told held OutOfMemory = Unit {0}
+-- so it is where a store is made; and one that is there is a world that two images hold, those that the disks read as, where they tell their bytes
+abbrev pub RefusesInit : {D : Type 0} → disk.Ghosts D → (one two : D) → StoreError → Type 0
+RefusesInit g one two DiskFault = Unit {0}
+RefusesInit g one two (Damaged number at found) = OfImages g one two (λ a b. IsHeld a b (damage number at found))
+RefusesInit g one two (Full what count limit) = ⊥
+RefusesInit g one two AlreadyThere = OfImages g one two HoldsAWorld
+RefusesInit g one two OutOfMemory = Unit {0}
 
 -- the bytes of a journal are limited by the settings, and in version 1 by 1,073,741,824 too
 abbrev pub byte_limit : ℕ → ℕ → ℕ

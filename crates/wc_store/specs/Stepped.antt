@@ -33,10 +33,6 @@ LeavesNow g place P one two = (image : List ℕ) → g.may_leave (its place one 
 abbrev pub of_world : (World → Type 0) → World → Journal → Type 0
 of_world P v journal = P v
 
--- the same of images, where P is known of the world alone
-abbrev pub LeavesWorlds : {D : Type 0} → disk.Ghosts D → Place → (World → Type 0) → (one two one_new two_new : D) → Type 0
-LeavesWorlds g place P one two one_new two_new = LeavesHeld g place (of_world P) one two one_new two_new
-
 -- P holds of a world by a journal that has the version and the generation of this one.
 pub record InGeneration (before : Journal) (P : World → Journal → Type 0) (v : World) (journal : Journal) : Type 0 where
   pub holds : P v journal

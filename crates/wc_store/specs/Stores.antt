@@ -134,10 +134,6 @@ PacksTo store new = (one two : List ℕ) → IsOfImages store one two → IsPack
 abbrev pub IsMadeOf : Store → (one two : List ℕ) → Type 0
 IsMadeOf store one two = IsHeld one two nothing × ((made : List ℕ) × IsOfImages store made two)
 
--- the two images hold some world
-abbrev pub HoldsAWorld : (one two : List ℕ) → Type 0
-HoldsAWorld one two = (w : World) × IsHeld one two (a_world w)
-
 -- what was loaded is what the disks hold
 abbrev pub Loads : {D : Type 0} → disk.Ghosts D → Option Store → D → D → Type 0
 Loads g None one two = IsHeld (g.seen one) (g.seen two) nothing

@@ -3,12 +3,10 @@ ghost use Rattle.std.specs.Prelude.{◌≡◌, true, IsTrue, IfNone, IfOk, IfErr
 ghost use Rattle.wc_disk.specs.Steps.{Only};
 ghost use Rattle.wc_disk.specs.Images.{LeavesOnly};
 ghost use Rattle.wc_journal.specs.Reading.{journal_of, no_journal};
-ghost use Rattle.wc_store.specs.Held.{IsHeld, nothing};
-ghost use Rattle.wc_store.specs.declared.error.StoreError.TheVariants.{AlreadyThere};
 ghost use Rattle.wc_store.specs.Opened.{Opens, IsOpenedOf};
 ghost use Rattle.wc_store.specs.Sights.{OfImages};
-ghost use Rattle.wc_store.specs.Stores.{StandsFor, HoldsAWorld, IsMadeOf, Loads, IsLoadedOf, IsNew, InTwoParts, AreImages, InitLeaves};
-ghost use Rattle.wc_store.specs.Refusals.{Counts, RefusesLoad, RefusesInit, IsDamageOf, IsUnchanged};
+ghost use Rattle.wc_store.specs.Stores.{StandsFor, IsMadeOf, Loads, IsLoadedOf, IsNew, InTwoParts, AreImages, InitLeaves};
+ghost use Rattle.wc_store.specs.Refusals.{Counts, RefusesLoad, RefusesInit, IsUnchanged};
 
 use crate::choice::find_store;
 use crate::error::StoreError;
@@ -31,8 +29,7 @@ fn open<D: Disk>(
     ensures images { IfOk result (λ found. OfImages D.Disk one.old two.old (IsOpenedOf found)) }
     ensures live { IfOk result (λ found. IfSome found (λ store. store.live ≡ true)) }
     ensures bare { IfOk result (λ found. IfNone found (IsTrue (D.tells one.old) → journal_of (D.seen one.old) ≡ no_journal)) }
-    ensures refused { IfErr result (RefusesLoad (IsTrue (D.tells one.old) × IsTrue (D.tells two.old)) (IsHeld (D.seen one.old) (D.seen two.old))) }
-    ensures damage { IfErr result (IsDamageOf D.Disk one.old two.old) }
+    ensures refused { IfErr result (RefusesLoad D.Disk one.old two.old) }
     ensures durable_one { OnOk result (Only (D.seen one.new) (D.may_leave one.new)) }
     ensures durable_two { OnOk result (Only (D.seen two.new) (D.may_leave two.new)) }
     ensures seen_one { D.seen one.new ≡ D.seen one.old }
@@ -61,11 +58,10 @@ impl Store {
     pub fn init<D: Disk>(alloc: Global, one: &mut D, two: &mut D) -> Result<Store, StoreError>
         ensures ok { IfOk result (λ store. IsTrue (D.tells one.old) → IsTrue (D.tells two.old) → StandsFor D.Disk store one.new two.new) }
         ensures made { IfOk result IsNew }
-        ensures nothing { OnOk result (IsTrue (D.tells one.old) → IsTrue (D.tells two.old) → IsHeld (D.seen one.old) (D.seen two.old) nothing) }
-        ensures refused { IfErr result (RefusesInit (IsTrue (D.tells one.old) × IsTrue (D.tells two.old)) (IsHeld (D.seen one.old) (D.seen two.old))) }
-        ensures damage { IfErr result (IsDamageOf D.Disk one.old two.old) }
+        // The disks held nothing, where they tell their bytes; and whatever two such images are, with some image of disk one they hold the store.
         ensures images { IfOk result (λ store. OfImages D.Disk one.old two.old (IsMadeOf store)) }
-        ensures there { IfErr result (λ e. e ≡ AlreadyThere → OfImages D.Disk one.old two.old HoldsAWorld) }
+        // That a store is there is told of two images that hold a world, and damage of two that hold it: those that the disks read as, where they tell their bytes.
+        ensures refused { IfErr result (RefusesInit D.Disk one.old two.old) }
         ensures kept { IsUnchanged result (D.seen one.old) (D.seen one.new) }
         ensures seen_two { D.seen two.new ≡ D.seen two.old }
         ensures any_moment_two { LeavesOnly D.Disk two.old two.new (D.may_leave two.old) }
@@ -100,8 +96,7 @@ impl Store {
         ensures ok { IfOk result (λ store. IsTrue (D.tells one.old) → IsTrue (D.tells two.old) → Loads D.Disk store one.new two.new) }
         ensures images { IfOk result (λ store. OfImages D.Disk one.old two.old (IsLoadedOf store)) }
         ensures live { IfOk result (λ store. IfSome store (λ s. s.live ≡ true)) }
-        ensures refused { IfErr result (RefusesLoad (IsTrue (D.tells one.old) × IsTrue (D.tells two.old)) (IsHeld (D.seen one.old) (D.seen two.old))) }
-        ensures damage { IfErr result (IsDamageOf D.Disk one.old two.old) }
+        ensures refused { IfErr result (RefusesLoad D.Disk one.old two.old) }
         ensures seen { (D.seen one.new ≡ D.seen one.old) × (D.seen two.new ≡ D.seen two.old) }
         ensures any_moment_one { LeavesOnly D.Disk one.old one.new (D.may_leave one.old) }
         ensures any_moment_two { LeavesOnly D.Disk two.old two.new (D.may_leave two.old) }

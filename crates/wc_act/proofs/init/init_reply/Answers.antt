@@ -3,7 +3,6 @@ use Rattle.wc_store.specs.declared.error.StoreError.{StoreError}
 use Rattle.wc_store.specs.declared.store.Store.{Store}
 use Rattle.wc_store.specs.Stores.{InitLeaves}
 use Rattle.wc_plan.specs.declared.reply.Reply.{Reply}
-use Rattle.wc_store.specs.Held.{IsHeld}
 use Rattle.wc_act.specs.Crashes.{AreDurable}
 use Rattle.wc_plan.specs.Replies.{prints}
 use Rattle.wc_act.proofs.Doing.{has_begun, refused_init}
@@ -28,19 +27,18 @@ pub returns-in-Ok-clause-does : goal.returns-in-Ok-clause-does
 returns-in-Ok-clause-does g c =
     visit_as (visit g.D.Disk c.args.one.now c.args.two.now c.init.new.one c.init.new.two) (AreOfNew c.in-Ok._store) (Done (row (deed.Begin begin.Init)) c.print.result)
     (has_begun c.in-Ok._store c.print.result c.in-Ok.ensures.made.empty_yet (c.in-Ok.ensures.made.place, c.in-Ok.ensures.made.first.generation, c.in-Ok.ensures.made.first.version) (c.print.ensures ∙ ap prints c.in_ok-text.ensures))
-    (are_of_new g.D.Disk c.args.one.now c.args.two.now c.init.new.one c.init.new.two c.in-Ok._store c.in-Ok.ensures.nothing c.in-Ok.ensures.images c.in-Ok.ensures.ok c.init.ensures.seen_two)
+    (are_of_new g.D.Disk c.args.one.now c.args.two.now c.init.new.one c.init.new.two c.in-Ok._store c.in-Ok.ensures.images c.in-Ok.ensures.ok c.init.ensures.seen_two)
 
 pub returns-in-Err-clause-does : goal.returns-in-Err-clause-does
 returns-in-Err-clause-does g c =
-    refused_init g.D.Disk c.in-Err.error c.args.one.now c.args.two.now c.init.new.one c.init.new.two c.refused.result c.in-Err.ensures.refused c.in-Err.ensures.damage c.in-Err.ensures.there c.in-Err.ensures.kept
+    refused_init g.D.Disk c.in-Err.error c.args.one.now c.args.two.now c.init.new.one c.init.new.two c.refused.result c.in-Err.ensures.refused c.in-Err.ensures.kept
     c.init.ensures.seen_two c.refused.ensures.reply
 
 pub returns-in-Err-clause-durable : goal.returns-in-Err-clause-durable
 returns-in-Err-clause-durable g c =
     let one = c.args.one.now in
     let two = c.args.two.now in
-    init_undone (IsTrue (g.D.Disk.tells one) × IsTrue (g.D.Disk.tells two)) (IsHeld (g.D.Disk.seen one) (g.D.Disk.seen two))
-    (IsTrue (g.D.Disk.tells one) → IsTrue (g.D.Disk.tells two) → AreDurable g.D.Disk c.init.new.one c.init.new.two) c.in-Err.error c.refused.result c.in-Err.ensures.refused c.refused.ensures.reply
+    init_undone g.D.Disk one two (IsTrue (g.D.Disk.tells one) → IsTrue (g.D.Disk.tells two) → AreDurable g.D.Disk c.init.new.one c.init.new.two) c.in-Err.error c.refused.result c.in-Err.ensures.refused c.refused.ensures.reply
 
 pub returns-in-Err-clause-kept : goal.returns-in-Err-clause-kept
 returns-in-Err-clause-kept g c =

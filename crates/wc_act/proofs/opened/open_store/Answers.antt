@@ -1,5 +1,4 @@
-use Rattle.std.proofs.Common.{IsTrue, Option, subst}
-use Rattle.wc_store.specs.Held.{IsHeld}
+use Rattle.std.proofs.Common.{Option, subst}
 use Rattle.wc_store.specs.Sights.{OfImages}
 use Rattle.wc_store.specs.Stores.{IsLoadedOf}
 use Rattle.wc_store.specs.declared.store.Store.{Store}
@@ -8,8 +7,7 @@ use Rattle.wc_act.proofs.opened.open_store.Goals as goal
 
 pub returns-in_ok-refused-in-Err-clause-opens : goal.returns-in_ok-refused-in-Err-clause-opens
 returns-in_ok-refused-in-Err-clause-opens g c =
-    opened_refused g.D.Disk c.args.one.now c.args.two.now c.load.new.one c.load.new.two (IsTrue (g.D.Disk.tells c.args.one.now) × IsTrue (g.D.Disk.tells c.args.two.now))
-    (IsHeld (g.D.Disk.seen c.args.one.now) (g.D.Disk.seen c.args.two.now)) c.in-Err.error c.in_ok-refused-in-Err.field-0 c.in-Err.ensures.refused c.in-Err.ensures.damage
+    opened_refused g.D.Disk c.args.one.now c.args.two.now c.load.new.one c.load.new.two c.in-Err.error c.in_ok-refused-in-Err.field-0 c.in-Err.ensures.refused
     c.load.ensures.seen.0 c.load.ensures.seen.1 c.in_ok-refused-in-Err.ensures.reply
 
 pub returns-in_ok-refuse-in-Ok-None-clause-opens : goal.returns-in_ok-refuse-in-Ok-None-clause-opens

@@ -1,4 +1,4 @@
-use Rattle.std.proofs.Common.{◌≡◌, IsTrue, inl, refl, subst}
+use Rattle.std.proofs.Common.{◌≡◌, IsTrue, inl, inr, refl, subst}
 use Rattle.wc_cli.specs.Words.{command_of}
 use Rattle.wc_act.specs.Aborted.{ServesAborted}
 use Rattle.wc_act.specs.Counts.{status_of}
@@ -127,17 +127,17 @@ pub returns-in_err-act-in-On-clause-idle : goal.returns-in_err-act-in-On-clause-
 returns-in_err-act-in-On-clause-idle g c =
     λ none.
     let plans = subst (λ (p : Plan). Plans (g.R.Shelf.contents c.args.shelf.now) (command_of c.args.words.now) p) c.in-On.is c.in_ok-reply.ensures.plans in
-    c.in_err-act-in-On.ensures.idle (plan_idle (g.R.Shelf.contents c.args.shelf.now) (command_of c.args.words.now) (plan.On c.in-On.deed) plans none)
+    c.in_err-act-in-On.ensures.still (inl (plan_idle (g.R.Shelf.contents c.args.shelf.now) (command_of c.args.words.now) (plan.On c.in-On.deed) plans none))
 
 pub returns-in_err-act-in-On-clause-unbegun : goal.returns-in_err-act-in-On-clause-unbegun
 returns-in_err-act-in-On-clause-unbegun g c =
-    λ ends. c.in_err-act-in-On.ensures.unbegun (act_ends IsBeforeTurns c.from_residual-in_err-act-in-On.result c.in_err-act-in-On.field-0.0 c.from_residual-in_err-act-in-On.ensures ends)
+    λ ends. c.in_err-act-in-On.ensures.still (inr (act_ends IsBeforeTurns c.from_residual-in_err-act-in-On.result c.in_err-act-in-On.field-0.0 c.from_residual-in_err-act-in-On.ensures ends))
 
 pub returns-in_err-act-in-On-clause-asked : goal.returns-in_err-act-in-On-clause-asked
 returns-in_err-act-in-On-clause-asked g c =
     let plans = subst (λ (p : Plan). Plans (g.R.Shelf.contents c.args.shelf.now) (command_of c.args.words.now) p) c.in-On.is c.in_ok-reply.ensures.plans in
     asked_by g.T.Transport (g.R.Shelf.contents c.args.shelf.now) (command_of c.args.words.now) c.in-On.deed c.args.transport.now c.act.new.transport plans c.act.ensures.asked
-    (λ idle. (c.act.ensures.idle idle).0)
+    (λ idle. (c.act.ensures.still (inl idle)).0)
 
 pub returns-in_err-act-in-On-clause-broken : goal.returns-in_err-act-in-On-clause-broken
 returns-in_err-act-in-On-clause-broken g c =
@@ -188,13 +188,16 @@ pub returns-in_ok-act-in-On-clause-idle : goal.returns-in_ok-act-in-On-clause-id
 returns-in_ok-act-in-On-clause-idle g c =
     λ none.
     let plans = subst (λ (p : Plan). Plans (g.R.Shelf.contents c.args.shelf.now) (command_of c.args.words.now) p) c.in-On.is c.in_ok-reply.ensures.plans in
-    c.in_ok-act-in-On.ensures.idle (plan_idle (g.R.Shelf.contents c.args.shelf.now) (command_of c.args.words.now) (plan.On c.in-On.deed) plans none)
+    c.in_ok-act-in-On.ensures.still (inl (plan_idle (g.R.Shelf.contents c.args.shelf.now) (command_of c.args.words.now) (plan.On c.in-On.deed) plans none))
+
+pub returns-in_ok-act-in-On-clause-unbegun : goal.returns-in_ok-act-in-On-clause-unbegun
+returns-in_ok-act-in-On-clause-unbegun g c = λ ends. c.in_ok-act-in-On.ensures.still (inr ends)
 
 pub returns-in_ok-act-in-On-clause-asked : goal.returns-in_ok-act-in-On-clause-asked
 returns-in_ok-act-in-On-clause-asked g c =
     let plans = subst (λ (p : Plan). Plans (g.R.Shelf.contents c.args.shelf.now) (command_of c.args.words.now) p) c.in-On.is c.in_ok-reply.ensures.plans in
     asked_by g.T.Transport (g.R.Shelf.contents c.args.shelf.now) (command_of c.args.words.now) c.in-On.deed c.args.transport.now c.act.new.transport plans c.act.ensures.asked
-    (λ idle. (c.act.ensures.idle idle).0)
+    (λ idle. (c.act.ensures.still (inl idle)).0)
 
 pub returns-in_ok-act-in-On-clause-outside : goal.returns-in_ok-act-in-On-clause-outside
 returns-in_ok-act-in-On-clause-outside g c =

@@ -1,7 +1,7 @@
 use Rattle.std.proofs.Common.{◌≡◌, ◌∙◌, inr, refl, sym}
 use Rattle.wc_store.specs.Choices.{no_store, chosen}
 use Rattle.wc_store.specs.Stores.{IsMadeOf}
-use Rattle.wc_store.proofs.Opened.{images_as, opens_none, opens_some}
+use Rattle.wc_store.proofs.Opened.{images_as, opens_none}
 use Rattle.wc_store.proofs.Imaged.{images_made}
 use Rattle.wc_store.proofs.Made.{made, made_parts, none_opened, some_opened, second_counts}
 use Rattle.wc_store.proofs.store.Store.init.Goals as goal
@@ -15,10 +15,7 @@ returns-in-Ok-clause-made g c = record {
 }
 
 pub returns-then-is_some-clause-refused : goal.returns-then-is_some-clause-refused
-returns-then-is_some-clause-refused g c =
-    λ told.
-    opens_some g.D.Disk c.in_ok-open.field-0 c.open.new.one c.open.new.two _ _ c.in_ok-open.ensures.seen_one c.in_ok-open.ensures.seen_two (sym c.if-is_some.ensures)
-    (c.in_ok-open.ensures.ok told.0 told.1)
+returns-then-is_some-clause-refused g c = some_opened g.D.Disk c.args.one.now c.args.two.now c.in_ok-open.field-0 (sym c.if-is_some.ensures) c.in_ok-open.ensures.images
 
 pub returns-in-Ok-clause-ok : goal.returns-in-Ok-clause-ok
 returns-in-Ok-clause-ok g c =
@@ -47,7 +44,3 @@ returns-in-Ok-clause-images g c =
     let none = none_opened g.D.Disk c.args.one.now c.args.two.now c.in_ok-open.field-0 (sym c.if-is_some.ensures) c.in_ok-open.ensures.images in
     images_as g.D.Disk c.args.one.now c.args.two.now (λ a b. chosen a b ≡ no_store) (IsMadeOf _)
     (λ a b bare. images_made a b _ _ _ bare c.new.ensures.empty c.in-Ok.ensures.version c.in-Ok.ensures.generation c.in-Ok.ensures.end) none
-
-pub returns-then-is_some-clause-there : goal.returns-then-is_some-clause-there
-returns-then-is_some-clause-there g c =
-    λ there. some_opened g.D.Disk c.args.one.now c.args.two.now c.in_ok-open.field-0 (sym c.if-is_some.ensures) c.in_ok-open.ensures.images

@@ -1,3 +1,4 @@
+pub use Rattle.wc_core.specs as Core
 pub use Rattle.wc_core.specs.Next
 pub use Rattle.wc_core.specs.Standing
 pub use Rattle.wc_core.specs.Refusals as CoreRefusals

@@ -14,4 +14,7 @@ pub use laws::{
 };
 pub use runs::{RunEnd, run};
 pub use turns::{answer_for, changes_of, commit_changes, turn_one};
-pub use wc_core::{TurnError, kill_changes, pause_changes, play_changes, submit_changes};
+pub use wc_core::{
+    Next, Order, Standing, TurnError, kill_changes, next_turn, pause_changes, play_changes,
+    standing_of, submit_changes,
+};

@@ -112,7 +112,7 @@ module _ (limits : Limits) (worker now : ℕ) (p : Pool) (w : World) (l : Lease)
     held_stepped g whole old new one two one_new two_new same =
         weaker_step g (IsOrCommitted limits cs old) (IsOrHeldTurn limits worker now p w old.journal) whole old new one two one_new two_new
         (λ v journal h. ⊎_elim (λ as_before. inl (as_before.0 ∙ same, as_before.1))
-        (λ (is : IsCommitted limits cs old v journal). inr (record { lease = l; answer = a; had = had; turn = turn_committed (given a limits now) l.pid w cs prepared old same v journal is }))
+        (λ (is : IsCommitted limits cs old v journal). inr (record { lease = l; answer = a; had = had; valid = valid; turn = turn_committed (given a limits now) l.pid w cs prepared old same v journal is }))
         h.holds)
 
 -- ---- results

@@ -13,6 +13,7 @@ use Rattle.wc_world.proofs.ReachedLists.{found_node}
 use Rattle.wc_machine.specs.declared.answer.TaskAnswer.{TaskAnswer}
 use Rattle.wc_machine.specs.Machine.{Leads, turn}
 use Rattle.wc_machine.specs.Questions.{need}
+use Rattle.wc_machine.specs.Sound.{IsSound}
 use Rattle.wc_pool.specs.Fits.{FitsNeed, FitsWorld}
 use Rattle.wc_pool.specs.Laws.{TurnsLeaveOthers}
 use Rattle.wc_pool.specs.Pools.{HasClosed, HasTaken, KeepsEntries, Seats, entry_at, epoch_at, epoch_of, freed, is_current, lease_at, lease_for, lease_in, seat_at, why_given}
@@ -24,13 +25,17 @@ use Rattle.wc_pool.specs.declared.pool.Seat.{Seat}
 use Rattle.wc_pool.specs.declared.pool.Seat.TheVariants.{Free, Leased, Answered}
 use Rattle.wc_pool.specs.declared.pool.Worker.{Worker}
 use Rattle.wc_pool.proofs.Seated.{closed_fits, free_fits, kept_fits, taken_fits}
-use Rattle.wc_runner.specs.Outside.{Answers, AnswersNeed, in_turn}
+use Rattle.wc_runner.specs.Laws.{StaysSound}
+use Rattle.wc_runner.specs.Outside.{Answers, AnswersNeed, Outside, in_turn}
+use Rattle.wc_runner.proofs.Continuing.{continues_itself, continues_on}
+use Rattle.wc_runner.proofs.ManyTurns.{turn_sound}
 use Rattle.wc_runner.proofs.Needed.{needs_there}
 use Rattle.wc_runner.proofs.Taken.{what_it_needs}
 use Rattle.wc_workers.specs.Logs.{Commits, Happened, HoldsNone, IsEarlier, IsIn, LogsHold, Move, asks, asked_more, begins, commits, lost, moves_of, none, one_more, stepped}
 use Rattle.wc_workers.specs.Steps.{AsksFor, CommitsTurn, StepOf}
 use Rattle.wc_workers.specs.declared.steps.Done.{Done}
 use Rattle.wc_workers.specs.declared.steps.Done.TheVariants.{Took, Idle, Asked, Gave, Committed}
+use Rattle.wc_workers.proofs.Given.{answers_told}
 use Rattle.wc_workers.proofs.Held.{valid_is_current}
 
 -- ---- seats
@@ -76,25 +81,25 @@ closed_epoch p q worker pid t k = elim (cases_eq k pid) [
 -- ---- what a log keeps
 
 -- a committed lease is the last one of its process or an earlier one, and each worker that has the last one has a later one
-abbrev IsBelow : {T : Type 0} → Pool → Move T → Type 0
+abbrev pub IsBelow : {T : Type 0} → Pool → Move T → Type 0
 IsBelow q (asks worker m a now old new) = Unit {0}
 IsBelow q (commits worker m a now) = (m.epoch ≤ epoch_at q m.pid) × ((k : ℕ) (l : Lease) → lease_at q k ≡ Some l → l.pid ≡ m.pid → is_current q l ≡ true → m.epoch < l.epoch)
 
 module _ {T : Type 0} (h : transport.Ghosts T) (limits : Limits) (law : TurnsLeaveOthers) (w : World) where
   -- The answer was got under this lease, and the transport gave it to what the process needs, where the lease is its last one.
-  record Got (log : List (Move T)) (q : Pool) (v : World) (k : ℕ) (l : Lease) (a : TaskAnswer) : Type 0 where
-    moment : ℕ
-    old : T
-    new : T
-    asked : IsIn (asks k l a moment old new) log
-    answered : is_current q l ≡ true → Answers (in_turn h limits moment old new) v l.pid a
+  pub record Got (log : List (Move T)) (q : Pool) (v : World) (k : ℕ) (l : Lease) (a : TaskAnswer) : Type 0 where
+    pub moment : ℕ
+    pub old : T
+    pub new : T
+    pub asked : IsIn (asks k l a moment old new) log
+    pub answered : is_current q l ≡ true → Answers (in_turn h limits moment old new) v l.pid a
 
-  record Kept (log : List (Move T)) (q : Pool) (v : World) : Type 0 where
-    led : Commits h limits w log v
-    reached : IsReached v
-    fits : FitsWorld q v
-    got : (k : ℕ) (l : Lease) (a : TaskAnswer) → seat_at q k ≡ Answered l a → Got log q v k l a
-    below : AllByRecursion (IsBelow q) log
+  pub record Kept (log : List (Move T)) (q : Pool) (v : World) : Type 0 where
+    pub led : Commits h limits w log v
+    pub reached : IsReached v
+    pub fits : FitsWorld q v
+    pub got : (k : ℕ) (l : Lease) (a : TaskAnswer) → seat_at q k ≡ Answered l a → Got log q v k l a
+    pub below : AllByRecursion (IsBelow q) log
 
   -- where no lease is new and each process has had as many leases
   module _ (q r : Pool) (same : (pid : ℕ) → epoch_at r pid ≡ epoch_at q pid) (was : (k : ℕ) (l : Lease) → lease_at r k ≡ Some l → lease_at q k ≡ Some l) where
@@ -333,7 +338,7 @@ module _ {T : Type 0} (h : transport.Ghosts T) (limits : Limits) (law : TurnsLea
   same_world : (log : List (Move T)) (q : Pool) (u v : World) → v ≡ u → Kept log q u → Kept log q v
   same_world log q u v e k = subst (Kept log q) (sym e) k
 
-  step_keeps : (log : List (Move T)) (worker now : ℕ) (a b : T) (q r : Pool) (u v : World) (done : Done) (s : StepOf h limits worker now a b q r u v done) → Kept log q u
+  pub step_keeps : (log : List (Move T)) (worker now : ℕ) (a b : T) (q r : Pool) (u v : World) (done : Done) (s : StepOf h limits worker now a b q r u v done) → Kept log q u
       → Kept (moves_of h limits worker now a b q r u v done s ++ log) r v
   step_keeps log worker now a b q r u v (Took pid) s k = same_world log r u v s.2 (took_keeps log q r u worker pid now s.0.2 k)
   step_keeps log worker now a b q r u v Idle s k = same_world log r u v s.2 (free_keeps log q r u worker _ s.0.2.0 s.0.2.1 k)
@@ -341,20 +346,47 @@ module _ {T : Type 0} (h : transport.Ghosts T) (limits : Limits) (law : TurnsLea
   step_keeps log worker now a b q r u v (Gave pid why) s k = same_world log r u v s.2 (free_keeps log q r u worker _ s.0.left.0 s.0.left.1 k)
   step_keeps log worker now a b q r u v (Committed pid) s k = committed_keeps log q r u v worker pid now s.0 k
 
-  log_keeps : (t : T) (p : Pool) → IsReached w → FitsWorld p w → HoldsNone p → (log : List (Move T)) (b : T) (q : Pool) (v : World) → Happened h limits t p w log b q v → Kept log q v
-  log_keeps t p reached f holds log b q v begins = record {
+  pub kept_first : (p : Pool) → IsReached w → FitsWorld p w → HoldsNone p → Kept [] p w
+  kept_first p reached f holds = record {
     led = none;
     reached = reached;
     fits = f;
     got = λ k l a at. absurd (holds k l a at);
     below = tt;
   }
+
+  log_keeps : (t : T) (p : Pool) → IsReached w → FitsWorld p w → HoldsNone p → (log : List (Move T)) (b : T) (q : Pool) (v : World) → Happened h limits t p w log b q v → Kept log q v
+  log_keeps t p reached f holds log b q v begins = kept_first p reached f holds
   log_keeps t p reached f holds log b q v (stepped before worker now done a c x y u z so_far s) =
       step_keeps before worker now a c x y u z done s (log_keeps t p reached f holds before a x u so_far)
   log_keeps t p reached f holds log b q v (lost before worker a x y u so_far gone) =
       free_keeps before x y u worker _ gone.seats gone.entries (log_keeps t p reached f holds before a x u so_far)
 
+-- ---- soundness
+
+module _ {T : Type 0} (h : transport.Ghosts T) (limits : Limits) (w : World) (reached : IsReached w) (sound : IsSound w) where
+  -- what the transport gave at one moment, seen at another
+  abbrev later : (now : ℕ) (old new : T) → Outside
+  later now old new =
+      record { said = λ m. m ≡ now; gave = (in_turn h limits now old new).gave; brings = (in_turn h limits now old new).brings; failed = (in_turn h limits now old new).failed; limits = limits }
+
+  commits_sound : (log : List (Move T)) (v : World) → Commits h limits w log v → StaysSound w v
+  commits_sound log v none = record { sound = sound; continues = continues_itself w reached; reached = reached }
+  commits_sound log v (asked_more rest x worker l a now old new before) = commits_sound rest x before
+  commits_sound log v (one_more rest u x worker l a now before c) =
+      let first : StaysSound w u = commits_sound rest u before in
+      let o : Outside = later now c.old c.new in
+      let answered : Answers o u l.pid a = answers_told (in_turn h limits c.moment c.old c.new) o
+      (record { gave = λ dir t q reply given. given; brings = λ q result row. row; failed = λ rises. rises }) u l.pid a c.answered in
+      let last : StaysSound u x = turn_sound o l.pid u x first.reached first.sound (record {
+        changes = c.changes;
+        turn = record { moment = now; said = refl; answer = a; answered = answered; leads = c.leads };
+        accepted = c.accepted;
+        after = c.after;
+      }) in
+      record { sound = last.sound; continues = continues_on w u x first.continues last.continues; reached = last.reached }
+
 pub logs_hold : {T : Type 0} (h : transport.Ghosts T) (limits : Limits) → TurnsLeaveOthers → LogsHold h limits
 logs_hold h limits law log t b p q w v reached f holds happened =
     let k = log_keeps h limits law w t p reached f holds log b q v happened in
-    (k.led, k.fits)
+    (k.led, k.fits, λ sound. commits_sound h limits w reached sound log v k.led)

@@ -9,11 +9,13 @@ use Rattle.wc_world.specs.World.{World}
 use Rattle.wc_world.specs.declared.change.Change.{Change}
 use Rattle.wc_machine.specs.declared.answer.TaskAnswer.{TaskAnswer}
 use Rattle.wc_machine.specs.Machine.{Leads, turn}
+use Rattle.wc_machine.specs.Sound.{IsSound}
 use Rattle.wc_pool.specs.Fits.{FitsWorld}
 use Rattle.wc_pool.specs.Pools.{HasLost, seat_at}
 use Rattle.wc_pool.specs.declared.pool.Lease.{Lease}
 use Rattle.wc_pool.specs.declared.pool.Pool.{Pool}
 use Rattle.wc_pool.specs.declared.pool.Seat.TheVariants.{Answered}
+use Rattle.wc_runner.specs.Laws.{StaysSound}
 use Rattle.wc_runner.specs.Outside.{Answers, in_turn}
 use Rattle.wc_workers.specs.Steps.{StepOf}
 use Rattle.wc_workers.specs.declared.steps.Done.{Done}
@@ -81,7 +83,7 @@ module _ {T : Type 0} (h : transport.Ghosts T) (limits : Limits) where
         → CommitsAfter log u v worker l a now → Commits w (commits worker l a now ∷ log) v
 
   -- Where a log begins with a pool that fits a world that accepted changes make, and no worker has an answer, its worlds are those of the turns that
-  -- it commits, and the pool still fits.
+  -- it commits, and the pool still fits. A sound world stays sound, and what it held is continued.
   abbrev pub LogsHold : Type 0
   LogsHold = (log : List (Move T)) (t b : T) (p q : Pool) (w v : World) → IsReached w → FitsWorld p w → HoldsNone p → Happened t p w log b q v
-      → Commits w log v × FitsWorld q v
+      → Commits w log v × FitsWorld q v × (IsSound w → StaysSound w v)

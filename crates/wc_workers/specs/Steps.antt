@@ -117,11 +117,12 @@ RefusesHeld limits worker now p journal w DiskFault = RefusesCommitting limits w
 RefusesHeld limits worker now p journal w (Full what count limit) = RefusesCommitting limits worker now p journal w (Full what count limit)
 RefusesHeld limits worker now p journal w OutOfMemory = Unit {0}
 
--- The world and the journal are what the turn with the worker's answer makes of the world.
+-- The world and the journal are what the turn with the worker's answer makes of the world, under a lease that isn't given up.
 pub record IsHeldTurn (limits : Limits) (worker now : ℕ) (p : Pool) (w v : World) (journal : Journal) : Type 0 where
   pub lease : Lease
   pub answer : TaskAnswer
   pub had : seat_at p worker ≡ Answered lease answer
+  pub valid : why_given p w lease now ≡ None
   pub turn : IsTurnWithin (given answer limits now) lease.pid w v journal
 
 -- the world by a journal that ends where this one does, or what the turn with the worker's answer makes of it
@@ -130,13 +131,14 @@ IsOrHeldTurn limits worker now p w before v journal = ((v ≡ w) × (journal.end
 
 -- ---- what is asked
 
--- The worker has a lease and no answer, and the transport was asked for what its process needs.
-pub record AsksForIts {A T : Type 0} (h : transport.Ghosts T) (worker : ℕ) (p : Pool) (w : World) (result : Result A RunError) (old new : T) : Type 0 where
+-- The worker has a lease that isn't given up, and no answer, and the transport was asked for what its process needs.
+pub record AsksForIts {A T : Type 0} (h : transport.Ghosts T) (worker now : ℕ) (p : Pool) (w : World) (result : Result A RunError) (old new : T) : Type 0 where
   pub lease : Lease
   pub had : seat_at p worker ≡ Leased lease
+  pub valid : why_given p w lease now ≡ None
   pub asks : WhatItNeeds w lease.pid (AsksOnce result h.asked old new)
   pub stays : WhatItNeeds w lease.pid (λ n. IsAsked h lease.pid n old new)
 
 -- the transport is as it was, or was asked once for what the worker's process needs, or at most once where memory ran out
-abbrev pub AsksInStep : {A T : Type 0} → transport.Ghosts T → (worker : ℕ) → Pool → World → Result A RunError → (old new : T) → Type 0
-AsksInStep h worker p w result old new = (new ≡ old) ⊎ AsksForIts h worker p w result old new
+abbrev pub AsksInStep : {A T : Type 0} → transport.Ghosts T → (worker now : ℕ) → Pool → World → Result A RunError → (old new : T) → Type 0
+AsksInStep h worker now p w result old new = (new ≡ old) ⊎ AsksForIts h worker now p w result old new

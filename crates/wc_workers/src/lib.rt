@@ -4,9 +4,12 @@
 
 mod answers;
 mod laws;
+mod order;
+mod runs;
 mod steps;
 
-pub use laws::logs_hold;
+pub use laws::{logs_hold, workers_take_turns, works_are_logs};
+pub use runs::{run_by_workers, run_workers};
 pub use steps::{Done, step};
 pub use wc_pool::{Lease, Pool, Seat, Why};
-pub use wc_runner::RunError as WorkError;
+pub use wc_runner::{RunEnd, RunError as WorkError};

@@ -2,12 +2,12 @@
 
 ghost use Rattle.std.specs.Prelude.{◌≡◌, ◌<◌, ℕ, true, Some, None, IsTrue, IfOk, IfErr, OnOk, OnErr};
 ghost use Rattle.wc_state.specs.Ranges.{AreLimits};
-ghost use Rattle.wc_store.specs.Stepped.{IsAsBefore, Stepped};
+ghost use Rattle.wc_store.specs.Stepped.{IsAsBefore, LeavesHeld, Stepped, of_world};
 ghost use Rattle.wc_store.specs.Stores.{StandsFor};
 ghost use Rattle.wc_pool.specs.Fits.{FitsWorld};
 ghost use Rattle.wc_pool.specs.Pools.{IsSamePool, seat_at, workers_of, why_given};
 ghost use Rattle.wc_pool.specs.declared.pool.Seat.TheVariants.{Free, Leased, Answered};
-ghost use Rattle.wc_runner.specs.Asked.{AsksOnce, IsAsked, WhatItNeeds};
+ghost use Rattle.wc_runner.specs.Asked.{AreOfProcesses, AsksOnce, IsAsked, WhatItNeeds};
 ghost use Rattle.wc_state.specs.declared.record.Limits.{Limits as AnyLimits};
 ghost use Rattle.wc_workers.specs.declared.steps.Done.TheVariants.{Asked, Committed};
 ghost use Rattle.wc_runner.specs.declared.error.RunError.TheVariants.{OutOfMemory};
@@ -147,7 +147,7 @@ fn without_turn<T: Transport>(
     ensures fits { FitsWorld pool.old world.now.world → FitsWorld pool.new world.now.world }
     ensures kept { OnErr result (IsSamePool pool.old pool.new) }
     ensures memory { IfErr result (λ e. e ≡ OutOfMemory) }
-    ensures asks { AsksInStep T.Transport worker pool.old world.now.world result transport.old transport.new }
+    ensures asks { AsksInStep T.Transport worker now pool.old world.now.world result transport.old transport.new }
 {
     let lease = match pool.seat(worker) {
         Seat::Free => {
@@ -249,8 +249,13 @@ pub fn step<D: Disk, T: Transport>(
     ensures refused { IfErr result (RefusesHeld limits.now worker now pool.old store.old.journal store.old.world.world) }
     // Where it breaks off for want of memory or for fullness, both disks are as they were.
     ensures untouched { IsUnchanged result one.old one.new × IsUnchanged result two.old two.new }
-    // The transport is asked at most once, and only for a worker whose lease has no answer yet.
-    ensures asks { AsksInStep T.Transport worker pool.old store.old.world.world result transport.old transport.new }
+    // The transport is asked at most once, and only for a worker whose lease isn't given up and has no answer yet.
+    ensures asks { AsksInStep T.Transport worker now pool.old store.old.world.world result transport.old transport.new }
+    // Where each directory that is placed is the number of a process, so is each one after the step.
+    ensures processes { AreOfProcesses (T.placed transport.old) store.old.world.world → AreOfProcesses (T.placed transport.new) store.new.world.world }
+    // Then each moment's images hold each process whose directory is placed in the end.
+    ensures directories { AreOfProcesses (T.placed transport.old) store.old.world.world → IsTrue (D.tells one.old) → IsTrue (D.tells two.old)
+        → LeavesHeld D.Disk store.old.place (of_world (AreOfProcesses (T.placed transport.new))) one.old two.old one.new two.new }
 {
     match without_turn(alloc, pool, store.world(), transport, worker, now) {
         Ok(Some(done)) => Ok(done),

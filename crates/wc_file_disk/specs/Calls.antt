@@ -1,5 +1,5 @@
 -- The calls of the system on one file, each with its answer, read off the record of a file.
-use Rattle.std.specs.Prelude.{ℕ, Bool, true, false, List, [], ◌∷◌, ◌==◌, ◌+◌, length, min, max, slice_index, if◌then◌else◌}
+use Rattle.std.specs.Prelude.{ℕ, Bool, true, false, List, [], ◌∷◌, ◌==◌, ◌||◌, ◌+◌, length, min, max, slice_index, if◌then◌else◌}
 use Rattle.wc_io.specs.Events.{Event}
 
 -- A call that fails and can have changed nothing is none of these. A write that fails may have written a part.
@@ -87,6 +87,16 @@ is_flushed [] = false
 is_flushed (missing ∷ earlier) = true
 is_flushed (synced ∷ earlier) = true
 is_flushed (_ ∷ earlier) = false
+
+-- the last call found no file
+abbrev pub is_missing : List FileCall → Bool
+is_missing [] = false
+is_missing (missing ∷ earlier) = true
+is_missing (_ ∷ earlier) = false
+
+-- the file is open and was locked since, or the last call found none
+abbrev pub is_locked_or_missing : List FileCall → Bool
+is_locked_or_missing calls = is_held calls || is_missing calls
 
 -- a length that the file is known to have
 abbrev pub floor : List FileCall → ℕ

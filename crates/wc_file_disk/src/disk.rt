@@ -3,7 +3,7 @@
 ghost use Rattle.std.specs.Prelude.{◌≡◌, true, false, [], length, take, drop, is_ok, IfOk, OnOk, IsTrue};
 ghost use Rattle.wc_io.specs.Counts.{CountsFault};
 ghost use Rattle.wc_disk.specs.Steps.{overwritten};
-ghost use Rattle.wc_file_disk.specs.Calls.{is_flushed};
+ghost use Rattle.wc_file_disk.specs.Calls.{is_flushed, is_held, is_locked_or_missing};
 ghost use Rattle.wc_file_disk.specs.Holds.{Between, Keeps};
 
 use crate::held::HeldFile;
@@ -69,7 +69,7 @@ impl<R: Files<File = File> + Drop> Disk for FileDisk<R> {
     ghost use Rattle.std.proofs.lemmas.Bool.{false≢true};
     ghost use Rattle.wc_io.specs.Counts.{CountsFault};
     ghost use Rattle.wc_disk.specs.Steps.{overwritten};
-    ghost use Rattle.wc_file_disk.specs.Calls.{is_flushed};
+    ghost use Rattle.wc_file_disk.specs.Calls.{is_flushed, is_held, is_locked_or_missing};
     ghost use Rattle.wc_file_disk.specs.Holds.{Between, Keeps};
     ghost use Rattle.wc_file_disk.specs.Files.{calls, path_of};
 
@@ -100,6 +100,8 @@ impl<R: Files<File = File> + Drop> Disk for FileDisk<R> {
         ensures kept { Keeps (calls self.old) (calls self.new) }
         ensures path { path_of self.new ≡ path_of self.old }
         ensures cause { CountsFault result self.old.faults self.new.faults (IsTrue self.new.failed) }
+        // It is Ok only of a file that is open and locked, or that isn't there, so that a lock that was refused ends the call.
+        ensures locked { OnOk result (is_locked_or_missing (calls self.new) ≡ true) }
     {
         count_fault(self.file.len(), &mut self.faults, &mut self.failed)
     }
@@ -112,6 +114,8 @@ impl<R: Files<File = File> + Drop> Disk for FileDisk<R> {
         // The path stays.
         ensures path { path_of self.new ≡ path_of self.old }
         ensures cause { CountsFault result self.old.faults self.new.faults (IsTrue self.new.failed) }
+        // It is Ok only of a file that is open and locked, or that isn't there, so that a lock that was refused ends the call.
+        ensures locked { OnOk result (is_locked_or_missing (calls self.new) ≡ true) }
     {
         count_fault(self.file.read(at, into), &mut self.faults, &mut self.failed)
     }
@@ -122,6 +126,8 @@ impl<R: Files<File = File> + Drop> Disk for FileDisk<R> {
         // The path stays.
         ensures path { path_of self.new ≡ path_of self.old }
         ensures cause { CountsFault result self.old.faults self.new.faults (IsTrue self.new.failed) }
+        // It is Ok only of a file that is open and locked, so that a lock that was refused ends the call.
+        ensures locked { OnOk result (is_held (calls self.new) ≡ true) }
     {
         count_fault(
             self.file.write_at(at, bytes),
@@ -136,6 +142,8 @@ impl<R: Files<File = File> + Drop> Disk for FileDisk<R> {
         // The path stays.
         ensures path { path_of self.new ≡ path_of self.old }
         ensures cause { CountsFault result self.old.faults self.new.faults (IsTrue self.new.failed) }
+        // It is Ok only of a file that is open and locked, or that isn't there, so that a lock that was refused ends the call.
+        ensures locked { OnOk result (is_locked_or_missing (calls self.new) ≡ true) }
     {
         count_fault(self.file.cut(len), &mut self.faults, &mut self.failed)
     }
@@ -145,6 +153,8 @@ impl<R: Files<File = File> + Drop> Disk for FileDisk<R> {
         ensures kept { Keeps (calls self.old) (calls self.new) }
         ensures path { path_of self.new ≡ path_of self.old }
         ensures cause { CountsFault result self.old.faults self.new.faults (IsTrue self.new.failed) }
+        // It is Ok only of a file that is open and locked, or that isn't there, so that a lock that was refused ends the call.
+        ensures locked { OnOk result (is_locked_or_missing (calls self.new) ≡ true) }
     {
         count_fault(self.file.sync(), &mut self.faults, &mut self.failed)
     }

@@ -1,7 +1,7 @@
 //! A file of the system, opened once and held under its lock from then on.
 ghost use Rattle.std.specs.Prelude.{◌≡◌, ◌≤◌, ◌+◌, true, false, [], length, take, drop, max, min, IfOk, OnOk, OnErr, IsTrue};
 ghost use Rattle.wc_disk.specs.Steps.{overwritten};
-ghost use Rattle.wc_file_disk.specs.Calls.{calls_of, is_open, is_held as holds_lock, is_flushed, floor};
+ghost use Rattle.wc_file_disk.specs.Calls.{calls_of, is_open, is_held as holds_lock, is_missing, is_locked_or_missing, is_flushed, floor};
 ghost use Rattle.wc_file_disk.specs.Holds.{Between, Keeps};
 
 use crate::system::SystemFile;
@@ -53,6 +53,7 @@ fn open_existing<R: Files<File = File> + Drop>(file: &mut SystemFile<R>) -> io::
     ensures held { IfOk result (λ there. there ≡ holds_lock (calls_of file.new.log.events)) }
     ensures shut { OnErr result (holds_lock (calls_of file.new.log.events) ≡ false) }
     ensures flushed { IfOk result (λ there. there ≡ false → is_flushed (calls_of file.new.log.events) ≡ true) }
+    ensures missing { IfOk result (λ there. there ≡ false → is_missing (calls_of file.new.log.events) ≡ true) }
     ensures empty { IfOk result (λ there. there ≡ false → Between (calls_of file.old.log.events) (calls_of file.new.log.events) (λ before after. before ≡ [])) }
     ensures floor { floor (calls_of file.new.log.events) ≡ floor (calls_of file.old.log.events) }
     ensures kept { Keeps (calls_of file.old.log.events) (calls_of file.new.log.events) }
@@ -193,6 +194,7 @@ impl<R: Files<File = File> + Drop> HeldFile<R> {
         ensures floor { floor (calls_of self.new.file.log.events) ≡ floor (calls_of self.old.file.log.events) }
         ensures held { IfOk result (λ there. there ≡ self.new.is_held) }
         ensures flushed { IfOk result (λ there. there ≡ false → is_flushed (calls_of self.new.file.log.events) ≡ true) }
+        ensures missing { IfOk result (λ there. there ≡ false → is_missing (calls_of self.new.file.log.events) ≡ true) }
         ensures empty { IfOk result (λ there. there ≡ false → Between (calls_of self.old.file.log.events) (calls_of self.new.file.log.events) (λ before after. before ≡ [])) }
         ensures kept { Keeps (calls_of self.old.file.log.events) (calls_of self.new.file.log.events) }
     {
@@ -223,6 +225,8 @@ impl<R: Files<File = File> + Drop> HeldFile<R> {
         ensures known { IfOk result (λ n. self.new.is_held ≡ true → self.new.known ≡ n) }
         // What the file held stays, in each history that agrees with all answers.
         ensures kept { Keeps (calls_of self.old.file.log.events) (calls_of self.new.file.log.events) }
+        // It is Ok only of a file that is open and locked, or that isn't there.
+        ensures locked { OnOk result (is_locked_or_missing (calls_of self.new.file.log.events) ≡ true) }
     {
         if !self.open_once()? {
             return Ok(0);
@@ -241,6 +245,8 @@ impl<R: Files<File = File> + Drop> HeldFile<R> {
         ensures bytes { OnOk result (Between (calls_of self.old.file.log.events) (calls_of self.new.file.log.events) (λ before after. into.new ≡ take (length into.old) (drop at before))) }
         // What the file held stays, in each history that agrees with all answers.
         ensures kept { Keeps (calls_of self.old.file.log.events) (calls_of self.new.file.log.events) }
+        // It is Ok only of a file that is open and locked, or that isn't there.
+        ensures locked { OnOk result (is_locked_or_missing (calls_of self.new.file.log.events) ≡ true) }
     {
         if self.open_once()? {
             return read_all(&mut self.file, at, into);
@@ -292,6 +298,8 @@ impl<R: Files<File = File> + Drop> HeldFile<R> {
         ensures path { self.new.file.path ≡ self.old.file.path }
         // The file holds what it held, with these bytes written over it, in each such history.
         ensures written { OnOk result (Between (calls_of self.old.file.log.events) (calls_of self.new.file.log.events) (λ before after. after ≡ overwritten at bytes.now before)) }
+        // It is Ok only of a file that is open and locked.
+        ensures locked { OnOk result (holds_lock (calls_of self.new.file.log.events) ≡ true) }
     {
         self.open_for(at)?;
         self.reach(at)?;
@@ -306,6 +314,8 @@ impl<R: Files<File = File> + Drop> HeldFile<R> {
         ensures path { self.new.file.path ≡ self.old.file.path }
         // The file holds what it held, cut to this length, in each such history.
         ensures shorter { OnOk result (Between (calls_of self.old.file.log.events) (calls_of self.new.file.log.events) (λ before after. after ≡ take len before)) }
+        // It is Ok only of a file that is open and locked, or that isn't there.
+        ensures locked { OnOk result (is_locked_or_missing (calls_of self.new.file.log.events) ≡ true) }
     {
         let there = self.len()?;
         if len > there {
@@ -326,6 +336,8 @@ impl<R: Files<File = File> + Drop> HeldFile<R> {
         ensures flushed { OnOk result (is_flushed (calls_of self.new.file.log.events) ≡ true) }
         // What the file held stays, in each history that agrees with all answers.
         ensures kept { Keeps (calls_of self.old.file.log.events) (calls_of self.new.file.log.events) }
+        // It is Ok only of a file that is open and locked, or that isn't there.
+        ensures locked { OnOk result (is_locked_or_missing (calls_of self.new.file.log.events) ≡ true) }
     {
         if !self.open_once()? {
             return Ok(());

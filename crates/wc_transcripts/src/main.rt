@@ -1,31 +1,23 @@
-//! Plays the transcripts of its input, and tells of each how many answers were asked for, and what was found.
+//! Plays the transcripts of its input, and tells of each how many answers were asked for, and what was found. With the word `calls` before the
+//! words of a command it tells the calls of disks that the command makes.
 #![tactic(auto)]
 
+mod noted;
+mod status;
+mod teller;
+
+use status::status_code;
 use std::alloc::Global;
+use std::env;
 use std::io::{self, Read};
 use std::process::ExitCode;
-use wc_disk::{Disk, MemoryDisk};
-use wc_engine::serve;
-use wc_io::{MemoryShelf, Pacer, Shelf, Sink};
+use teller::tell_calls;
+use wc_disk::MemoryDisk;
+use wc_io::MemoryShelf;
 use wc_player::{
     Clock, Finding, Outside, Program, Report, Sipping, Transcript, Verdict, play, read_transcripts,
 };
-use wc_transport::Transport;
-use wc_value::Words;
-
-/// The code of the status of `serve`, whose clauses stay behind this call, so that what plays transcripts doesn't carry them.
-fn status_code<R: Shelf, W: Sink, D: Disk, T: Transport, P: Pacer>(
-    alloc: Global,
-    words: &Words,
-    shelf: &mut R,
-    sink: &mut W,
-    one: &mut D,
-    two: &mut D,
-    transport: &mut T,
-    pacer: &mut P,
-) -> u8 {
-    serve(alloc, words, shelf, sink, one, two, transport, pacer).code()
-}
+use wc_value::{List, Text, Words};
 
 /// The program.
 #[derive(Clone, Copy)]
@@ -111,7 +103,34 @@ fn play_text(rt: &HostRuntime, text: &str) -> io::Result<bool> {
     }
 }
 
+/// The words of the command line behind the program's name.
+fn words_of(rt: HostRuntime) -> io::Result<Words> {
+    let mut words: Words = List::new(rt.alloc());
+    for word in env::args(&rt)?.skip(1) {
+        words.push(Text::of_string(word)?)?;
+    }
+    Ok(words)
+}
+
+/// The words of a command, where `calls` stands before them.
+fn command_of(rt: HostRuntime) -> io::Result<Option<Words>> {
+    let words = words_of(rt)?;
+    match words.as_slice() {
+        [first, rest @ ..] if first.as_str() == "calls" => {
+            let mut command: Words = List::new(rt.alloc());
+            for word in rest {
+                command.push(Text::of_str(rt.alloc(), word.as_str())?)?;
+            }
+            Ok(Some(command))
+        }
+        _ => Ok(None),
+    }
+}
+
 fn main(rt: HostRuntime) -> io::Result<ExitCode> {
+    if let Some(command) = command_of(rt)? {
+        return Ok(ExitCode::from(tell_calls(rt, &command)));
+    }
     let text = input(&rt)?;
     if play_text(&rt, text.as_str())? {
         return Ok(ExitCode::SUCCESS);

@@ -12,3 +12,6 @@ pub mod Tables
 pub mod OneRefusal
 pub mod OneExport
 pub mod OneImport
+pub mod Marking
+pub mod Below
+pub mod Exporting

@@ -1,19 +1,17 @@
 -- An export has one answer at most.
-use Rattle.std.proofs.Common.{◌≡◌, ◌≢◌, ℕ, ◌<◌, true, false, List, Option, Some, None, ◌⊎◌, inl, inr, sym, ap, subst, ◌∙◌, arith}
+use Rattle.std.proofs.Common.{◌≡◌, ◌≢◌, ℕ, ◌<◌, true, false, Option, Some, None, ◌⊎◌, inl, inr, sym, ap, subst, ◌∙◌, arith}
 use Rattle.std.proofs.lemmas.Bool.{cases_order}
 use Rattle.wc_state.specs.declared.record.ProcessRecord.{ProcessRecord}
-use Rattle.wc_syntax.specs.declared.definition.Definition.{Definition}
 use Rattle.wc_world.specs.World.{World}
 use Rattle.wc_world.specs.Records.{find_record, has_ended, library_at}
 use Rattle.wc_world.proofs.FoundRecords.{found_holds}
-use Rattle.wc_verify.specs.Faults.{IsLeastDisagreement}
-use Rattle.wc_verify.proofs.Unique.{one_least_disagreement}
+use Rattle.wc_verify.specs.Faults.{IsLeastAmong}
+use Rattle.wc_verify.proofs.Unique.{one_least_among}
 use Rattle.wc_subworlds.proofs.Parts.{its_number}
 use Rattle.wc_archive_file.specs.declared.archive.Archive.{Archive}
 use Rattle.wc_archive_file.specs.declared.error.ArchiveError.{ArchiveError}
 use Rattle.wc_archive_file.specs.declared.error.ArchiveError.TheVariants as error
-use Rattle.wc_archive.specs.Alone.{alone}
-use Rattle.wc_archive.specs.Closure.{archive_of, is_at_or_below}
+use Rattle.wc_archive.specs.Closure.{archive_number, archive_of, closure, is_at_or_below}
 use Rattle.wc_archive.specs.Exports.{AllHaveEnded, Exports, IsLowestLive, RefusesExport}
 use Rattle.wc_archive.specs.Laws.{ExportsAreOne}
 
@@ -55,8 +53,8 @@ module _ (w : World) (root : ℕ) where
       ((e ≡ error.NotRoot root) × (r.depth ≢ 1))
       ⊎ ((r.depth ≡ 1) × ((pid : ℕ) × (e ≡ error.Live pid) × IsLowestLive w root pid))
       ⊎ ((r.depth ≡ 1) × AllHaveEnded w root
-      × ((library : List Definition) × (p : ℕ × ℕ) × (library_at w.libraries r.library ≡ Some library) × (e ≡ error.Disagrees p.0 p.1)
-      × IsLeastDisagreement (alone (archive_of w root library)) (Some p)))
+      × ((p : ℕ × ℕ) × (e ≡ error.Disagrees (archive_number (closure w root) p.0) (archive_number (closure w root) p.1))
+      × IsLeastAmong w (is_at_or_below w.links root) (Some p)))
 
   one_refusal : (r : ProcessRecord) (d e : ArchiveError) → Refuses r d → Refuses r e → d ≡ e
   one_refusal r d e (inl f) (inl g) = f.0 ∙ sym g.0
@@ -68,22 +66,14 @@ module _ (w : World) (root : ℕ) where
   one_refusal r d e (inr (inr f)) (inl g) = absurd (g.1 f.0)
   one_refusal r d e (inr (inr f)) (inr (inl g)) = absurd (live_or_over g.1.0 f.1 g.1.2)
   one_refusal r d e (inr (inr f)) (inr (inr g)) =
-      let library : f.2.0 ≡ g.2.0 = one_of (library_at w.libraries r.library) f.2.0 g.2.0 f.2.2 g.2.2 in
-      let same : Some f.2.1 ≡ Some g.2.1
-      = one_least_disagreement (alone (archive_of w root g.2.0)) (Some f.2.1) (Some g.2.1)
-      (subst (λ (l : List Definition). IsLeastDisagreement (alone (archive_of w root l)) (Some f.2.1)) library f.2.4) g.2.4 in
-      let p : f.2.1 ≡ g.2.1 = cc same in
-      f.2.3 ∙ (λ i. error.Disagrees (p i).0 (p i).1) ∙ sym g.2.3
+      let same : Some f.2.0 ≡ Some g.2.0 = one_least_among w (is_at_or_below w.links root) (Some f.2.0) (Some g.2.0) f.2.2 g.2.2 in
+      let p : f.2.0 ≡ g.2.0 = cc same in
+      f.2.1 ∙ (λ i. error.Disagrees (archive_number (closure w root) (p i).0) (archive_number (closure w root) (p i).1)) ∙ sym g.2.1
 
-  exported_or_refused : (r : ProcessRecord) (a : Archive) (e : ArchiveError) → r.depth ≡ 1 → AllHaveEnded w root
-      → ((library : List Definition) → library_at w.libraries r.library ≡ Some library → a ≡ archive_of w root library) → IsLeastDisagreement (alone a) None → Refuses r e → ⊥
-  exported_or_refused r a e one over is agrees (inl f) = f.1 one
-  exported_or_refused r a e one over is agrees (inr (inl f)) = live_or_over f.1.0 over f.1.2
-  exported_or_refused r a e one over is agrees (inr (inr f)) =
-      let same : a ≡ archive_of w root f.2.0 = is f.2.0 f.2.2 in
-      let no : None ≡ Some f.2.1
-      = one_least_disagreement (alone (archive_of w root f.2.0)) None (Some f.2.1) (subst (λ (x : Archive). IsLeastDisagreement (alone x) None) same agrees) f.2.4 in
-      absurd (cc no)
+  exported_or_refused : (r : ProcessRecord) (e : ArchiveError) → r.depth ≡ 1 → AllHaveEnded w root → IsLeastAmong w (is_at_or_below w.links root) None → Refuses r e → ⊥
+  exported_or_refused r e one over agrees (inl f) = f.1 one
+  exported_or_refused r e one over agrees (inr (inl f)) = live_or_over f.1.0 over f.1.2
+  exported_or_refused r e one over agrees (inr (inr f)) = agrees f.2.0.0 f.2.0.1 f.2.2.0
 
   refusals : (d e : ArchiveError) → RefusesExport w root d → RefusesExport w root e → d ≡ e
   refusals d e (inl f) (inl g) = f.0 ∙ sym g.0
@@ -101,8 +91,7 @@ module _ (w : World) (root : ℕ) where
   either : (a : Archive) (e : ArchiveError) → Exports w root a → RefusesExport w root e → ⊥
   either a e f (inl g) = none_of (find_record root w.records) f.process g.1 f.found
   either a e f (inr g) =
-      exported_or_refused f.process a e f.is_root f.ended
-      (λ library h. f.is_archive ∙ ap (archive_of w root) (one_of (library_at w.libraries f.process.library) f.library library f.is_library h)) f.agrees
+      exported_or_refused f.process e f.is_root f.ended f.agrees
       (subst (λ (r : ProcessRecord). Refuses r e) (one_of (find_record root w.records) g.0 f.process g.1 f.found) g.2)
 
 pub exports_are_one : ExportsAreOne

@@ -4,12 +4,11 @@ use Rattle.wc_state.specs.declared.record.ProcessRecord.{ProcessRecord}
 use Rattle.wc_syntax.specs.declared.definition.Definition.{Definition}
 use Rattle.wc_world.specs.World.{World}
 use Rattle.wc_world.specs.Records.{find_record, has_ended, library_at}
-use Rattle.wc_verify.specs.Faults.{IsLeastDisagreement}
+use Rattle.wc_verify.specs.Faults.{IsLeastAmong}
 use Rattle.wc_archive_file.specs.declared.archive.Archive.{Archive}
 use Rattle.wc_archive_file.specs.declared.error.ArchiveError.{ArchiveError}
 use Rattle.wc_archive_file.specs.declared.error.ArchiveError.TheVariants as error
-use Rattle.wc_archive.specs.Alone.{alone}
-use Rattle.wc_archive.specs.Closure.{archive_of, is_at_or_below}
+use Rattle.wc_archive.specs.Closure.{archive_number, archive_of, closure, is_at_or_below}
 
 -- the process is the root or below it, and hasn't ended
 abbrev pub IsLiveBelow : World → (root : ℕ) → ProcessRecord → Type 0
@@ -25,20 +24,20 @@ IsLowestLive w root pid =
     ((r : ProcessRecord) × (find_record pid w.records ≡ Some r) × IsLiveBelow w root r)
     × All (λ r. r.node < pid → is_at_or_below w.links root r.node ≡ true → has_ended r.state ≡ true) w.records
 
--- The process is there, is a root, and all that it called has ended; this is the archive of it, and no two jobs of it with equal requests have
--- different results.
+-- The process is there, is a root, and all that it called has ended; no two jobs at or below it with equal requests have different results;
+-- and this is the archive of it.
 pub record Exports (w : World) (root : ℕ) (a : Archive) : Type 0 where
   pub process : ProcessRecord
   pub found : find_record root w.records ≡ Some process
   pub is_root : process.depth ≡ 1
   pub ended : AllHaveEnded w root
+  pub agrees : IsLeastAmong w (is_at_or_below w.links root) None
   pub library : List Definition
   pub is_library : library_at w.libraries process.library ≡ Some library
   pub is_archive : a ≡ archive_of w root library
-  pub agrees : IsLeastDisagreement (alone a) None
 
 -- The export is refused so. The refusals come in this order: there is no such process; it is no root; it or one that it called, the lowest that
--- is named, hasn't ended; two jobs of its archive disagree, the least pair of which is named by the archive's numbers.
+-- is named, hasn't ended; two jobs at or below it disagree, the least pair of which is named by the archive's numbers.
 abbrev pub RefusesExport : World → ℕ → ArchiveError → Type 0
 RefusesExport w root e =
     ((e ≡ error.UnknownProcess root) × (find_record root w.records ≡ None))
@@ -46,5 +45,5 @@ RefusesExport w root e =
     × (((e ≡ error.NotRoot root) × (r.depth ≢ 1))
     ⊎ ((r.depth ≡ 1) × ((pid : ℕ) × (e ≡ error.Live pid) × IsLowestLive w root pid))
     ⊎ ((r.depth ≡ 1) × AllHaveEnded w root
-    × ((library : List Definition) × (p : ℕ × ℕ) × (library_at w.libraries r.library ≡ Some library) × (e ≡ error.Disagrees p.0 p.1)
-    × IsLeastDisagreement (alone (archive_of w root library)) (Some p)))))
+    × ((p : ℕ × ℕ) × (e ≡ error.Disagrees (archive_number (closure w root) p.0) (archive_number (closure w root) p.1))
+    × IsLeastAmong w (is_at_or_below w.links root) (Some p)))))

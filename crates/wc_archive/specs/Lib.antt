@@ -3,6 +3,7 @@ pub mod Alone
 pub mod Good
 pub mod Judged
 pub mod Exports
+pub mod Marks
 pub mod After
 pub mod Laws
 pub mod SmallWorlds

@@ -4,8 +4,12 @@
 //! world to another, in one batch.
 #![tactic(auto)]
 
+mod archived;
+mod exported;
 mod laws;
+mod marks;
 
+pub use exported::export_text;
 pub use laws::{
     archives_are_parts_of_imports, archives_are_these_worlds, exports_are_one,
     good_archives_are_consistent, imports_are_accepted, imports_are_one, imports_keep_sound,
